@@ -1,0 +1,111 @@
+-- The laws of fromBE, toBE, slice and overwrite, each proved once for any width.
+use mathlib.Core.Path.{_≡_, refl, sym, ap, _∙_}
+use mathlib.Core.List.{List, [], _∷_, _++_}
+use Prim.Native.Nat.{ℕ, zero, suc, _+_, _*_, _/_, _%_, _^_, _<_, _≤_}
+use native.Mathlib.Nat.{pow-succ', pow-zero, one-le-pow, mod-lt, mod-eq-of-lt, add-assoc, add-mul, mul-assoc, mul-comm, mod-one, div-one, mul-add-div-right, zero-add, add-zero}
+use native.Mathlib.Numerals.{add-one, add-two, towards-suc}
+use native.Mathlib.Omega.{arith}
+use lib.Arith.{digits-lt, digits-div, digits-mod, mod-mul}
+use lib.Pow.{pow-add}
+use lib.ListN.{length, getD, take, drop, set, length-append, length-take, length-drop}
+use lib.Seq.{drop-cons, sets, sets-eq}
+use Rattle.bigendian.specs.BigEndian.{fromBE, toBE, slice, overwrite, Bytes}
+
+pub pow256-pos : (n : ℕ) → 0 < 256 ^ n
+pow256-pos n = one-le-pow n 256 (omega arith)
+
+pub be-lt : (s : List ℕ) → Bytes s → fromBE s < 256 ^ length s
+unfolding fromBE
+be-lt [] h = omega arith
+be-lt (x ∷ xs) h = rw pow-succ' (digits-lt (h 0) (be-lt xs (λ i. h (suc i))))
+
+pub be-append : (a b : List ℕ) → fromBE (a ++ b) ≡ fromBE a * 256 ^ length b + fromBE b
+unfolding fromBE
+be-append [] b = omega arith
+be-append (x ∷ xs) b =
+    rw (be-append xs b, length-append xs b, pow-add)
+    (simp (add-mul, add-assoc, mul-assoc))
+
+pub length-toBE : (n v : ℕ) → length (toBE n v) ≡ n
+unfolding toBE
+length-toBE zero v = refl
+length-toBE (suc n) v = ap suc (length-toBE n v)
+
+pub bytes-toBE : (n v : ℕ) → Bytes (toBE n v)
+unfolding toBE
+bytes-toBE zero v i = omega arith
+bytes-toBE (suc n) v zero = mod-lt (v / 256 ^ n) (omega arith)
+bytes-toBE (suc n) v (suc i) = bytes-toBE n v i
+
+pub be-toBE-mod : (n v : ℕ) → fromBE (toBE n v) ≡ v % 256 ^ n
+unfolding fromBE toBE
+be-toBE-mod zero v = sym (mod-one v)
+be-toBE-mod (suc n) v = rw (length-toBE n v, be-toBE-mod n v, pow-succ') (sym (mod-mul v (omega arith) (pow256-pos n)))
+
+pub be-toBE : (n v : ℕ) → v < 256 ^ n → fromBE (toBE n v) ≡ v
+be-toBE n v h = be-toBE-mod n v ∙ mod-eq-of-lt h
+
+-- toBE n looks at the low n bytes alone
+pub toBE-low : (n k v : ℕ) → toBE n (k * 256 ^ n + v) ≡ toBE n v
+unfolding toBE
+toBE-low zero k v = refl
+toBE-low (suc n) k v =
+    rw (pow-succ', ← mul-assoc k 256 (256 ^ n), mul-add-div-right (pow256-pos n) (k * 256) v, toBE-low n (k * 256) v)
+    (ap (λ (d : ℕ). d ∷ toBE n v) (omega arith))
+
+pub toBE-be : (s : List ℕ) → Bytes s → toBE (length s) (fromBE s) ≡ s
+unfolding fromBE toBE
+toBE-be [] h = refl
+toBE-be (x ∷ xs) h =
+    let t : Bytes xs = λ i. h (suc i) in
+    rw (digits-div x (be-lt xs t), toBE-low (length xs) x (fromBE xs), toBE-be xs t, mod-eq-of-lt (h 0))
+
+-- one element more in front of a part, at the code's at + 1
+pub cut-cons : (s : List ℕ) (at n : ℕ) → at < length s → slice s at (suc n) ≡ getD s at 0 ∷ slice s (at + 1) n
+cut-cons s at n h = rw (add-one, drop-cons s at 0)
+
+pub cut2 : (s : List ℕ) (at : ℕ) → at + 2 ≤ length s → slice s at 2 ≡ getD s at 0 ∷ getD s (at + 1) 0 ∷ []
+cut2 s at h =
+    let h₀ : at < length s = omega arith in
+    let h₁ : suc at < length s = omega arith in
+    rw (add-one, drop-cons s at 0, drop-cons s (suc at) 0)
+
+pub cut4 : (s : List ℕ) (at : ℕ) → at + 4 ≤ length s → slice s at 4 ≡ getD s at 0 ∷ getD s (at + 1) 0 ∷ getD s (at + 2) 0 ∷ getD s (at + 3) 0 ∷ []
+cut4 s at h =
+    let h₀ : at < length s = omega arith in
+    let h₁ : suc at < length s = omega arith in
+    let h₂ : suc (suc at) < length s = omega arith in
+    let h₃ : suc (suc (suc at)) < length s = omega arith in
+    simp towards-suc (rw (drop-cons s at 0, drop-cons s (suc at) 0, drop-cons s (suc (suc at)) 0, drop-cons s (suc (suc (suc at))) 0))
+
+pub be2-at : (s : List ℕ) (at : ℕ) → at + 2 ≤ length s → fromBE (slice s at 2) ≡ getD s at 0 * 256 + getD s (at + 1) 0
+unfolding fromBE
+be2-at s at h = rw (cut2 s at) (omega arith)
+
+pub be2-of : (s : List ℕ) (at a b : ℕ) → at + 2 ≤ length s → a ≡ getD s at 0 → b ≡ getD s (at + 1) 0 → a * 256 + b ≡ fromBE (slice s at 2)
+be2-of s at a b h ea eb = omega (arith, be2-at s at h)
+
+pub be4-at : (s : List ℕ) (at : ℕ) → at + 4 ≤ length s
+    → fromBE (slice s at 4) ≡ getD s at 0 * 16777216 + getD s (at + 1) 0 * 65536 + getD s (at + 2) 0 * 256 + getD s (at + 3) 0
+unfolding fromBE
+be4-at s at h = rw (cut4 s at) (omega arith)
+
+pub be4-of : (s : List ℕ) (at a b c d : ℕ) → at + 4 ≤ length s
+    → a ≡ getD s at 0 → b ≡ getD s (at + 1) 0 → c ≡ getD s (at + 2) 0 → d ≡ getD s (at + 3) 0
+    → a * 16777216 + b * 65536 + c * 256 + d ≡ fromBE (slice s at 4)
+be4-of s at a b c d h ea eb ec ed = omega (arith, be4-at s at h)
+
+pub put2-law : (s : List ℕ) (at v : ℕ) → at + 2 ≤ length s
+    → set (set s at (v / 256 % 256)) (at + 1) (v % 256) ≡ overwrite s at (toBE 2 v)
+unfolding toBE
+put2-law s at v h =
+    let e = sets-eq (v / 256 % 256 ∷ v / 1 % 256 ∷ []) s at h in
+    simp (add-one, add-two, div-one) (simp (add-one, add-two, div-one) at e)
+
+pub put4-law : (s : List ℕ) (at v : ℕ) → at + 4 ≤ length s
+    → set (set (set (set s at (v / 16777216 % 256)) (at + 1) (v / 65536 % 256)) (at + 2) (v / 256 % 256)) (at + 3) (v % 256)
+    ≡ overwrite s at (toBE 4 v)
+unfolding toBE
+put4-law s at v h =
+    let e = sets-eq (toBE 4 v) s at h in
+    simp (towards-suc, div-one) (simp (towards-suc, div-one) at e)

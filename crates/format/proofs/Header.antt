@@ -1,0 +1,44 @@
+-- What the test of a header says.
+use mathlib.Core.Path.{_≡_, refl}
+use mathlib.Core.List.{List}
+use mathlib.Core.Bool.{true, _&&_}
+use Prim.Native.Nat.{ℕ, _+_, _*_, _%_, _≤_}
+use lib.Dec.{eqb, leb}
+use borrow.Author.Tests.{leb-true, eqb-true}
+use lib.ListN.{length, getD}
+use Rattle.format.proofs.Bool.{and-left, and-right}
+pub use Rattle.format.specs.Steps.{Fields}
+use Rattle.format.specs.WellFormed.{headerOk, lengthField, firstField, mastersField, chainField}
+
+pub header-facts : (s : List ℕ) → headerOk s ≡ true → Fields s (lengthField s) (firstField s) (mastersField s) (chainField s)
+unfolding headerOk
+header-facts s h =
+    let t₀ = eqb (getD s 14 0) 0 in
+    let t₁ = t₀ && eqb (getD s 15 0) 0 in
+    let t₂ = t₁ && eqb (lengthField s % 4) 0 in
+    let t₃ = t₂ && leb (lengthField s) (length s) in
+    let t₄ = t₃ && leb (lengthField s) 1048576 in
+    let t₅ = t₄ && leb (mastersField s) 8188 in
+    let t₆ = t₅ && eqb (firstField s) (16 + 4 * mastersField s) in
+    let h₇ = and-right (leb 16 (length s)) _ h in
+    let h₆ = and-left t₆ _ h₇ in
+    let h₅ = and-left t₅ _ h₆ in
+    let h₄ = and-left t₄ _ h₅ in
+    let h₃ = and-left t₃ _ h₄ in
+    let h₂ = and-left t₂ _ h₃ in
+    let h₁ = and-left t₁ _ h₂ in
+    record {
+      is-len = refl;
+      is-first = refl;
+      is-masters = refl;
+      is-chain = refl;
+      long = leb-true 16 (length s) (and-left _ _ h);
+      zero14 = eqb-true (getD s 14 0) 0 (and-left t₀ _ h₁);
+      zero15 = eqb-true (getD s 15 0) 0 (and-right t₀ _ h₁);
+      four = eqb-true (lengthField s % 4) 0 (and-right t₁ _ h₂);
+      room = leb-true (lengthField s) (length s) (and-right t₂ _ h₃);
+      limit = leb-true (lengthField s) 1048576 (and-right t₃ _ h₄);
+      few = leb-true (mastersField s) 8188 (and-right t₄ _ h₅);
+      start = eqb-true (firstField s) (16 + 4 * mastersField s) (and-right t₅ _ h₆);
+      within = leb-true (firstField s) (lengthField s) (and-right t₆ _ h₇);
+    }

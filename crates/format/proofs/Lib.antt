@@ -1,0 +1,6 @@
+pub mod Bool
+pub mod Count
+pub mod Header
+pub mod Live
+pub mod Masters
+pub mod Walk

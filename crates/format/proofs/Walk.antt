@@ -1,0 +1,149 @@
+-- The recursion of splitBlocks, as equations at an offset: what a loop from block to block needs.
+use mathlib.Core.Path.{_≡_, refl, sym, ap, _∙_}
+use mathlib.Core.List.{List, [], _∷_, _++_}
+use mathlib.Core.Bool.{Bool, true, false, cond, not, _&&_}
+use Prim.Native.Nat.{ℕ, zero, suc, _+_, _*_, _-_, _/_, _%_, _<_, _≤_, min}
+use native.Mathlib.Nat.{sub-zero, zero-sub, suc-sub-suc, add-zero, zero-add}
+use native.Mathlib.Numerals.{add-one, sub-one}
+use native.Mathlib.Omega.{arith}
+use lib.Dec.{eqb, leb}
+use borrow.Author.Tests.{eq-eqb, ne-eqb, leb-true, eqb-true, le-leb, lt-leb}
+use lib.ListN.{length, getD, take, drop, length-take, length-drop, drop-of-length-le}
+use lib.Seq.{take-take, getD-take, getD-drop, drop-drop, take-nil}
+use Rattle.bigendian.specs.BigEndian.{fromBE, slice}
+use Rattle.memory.specs.Zeros.{allZero}
+use Rattle.format.proofs.Bool.{and-left, and-right, is-false}
+pub use Rattle.format.specs.Steps.{Turn}
+use Rattle.format.specs.WellFormed.{typeOf, sizeOf, handleOf, isFree, isReloc, splitFrom, splitBlocks, isMaster, masterAt, links, typeRule, freeRule, relocRule, blockOk, blocksOk, relocs, bodyOk}
+
+from-drop : (k : ℕ) (s : List ℕ) → splitFrom k s ≡ splitBlocks (drop k s)
+unfolding splitFrom
+from-drop zero s = refl
+from-drop (suc k) [] = refl
+from-drop (suc k) (x ∷ xs) = from-drop k xs
+
+drop-pred : (n x : ℕ) (xs : List ℕ) → 0 < n → drop n (x ∷ xs) ≡ drop (n - 1) xs
+drop-pred zero x xs h = let e : ⊥ = omega arith in absurd e
+drop-pred (suc n) x xs h = rw sub-one
+
+pub blocks-nil : splitBlocks [] ≡ []
+unfolding splitFrom
+blocks-nil = refl
+
+pub blocks-cons : (r : List ℕ) → 0 < length r → 0 < sizeOf r → splitBlocks r ≡ take (sizeOf r) r ∷ splitBlocks (drop (sizeOf r) r)
+unfolding splitFrom
+blocks-cons [] h k = let e : ⊥ = omega arith in absurd e
+blocks-cons (x ∷ xs) h k =
+    ap (λ (t : List (List ℕ)). take (sizeOf (x ∷ xs)) (x ∷ xs) ∷ t)
+    (from-drop (sizeOf (x ∷ xs) - 1) xs ∙ ap (λ (t : List ℕ). splitBlocks t) (sym (drop-pred (sizeOf (x ∷ xs)) x xs k)))
+
+pub drop-take : (k n : ℕ) (l : List ℕ) → drop k (take n l) ≡ take (n - k) (drop k l)
+drop-take zero n l = rw sub-zero
+drop-take (suc k) zero l = rw (zero-sub)
+drop-take (suc k) (suc n) [] = sym (take-nil (suc n - suc k))
+drop-take (suc k) (suc n) (x ∷ xs) = rw suc-sub-suc (drop-take k n xs)
+
+-- what a block's header says is the same of the block alone and of the block with what follows
+module _ (n : ℕ) (r : List ℕ) (h : 4 ≤ n) where
+  pub kind-take : typeOf (take n r) ≡ typeOf r
+  unfolding typeOf
+  kind-take = rw (getD-take n r 0 0 (omega arith))
+
+  pub size-take : sizeOf (take n r) ≡ sizeOf r
+  unfolding sizeOf
+  size-take = rw (kind-take, take-take 4 n r h, take-take 2 n r (omega arith))
+
+  pub handle-take : handleOf (take n r) ≡ handleOf r
+  unfolding handleOf
+  handle-take = rw (drop-take 2 n r, take-take 2 (n - 2) (drop 2 r) (omega arith))
+
+  pub free-take : isFree (take n r) ≡ isFree r
+  unfolding isFree
+  free-take = rw kind-take
+
+  pub reloc-take : isReloc (take n r) ≡ isReloc r
+  unfolding isReloc
+  reloc-take = rw kind-take
+
+-- what the test of a block says
+pub record Good (z : List ℕ) (first : ℕ) (prev : Bool) (at : ℕ) (b : List ℕ) : Type 0 where
+  pub low : 4 ≤ sizeOf b
+  pub four : sizeOf b % 4 ≡ 0
+  pub whole : sizeOf b ≡ length b
+  pub rule : typeRule (typeOf b) (freeRule prev b) (relocRule z first at (handleOf b)) ≡ true
+
+module _ (z : List ℕ) (first : ℕ) (prev : Bool) (at : ℕ) where
+  pub is-good : (b : List ℕ) → blockOk z first prev at b ≡ true → Good z first prev at b
+  unfolding blockOk
+  is-good b h =
+      let h₁ = and-right (leb 4 (sizeOf b)) _ h in
+      let h₂ = and-right (eqb (sizeOf b % 4) 0) _ h₁ in
+      record {
+        low = leb-true 4 (sizeOf b) (and-left _ _ h);
+        four = eqb-true (sizeOf b % 4) 0 (and-left _ _ h₁);
+        whole = eqb-true (sizeOf b) (length b) (and-left _ _ h₂);
+        rule = and-right (eqb (sizeOf b) (length b)) _ h₂;
+      }
+
+  -- the test of the first block of a list, by what its header says
+  pub record First (r : List ℕ) : Type 0 where
+    pub low : 4 ≤ sizeOf r
+    pub four : sizeOf r % 4 ≡ 0
+    pub fits : sizeOf r ≤ length r
+
+  pub is-first : (r : List ℕ) → blockOk z first prev at (take (sizeOf r) r) ≡ true → First r
+  is-first r h =
+      let g = is-good (take (sizeOf r) r) h in
+      let l = length-take (sizeOf r) r in
+      let n4 : 4 ≤ sizeOf r = omega arith in
+      let e = size-take (sizeOf r) r n4 in
+      record { low = n4; four = (rw e at (g .four)); fits = omega arith }
+
+  pub first-rule : (r : List ℕ) → 4 ≤ sizeOf r → sizeOf r % 4 ≡ 0 → sizeOf r ≤ length r
+      → blockOk z first prev at (take (sizeOf r) r) ≡ typeRule (typeOf r) (freeRule prev (take (sizeOf r) r)) (relocRule z first at (handleOf r))
+  unfolding blockOk
+  first-rule r h f l =
+      rw (
+        size-take (sizeOf r) r h,
+        kind-take (sizeOf r) r h,
+        handle-take (sizeOf r) r h,
+        le-leb 4 (sizeOf r) h,
+        eq-eqb (sizeOf r % 4) 0 f,
+        eq-eqb (sizeOf r) (length (take (sizeOf r) r)) (omega (arith, length-take (sizeOf r) r)),
+      )
+
+pub turn : (z : List ℕ) (first : ℕ) (prev : Bool) (at n : ℕ) → at + 4 ≤ length z
+    → blockOk z first prev at (take (sizeOf (drop at z)) (drop at z)) ≡ true → n ≡ sizeOf (drop at z) → Turn z first prev at n
+unfolding blocksOk relocs
+turn z first prev at n h g e =
+    let r = drop at z in
+    let f = is-first z first prev at r g in
+    let l = length-drop at z in
+    let ln : length (take (sizeOf r) r) ≡ sizeOf r = omega (arith, length-take (sizeOf r) r) in
+    let b = blocks-cons r (omega arith) (omega arith) in
+    let d = drop-drop (sizeOf r) at z in
+    record {
+      low = omega arith;
+      four = rw e (f .four);
+      fits = omega arith;
+      walk = rw (b, g, ln, free-take (sizeOf r) r (f .low), e, d);
+      count = rw (b, reloc-take (sizeOf r) r (f .low), e, d);
+    }
+
+-- a block that breaks a rule
+pub stop : (z : List ℕ) (first : ℕ) (prev : Bool) (at : ℕ) → at < length z
+    → blockOk z first prev at (take (sizeOf (drop at z)) (drop at z)) ≡ false → blocksOk z first prev at (splitBlocks (drop at z)) ≡ false
+unfolding blocksOk splitFrom
+stop z first prev at h g = go (drop at z) (omega (arith, length-drop at z)) g
+  where
+    go : (r : List ℕ) → 0 < length r → blockOk z first prev at (take (sizeOf r) r) ≡ false → blocksOk z first prev at (splitBlocks r) ≡ false
+    go [] l q = let e : ⊥ = omega arith in absurd e
+    go (x ∷ xs) l q = rw q
+
+pub end : (z : List ℕ) (first : ℕ) (prev : Bool) (at : ℕ) → length z ≤ at → blocksOk z first prev at (splitBlocks (drop at z)) ≡ true
+unfolding blocksOk
+end z first prev at h = rw (drop-of-length-le z h, blocks-nil)
+
+pub end-count : (z : List ℕ) (at : ℕ) → length z ≤ at → relocs (splitBlocks (drop at z)) ≡ 0
+unfolding relocs
+end-count z at h = rw (drop-of-length-le z h, blocks-nil)

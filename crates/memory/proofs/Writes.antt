@@ -1,0 +1,81 @@
+-- The laws of the loops over bytes: each loop's invariant says that the specification, applied to what is there now
+-- and what is left, gives what it gave at the start.
+use mathlib.Core.Path.{_≡_, refl, sym, ap, _∙_}
+use mathlib.Core.List.{List, [], _∷_, _++_, append-nil, append-assoc}
+use mathlib.Core.Bool.{Bool, true, false, _&&_}
+use Prim.Native.Nat.{ℕ, zero, suc, _+_, _*_, _-_, _<_, _≤_}
+use native.Mathlib.Nat.{sub-self, add-zero, zero-add, suc-add}
+use native.Mathlib.Numerals.{add-one}
+use native.Mathlib.Omega.{arith}
+use lib.Dec.{eqb}
+use borrow.Author.Tests.{eq-eqb, ne-eqb}
+use lib.ListN.{length, getD, take, drop, set, replicate, length-set, length-append, length-take, length-drop, take-append-drop}
+use lib.Seq.{drop-cons, set-split, take-suc-set, drop-set-lt, append-snoc}
+use Rattle.bigendian.specs.BigEndian.{slice, overwrite, Bytes}
+use Rattle.memory.specs.Zeros.{allZero}
+
+pub cut-step : (s : List ℕ) (i to : ℕ) → i < to → to ≤ length s → slice s i (to - i) ≡ getD s i 0 ∷ slice s (i + 1) (to - (i + 1))
+cut-step s i to h k =
+    let e : to - i ≡ suc (to - (i + 1)) = omega arith in
+    let h′ : i < length s = omega arith in
+    rw (e, drop-cons s i 0, add-one)
+
+pub zero-step : (s : List ℕ) (i to : ℕ) (clean whole : Bool) → i < to → to ≤ length s
+    → clean && allZero (slice s i (to - i)) ≡ whole → clean && eqb (getD s i 0) 0 && allZero (slice s (i + 1) (to - (i + 1))) ≡ whole
+unfolding allZero
+zero-step s i to clean whole h k inv = and-assoc clean (eqb (getD s i 0) 0) (allZero (slice s (i + 1) (to - (i + 1)))) ∙ (rw (cut-step s i to h k) at inv)
+  where
+    and-assoc : (a b c : Bool) → a && b && c ≡ a && (b && c)
+    and-assoc true b c = refl
+    and-assoc false b c = refl
+
+pub zero-done : (s : List ℕ) (i to : ℕ) (clean whole : Bool) → to ≤ i → clean && allZero (slice s i (to - i)) ≡ whole → clean ≡ whole
+unfolding allZero
+zero-done s i to clean whole h inv =
+    let e : to - i ≡ 0 = omega arith in
+    sym (and-true clean) ∙ (rw e at inv)
+  where
+    and-true : (a : Bool) → a && true ≡ a
+    and-true true = refl
+    and-true false = refl
+
+-- ---- writes
+
+pub write-step : (s : List ℕ) (i x : ℕ) (l : List ℕ) → i < length s → overwrite (set s i x) (i + 1) l ≡ overwrite s i (x ∷ l)
+write-step s i x l h =
+    let e : i + 1 + length l ≡ i + suc (length l) = omega arith in
+    let k : i < i + suc (length l) = omega arith in
+    rw (e, drop-set-lt, add-one, take-suc-set s i x h, append-snoc)
+
+pub write-none : (s : List ℕ) (i : ℕ) → overwrite s i [] ≡ s
+write-none s i = rw (add-zero, append-nil, take-append-drop)
+
+-- every element of l, one by one: the list that is left to overwrite is written behind the one that has been
+pub fill-step : (s w : List ℕ) (i to : ℕ) → i < to → to ≤ length s
+    → overwrite s i (replicate (to - i) 0) ≡ w → overwrite (set s i 0) (i + 1) (replicate (to - (i + 1)) 0) ≡ w
+fill-step s w i to h k inv =
+    let e : to - i ≡ suc (to - (i + 1)) = omega arith in
+    let k′ : i < length s = omega arith in
+    write-step s i 0 (replicate (to - (i + 1)) 0) k′ ∙ (rw e at inv)
+
+pub fill-done : (s w : List ℕ) (i to : ℕ) → to ≤ i → overwrite s i (replicate (to - i) 0) ≡ w → s ≡ w
+fill-done s w i to h inv =
+    let e : to - i ≡ 0 = omega arith in
+    sym (write-none s i) ∙ (rw e at inv)
+
+pub slide-step : (s w : List ℕ) (dst src k n : ℕ) → k < n → dst ≤ src → src + n ≤ length s
+    → overwrite s (dst + k) (slice s (src + k) (n - k)) ≡ w
+    → overwrite (set s (dst + k) (getD s (src + k) 0)) (dst + (k + 1)) (slice (set s (dst + k) (getD s (src + k) 0)) (src + (k + 1)) (n - (k + 1))) ≡ w
+slide-step s w dst src k n h d l inv =
+    let e : n - k ≡ suc (n - (k + 1)) = omega arith in
+    let h₁ : src + k < length s = omega arith in
+    let h₂ : dst + k < length s = omega arith in
+    let h₃ : dst + k < src + (k + 1) = omega arith in
+    let e₁ : dst + (k + 1) ≡ dst + k + 1 = omega arith in
+    let e₂ : suc (src + k) ≡ src + (k + 1) = omega arith in
+    rw (drop-set-lt, e₁, write-step) (rw (e, drop-cons s (src + k) 0, e₂) at inv)
+
+pub slide-done : (s w : List ℕ) (dst src k n : ℕ) → n ≤ k → overwrite s (dst + k) (slice s (src + k) (n - k)) ≡ w → s ≡ w
+slide-done s w dst src k n h inv =
+    let e : n - k ≡ 0 = omega arith in
+    sym (write-none s (dst + k)) ∙ (rw e at inv)

@@ -1,0 +1,56 @@
+// Loops over bytes: a test for zeros, a fill, a slide in place, a copy.
+ghost use mathlib.Core.Path.{_≡_};
+ghost use Prim.Native.Nat.{_+_, _-_, _<_, _≤_};
+ghost use lib.ListN.{length, replicate};
+ghost use Rattle.bigendian.specs.BigEndian.{slice, overwrite};
+ghost use Rattle.memory.specs.Zeros.{allZero};
+
+// Whether every byte from `from` up to `to` is 0. There is no early exit, so the loop is compiled to wide loads.
+pub fn all_zero(s: &[u8], from: usize, to: usize) -> bool
+    requires { ⌜ (from ≤ to) × (to ≤ length (now s)) ⌝ }
+    ensures { λ r. ⌜ r ≡ allZero (slice (now (s .entry)) from (to - from)) ⌝ }
+{
+    let mut clean = true;
+    let mut i = from;
+    while i < to {
+        clean = clean & (s[i] == 0);
+        i += 1;
+    }
+    clean
+}
+
+// Sets the bytes from `from` up to `to` to 0.
+pub fn fill_zero(s: &mut [u8], from: usize, to: usize)
+    requires { ⌜ (from ≤ to) × (to ≤ length (now s)) ⌝ }
+    ensures { λ _. ⌜ now (s .exit) ≡ overwrite (now (s .entry)) from (replicate (to - from) 0) ⌝ }
+{
+    let mut i = from;
+    while i < to {
+        s[i] = 0;
+        i += 1;
+    }
+}
+
+// Moves the n bytes at src down to dst, from the front.
+pub fn slide_down(s: &mut [u8], dst: usize, src: usize, n: usize)
+    requires { ⌜ (dst ≤ src) × (src + n ≤ length (now s)) ⌝ }
+    ensures { λ _. ⌜ now (s .exit) ≡ overwrite (now (s .entry)) dst (slice (now (s .entry)) src n) ⌝ }
+{
+    let mut k = 0;
+    while k < n {
+        s[dst + k] = s[src + k];
+        k += 1;
+    }
+}
+
+// Copies all of src to s, from `at` on.
+pub fn copy_in(s: &mut [u8], at: usize, src: &[u8])
+    requires { ⌜ at + length (now src) ≤ length (now s) ⌝ }
+    ensures { λ _. ⌜ now (s .exit) ≡ overwrite (now (s .entry)) at (now (src .entry)) ⌝ }
+{
+    let mut k = 0;
+    while k < src.len() {
+        s[at + k] = src[k];
+        k += 1;
+    }
+}

@@ -1,0 +1,245 @@
+-- From a valid structure to bytes and back.
+use mathlib.Core.Path.{_≡_, refl, sym, ap, ap₂, _∙_, subst}
+use mathlib.Core.List.{List, [], _∷_, _++_, map, append-assoc, append-nil}
+use mathlib.Core.Bool.{Bool, true, false, cond, not, _&&_}
+use Prim.Native.Nat.{ℕ, zero, suc, _+_, _*_, _-_, _/_, _%_, _^_, _<_, _≤_, min}
+use native.Mathlib.Nat.{add-zero, zero-add, add-assoc}
+use native.Mathlib.Omega.{arith}
+use lib.Dec.{eqb, leb}
+use borrow.Author.Tests.{eqb-true, eqb-false, eq-eqb, ne-eqb, le-leb}
+use lib.ListN.{length, getD, take, drop, replicate, length-append, length-take, length-drop, length-replicate, take-append-drop}
+use lib.Seq.{take-at, drop-at, take-append-seam, drop-append-seam, getD-append-add, drop-drop, drop-append-add}
+use Rattle.bigendian.specs.BigEndian.{fromBE, toBE, slice, Bytes}
+use Rattle.bigendian.proofs.Laws.{be-toBE, length-toBE, bytes-toBE}
+use Rattle.memory.specs.Zeros.{allZero}
+use Rattle.format.proofs.Bool.{and-left, and-right}
+use Rattle.format.specs.WellFormed.{headerOk, lengthField, firstField, mastersField, chainField, typeOf, sizeOf, handleOf, isFree, isReloc, splitBlocks, isMaster, masterAt, links, typeRule, freeRule, relocRule, blockOk, blocksOk, relocs, bodyOk, zoneOf, wellFormed}
+use Rattle.format.proofs.Masters.{Master, is-master}
+use Rattle.format.proofs.Count.{one, occurs, All, offsets, one-same, one-other, one-eq, one-le, occurs-offset, occurs-below, length-offsets}
+use Rattle.format.proofs.Live.{chain}
+use Rattle.structure.specs.Structure.{Block, free, fixed, reloc, Structure, size, encodeBlock, decodeBlock, byKind, sizes, relocCount, count, start, len, headOf, placeOf, nextOf, value, words, join, header, encode, decodeZone, decode}
+use Rattle.structure.proofs.Codec.{blocks-join, size-free, size-used}
+use Rattle.structure.proofs.Valid.{handlesOf, Tiled, Valid}
+
+-- ---- one block
+
+pub be-front : (n v : ℕ) (t : List ℕ) → v < 256 ^ n → fromBE (take n (toBE n v ++ t)) ≡ v
+be-front n v t l = rw (take-at (toBE n v) t n (length-toBE n v)) (be-toBE n v l)
+
+all-zeros : (n : ℕ) → allZero (replicate n 0) ≡ true
+unfolding allZero
+all-zeros zero = refl
+all-zeros (suc n) = all-zeros n
+
+-- what the bytes of a block say
+pub record Enc (b : Block) : Type 0 where
+  pub long : length (encodeBlock b) ≡ size b
+  pub same : sizeOf (encodeBlock b) ≡ size b
+  pub back : decodeBlock (encodeBlock b) ≡ b
+
+kind-free : (n : ℕ) → n ≤ 1048576 → typeOf (encodeBlock (free n)) ≡ 0
+unfolding typeOf encodeBlock toBE
+kind-free n l = omega arith
+
+kind-fixed : (d : List ℕ) → length d ≤ 32762 → typeOf (encodeBlock (fixed d)) ≡ 1
+unfolding typeOf encodeBlock toBE
+kind-fixed d l = omega arith
+
+kind-reloc : (h : ℕ) (d : List ℕ) → length d ≤ 32760 → typeOf (encodeBlock (reloc h d)) ≡ 2
+unfolding typeOf encodeBlock toBE
+kind-reloc h d l = omega arith
+
+dec-free : (e : List ℕ) (n : ℕ) → typeOf e ≡ 0 → sizeOf e ≡ n → decodeBlock e ≡ free n
+unfolding decodeBlock
+dec-free e n k s = rw (k, s)
+
+dec-fixed : (e d : List ℕ) → typeOf e ≡ 1 → drop 2 e ≡ d → decodeBlock e ≡ fixed d
+unfolding decodeBlock
+dec-fixed e d k s = rw (k, s)
+
+dec-reloc : (e d : List ℕ) (h : ℕ) → typeOf e ≡ 2 → handleOf e ≡ h → drop 4 e ≡ d → decodeBlock e ≡ reloc h d
+unfolding decodeBlock
+dec-reloc e d h k p s = rw (k, p, s)
+
+enc-free : (n : ℕ) → 4 ≤ n → n % 4 ≡ 0 → n ≤ 1048576 → Enc (free n)
+unfolding encodeBlock
+enc-free n l q u =
+    let k = kind-free n u in
+    let s : sizeOf (encodeBlock (free n)) ≡ n = omega (arith, size-free (encodeBlock (free n)) k, be-front 4 (n / 2) (replicate (n - 4) 0) (omega arith)) in
+    record {
+      long = simp (length-append, length-toBE, length-replicate) (omega arith);
+      same = s;
+      back = dec-free (encodeBlock (free n)) n k s;
+    }
+
+low₁ : (w : ℕ) → w < 16384 → (16384 + w) % 16384 ≡ w
+low₁ w l = omega arith
+
+low₂ : (w : ℕ) → w < 16384 → (32768 + w) % 16384 ≡ w
+low₂ w l = omega arith
+
+half : (n : ℕ) → n % 4 ≡ 0 → n / 2 * 2 ≡ n
+half n q = omega arith
+
+enc-fixed : (d : List ℕ) → (2 + length d) % 4 ≡ 0 → length d ≤ 32762 → Enc (fixed d)
+unfolding encodeBlock
+enc-fixed d q u =
+    let k = kind-fixed d u in
+    let v = 16384 + (2 + length d) / 2 in
+    record {
+      long = simp (length-append, length-toBE) (omega arith);
+      same = size-used (encodeBlock (fixed d)) 0 k ∙ (rw (be-front 2 v d (omega arith), low₁ ((2 + length d) / 2) (omega arith)) (half (2 + length d) q));
+      back = dec-fixed (encodeBlock (fixed d)) d k (drop-at (toBE 2 v) d 2 (length-toBE 2 v));
+    }
+
+handle-enc : (h : ℕ) (d : List ℕ) → h < 65536 → handleOf (encodeBlock (reloc h d)) ≡ h
+unfolding encodeBlock handleOf
+handle-enc h d u = rw (drop-at (toBE 2 (32768 + (4 + length d) / 2)) (toBE 2 h ++ d) 2 (length-toBE 2 (32768 + (4 + length d) / 2))) (be-front 2 h d (omega arith))
+
+pub size-reloc : (h : ℕ) (d : List ℕ) → length d % 4 ≡ 0 → length d ≤ 32760 → sizeOf (encodeBlock (reloc h d)) ≡ 4 + length d
+unfolding encodeBlock
+size-reloc h d q u =
+    size-used (encodeBlock (reloc h d)) 1 (kind-reloc h d u)
+    ∙ (rw (be-front 2 (32768 + (4 + length d) / 2) (toBE 2 h ++ d) (omega arith), low₂ ((4 + length d) / 2) (omega arith)) (half (4 + length d) (omega arith)))
+
+pub enc-reloc : (h : ℕ) (d : List ℕ) → length d % 4 ≡ 0 → length d ≤ 32760 → h < 65536 → Enc (reloc h d)
+unfolding encodeBlock
+enc-reloc h d q u hu =
+    let k = kind-reloc h d u in
+    let v = 32768 + (4 + length d) / 2 in
+    let e = encodeBlock (reloc h d) in
+    record {
+      long = simp (length-append, length-toBE) (omega arith);
+      same = size-reloc h d q u;
+      back = dec-reloc e d h k (handle-enc h d hu)
+          (sym (drop-drop 2 2 e) ∙ ap (drop 2) (drop-at (toBE 2 v) (toBE 2 h ++ d) 2 (length-toBE 2 v)) ∙ drop-at (toBE 2 h) d 2 (length-toBE 2 h));
+    }
+
+-- ---- the test of a block, from facts
+
+good-of : (z : List ℕ) (first : ℕ) (prev : Bool) (at : ℕ) (b : Block) → Enc b → 4 ≤ size b → size b % 4 ≡ 0
+    → typeRule (typeOf (encodeBlock b)) (freeRule prev (encodeBlock b)) (relocRule z first at (handleOf (encodeBlock b))) ≡ true → blockOk z first prev at (encodeBlock b) ≡ true
+unfolding blockOk
+good-of z first prev at b e l q r =
+    rw (le-leb 4 (sizeOf (encodeBlock b)) (omega (arith, e .same)), eq-eqb (sizeOf (encodeBlock b) % 4) 0 (rw (e .same) q), eq-eqb (sizeOf (encodeBlock b)) (length (encodeBlock b)) (omega (arith, e .same, e .long))) r
+
+pub master-of : (first h : ℕ) → Master first h → isMaster first h ≡ true
+unfolding isMaster
+master-of first h m = rw (le-leb 16 h (m .low), le-leb (h + 4) first (m .fits), eq-eqb (h % 4) 0 (m .four))
+
+free-good : (n : ℕ) (prev : Bool) → prev ≡ false → freeRule prev (encodeBlock (free n)) ≡ true
+unfolding encodeBlock freeRule
+free-good n prev e = rw (e, drop-at (toBE 4 (n / 2)) (replicate (n - 4) 0) 4 (length-toBE 4 (n / 2))) (all-zeros (n - 4))
+
+reloc-good : (z : List ℕ) (first at h : ℕ) → Master first h → masterAt z h ≡ at + 4 → relocRule z first at h ≡ true
+unfolding relocRule
+reloc-good z first at h m e = rw (master-of first h m, eq-eqb (masterAt z h) (at + 4) e)
+
+-- ---- all splitBlocks; each handle's master holds its block's place
+
+pub record Placed (z : List ℕ) (first at : ℕ) (bs : List Block) : Type 0 where
+  pub holds : (h : ℕ) → 0 < occurs h (handlesOf bs) → Master first h × (masterAt z h ≡ placeOf h at bs)
+  pub single : (h : ℕ) → occurs h (handlesOf bs) ≤ 1
+
+-- what the bytes of all the splitBlocks say
+pub record Encs (z : List ℕ) (first : ℕ) (prev : Bool) (at : ℕ) (bs : List Block) : Type 0 where
+  pub walk : blocksOk z first prev at (map encodeBlock bs) ≡ true
+  pub back : map decodeBlock (map encodeBlock bs) ≡ bs
+  pub counts : relocs (map encodeBlock bs) ≡ relocCount bs
+  pub sums : length (join (map encodeBlock bs)) ≡ sizes bs
+
+module _ (z : List ℕ) (first : ℕ) (small : first ≤ 65536) where
+  cons : (prev next : Bool) (at : ℕ) (b : Block) (bs : List Block) → Enc b → blockOk z first prev at (encodeBlock b) ≡ true → isFree (encodeBlock b) ≡ next
+      → cond (isReloc (encodeBlock b)) 1 0 + relocCount bs ≡ relocCount (b ∷ bs) → Encs z first next (at + size b) bs → Encs z first prev at (b ∷ bs)
+  unfolding blocksOk relocs join sizes
+  cons prev next at b bs e g f c r = record {
+    walk = rw (g, f, e .long) (r .walk);
+    back = ap₂ (λ (x : Block) (xs : List Block). x ∷ xs) (e .back) (r .back);
+    counts = ap (λ (n : ℕ). cond (isReloc (encodeBlock b)) 1 0 + n) (r .counts) ∙ c;
+    sums = omega (arith, length-append (encodeBlock b) (join (map encodeBlock bs)), e .long, r .sums);
+  }
+
+  pub encs : (prev : Bool) (at : ℕ) (bs : List Block) → Tiled prev bs → Placed z first at bs → Encs z first prev at bs
+  unfolding blocksOk relocs join sizes relocCount typeRule isFree isReloc handlesOf occurs placeOf
+  encs prev at [] t p = record { walk = refl; back = refl; counts = refl; sums = refl }
+  encs prev at (free n ∷ bs) t p =
+      let k = kind-free n (t .3) in
+      let e = enc-free n (t .1) (t .2) (t .3) in
+      cons prev true at (free n) bs e (good-of z first prev at (free n) e (t .1) (t .2) (rw k (free-good n prev (t .0)))) (rw k) (rw k (zero-add _))
+      (encs true (at + n) bs (t .4) (record { holds = p .holds; single = p .single }))
+  encs prev at (fixed d ∷ bs) t p =
+      let k = kind-fixed d (t .1) in
+      let e = enc-fixed d (t .0) (t .1) in
+      cons prev false at (fixed d) bs e (good-of z first prev at (fixed d) e (omega (arith, t .0)) (t .0) (rw k)) (rw k) (rw k (zero-add _))
+      (encs false (at + (2 + length d)) bs (t .3) (record { holds = p .holds; single = p .single }))
+  encs prev at (reloc h d ∷ bs) t p =
+      let q = p .holds h (omega (arith, one-same h h refl)) in
+      let k = kind-reloc h d (t .1) in
+      let e = enc-reloc h d (t .0) (t .1) (omega (arith, q .0 .fits)) in
+      cons prev false at (reloc h d) bs e (good-of z first prev at (reloc h d) e (omega arith) (omega (arith, t .0))
+      (rw (k, handle-enc h d (omega (arith, q .0 .fits))) (reloc-good z first at h (q .0) (rw (eq-eqb h h refl) at (q .1))))) (rw k) (rw k (omega arith))
+      (encs false (at + (4 + length d)) bs (t .3) (record {
+        holds = λ g l. let r = p .holds g (omega arith) in
+            let other : (g ≡ h → ⊥) = λ x. omega (arith, one-same g h x, p .single g) in
+            (r .0, (rw (ne-eqb g h other) at (r .1)));
+        single = λ g. omega (arith, p .single g);
+      }))
+
+-- ---- the chain
+
+pub record Linked (z : List ℕ) (first : ℕ) (ks : List ℕ) : Type 0 where
+  pub holds : (k : ℕ) → 0 < occurs k ks → Master first k × (masterAt z k ≡ nextOf k ks)
+  pub single : (k : ℕ) → occurs k ks ≤ 1
+
+linked-tail : (z : List ℕ) (first k : ℕ) (ks : List ℕ) → Linked z first (k ∷ ks) → Linked z first ks
+unfolding occurs nextOf
+linked-tail z first k ks p = record {
+  holds = λ g l. let r = p .holds g (omega arith) in
+      let other : (g ≡ k → ⊥) = λ x. omega (arith, one-same g k x, p .single g) in
+      (r .0, (rw (ne-eqb g k other) at (r .1)));
+  single = λ g. omega (arith, p .single g);
+}
+
+linked-head : (z : List ℕ) (first k : ℕ) (ks : List ℕ) → Linked z first (k ∷ ks) → Master first k × (masterAt z k ≡ headOf ks)
+unfolding occurs nextOf
+linked-head z first k ks p =
+    let r = p .holds k (omega (arith, one-same k k refl)) in
+    (r .0, (rw (eq-eqb k k refl) at (r .1)))
+
+pub chain-links : (z : List ℕ) (first : ℕ) (ks : List ℕ) → Linked z first ks → links z first (length ks) (headOf ks) ≡ true
+unfolding links
+chain-links z first [] p = refl
+chain-links z first (k ∷ ks) p =
+    let r = linked-head z first k ks p in
+    rw (master-of first k (r .0), r .1) (chain-links z first ks (linked-tail z first k ks p))
+
+pub chain-back : (z : List ℕ) (first : ℕ) (ks : List ℕ) → Linked z first ks → chain z (length ks) (headOf ks) ≡ ks
+unfolding chain
+chain-back z first [] p = refl
+chain-back z first (k ∷ ks) p =
+    ap (λ (t : List ℕ). k ∷ t) (rw (linked-head z first k ks p .1) (chain-back z first ks (linked-tail z first k ks p)))
+
+-- ---- the parts of the bytes
+
+-- a number of n bytes at offset k, where a is what stands before it
+at-seam : (a t : List ℕ) (n v k : ℕ) → length a ≡ k → v < 256 ^ n → fromBE (slice (a ++ (toBE n v ++ t)) k n) ≡ v
+at-seam a t n v k e l = rw (drop-at a (toBE n v ++ t) k e) (be-front n v t l)
+
+pub length-words : (f : ℕ → ℕ) (hs : List ℕ) → length (words f hs) ≡ 4 * length hs
+unfolding words
+length-words f [] = refl
+length-words f (h ∷ hs) = simp (length-append, length-toBE) (omega (arith, length-words f hs))
+
+-- a master's word
+pub words-at : (a t : List ℕ) (f : ℕ → ℕ) (k n h : ℕ) → length a ≡ k → k ≤ h → h < k + 4 * n → h % 4 ≡ k % 4 → f h < 4294967296
+    → fromBE (slice (a ++ (words f (offsets k n) ++ t)) h 4) ≡ f h
+unfolding words offsets
+words-at a t f k zero h e l u q v = let x : ⊥ = omega arith in absurd x
+words-at a t f k (suc n) h e l u q v =
+    rw (append-assoc (toBE 4 (f k)) (words f (offsets (k + 4) n)) t)
+    (go (eqb h k) refl (λ ne. words-at (a ++ toBE 4 (f k)) t f (k + 4) n h (simp (length-append, length-toBE) (omega arith)) (omega arith) (omega arith) (omega arith) v))
+  where
+    go : (b : Bool) → eqb h k ≡ b → ((h ≡ k → ⊥) → fromBE (slice ((a ++ toBE 4 (f k)) ++ (words f (offsets (k + 4) n) ++ t)) h 4) ≡ f h)
+        → fromBE (slice (a ++ (toBE 4 (f k) ++ (words f (offsets (k + 4) n) ++ t))) h 4) ≡ f h
+    go true y r = let hk = eqb-true h k y in rw hk (at-seam a (words f (offsets (k + 4) n) ++ t) 4 (f k) k e (subst (λ (x : ℕ). f x < 4294967296) hk v))
+    go false y r = rw (← append-assoc a (toBE 4 (f k)) (words f (offsets (k + 4) n) ++ t)) (r (eqb-false h k y))

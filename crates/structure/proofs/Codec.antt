@@ -1,0 +1,147 @@
+-- One block: its bytes and its structure.
+use mathlib.Core.Path.{_≡_, refl, sym, ap, _∙_, subst}
+use mathlib.Core.List.{List, [], _∷_, _++_, map}
+use mathlib.Core.Bool.{Bool, true, false, cond, not, _&&_}
+use Prim.Native.Nat.{ℕ, zero, suc, _+_, _*_, _-_, _/_, _%_, _<_, _≤_, min}
+use native.Mathlib.Omega.{arith}
+use lib.Dec.{eqb, leb}
+use borrow.Author.Tests.{eqb-true, eq-eqb, ne-eqb}
+use lib.ListN.{length, getD, take, drop, replicate, length-append, length-take, length-drop, take-append-drop}
+use lib.Seq.{take-take, getD-take, getD-drop, drop-drop, take-append-seam, drop-append-seam, length-take-le}
+use Rattle.bigendian.specs.BigEndian.{fromBE, toBE, slice, Bytes}
+use Rattle.bigendian.proofs.Laws.{toBE-be, be-toBE, length-toBE, be2-at, cut2}
+use Rattle.memory.specs.Zeros.{allZero}
+use Rattle.format.proofs.Bool.{and-left, and-right}
+use Rattle.format.specs.WellFormed.{typeOf, sizeOf, handleOf, isFree, isReloc, splitBlocks, splitFrom, typeRule, freeRule, relocRule, blockOk, blocksOk}
+use Rattle.format.proofs.Walk.{Good, is-good, size-take, blocks-cons, blocks-nil}
+use Rattle.structure.specs.Structure.{Block, free, fixed, reloc, encodeBlock, decodeBlock, byKind, join}
+
+-- ---- joining splitBlocks
+
+drop-pred : (n x : ℕ) (xs : List ℕ) → 0 < n → drop (n - 1) xs ≡ drop n (x ∷ xs)
+drop-pred zero x xs h = let e : ⊥ = omega arith in absurd e
+drop-pred (suc n) x xs h = let e : suc n - 1 ≡ n = omega arith in rw e
+
+join-from : (z : List ℕ) (first : ℕ) (prev : Bool) (at k : ℕ) (s : List ℕ) → blocksOk z first prev at (splitFrom k s) ≡ true → join (splitFrom k s) ≡ drop k s
+unfolding splitFrom join blocksOk
+join-from z first prev at zero [] g = refl
+join-from z first prev at (suc k) [] g = refl
+join-from z first prev at (suc k) (x ∷ xs) g = join-from z first prev at k xs g
+join-from z first prev at zero (x ∷ xs) g =
+    let r = x ∷ xs in
+    let b = take (sizeOf r) r in
+    let gb = is-good z first prev at b (and-left _ _ g) in
+    let l = length-take (sizeOf r) r in
+    rw (join-from z first (isFree b) (at + length b) (sizeOf r - 1) xs (and-right (blockOk z first prev at b) _ g), drop-pred (sizeOf r) x xs (omega arith)) (take-append-drop (sizeOf r) r)
+
+pub join-blocks : (z : List ℕ) (first : ℕ) (prev : Bool) (at : ℕ) (r : List ℕ) → blocksOk z first prev at (splitBlocks r) ≡ true → join (splitBlocks r) ≡ r
+join-blocks z first prev at r g = join-from z first prev at 0 r g
+
+pub blocks-join : (z : List ℕ) (first : ℕ) (prev : Bool) (at : ℕ) (bs : List (List ℕ)) → blocksOk z first prev at bs ≡ true → splitBlocks (join bs) ≡ bs
+unfolding join blocksOk
+blocks-join z first prev at [] g = blocks-nil
+blocks-join z first prev at (b ∷ bs) g =
+    let gb = is-good z first prev at b (and-left _ (blocksOk z first (isFree b) (at + length b) bs) g) in
+    let r = b ++ join bs in
+    let tk = take-append-seam b (join bs) in
+    let l4 : 4 ≤ length b = omega (arith, gb .low, gb .whole) in
+    let sz : sizeOf r ≡ length b = sym (size-take (length b) r l4) ∙ ap sizeOf tk ∙ gb .whole in
+    let c = blocks-cons r (omega (arith, length-append b (join bs))) (omega arith) in
+    c ∙ (rw (sz, tk, drop-append-seam b (join bs), blocks-join z first (isFree b) (at + length b) bs (and-right (blockOk z first prev at b) _ g)))
+
+-- ---- one block
+
+pub bytes-take : (n : ℕ) (s : List ℕ) → Bytes s → Bytes (take n s)
+bytes-take zero s h i = omega arith
+bytes-take (suc n) [] h i = omega arith
+bytes-take (suc n) (x ∷ xs) h zero = h 0
+bytes-take (suc n) (x ∷ xs) h (suc i) = bytes-take n xs (λ j. h (suc j)) i
+
+pub bytes-drop : (n : ℕ) (s : List ℕ) → Bytes s → Bytes (drop n s)
+bytes-drop n s h i = rw getD-drop (h (n + i))
+
+-- the bytes of a part are those of its number
+pub part-bytes : (n : ℕ) (s : List ℕ) → Bytes s → n ≤ length s → toBE n (fromBE (take n s)) ≡ take n s
+part-bytes n s h l =
+    subst (λ (k : ℕ). toBE k (fromBE (take n s)) ≡ take n s) (length-take-le n s l) (toBE-be (take n s) (bytes-take n s h))
+
+zero-left : (a b : Bool) → a && b ≡ true → a ≡ true
+zero-left true b h = refl
+zero-left false b h = h
+
+pub all-zero-is : (s : List ℕ) → allZero s ≡ true → s ≡ replicate (length s) 0
+unfolding allZero
+all-zero-is [] h = refl
+all-zero-is (zero ∷ xs) h = ap (λ (t : List ℕ). 0 ∷ t) (all-zero-is xs h)
+all-zero-is (suc x ∷ xs) h = let e = eqb-true (suc x) 0 (zero-left (eqb (suc x) 0) (allZero xs) h) in let q : ⊥ = omega arith in absurd q
+
+-- the first two bytes are the type and the size
+head-word : (b : List ℕ) (k : ℕ) → typeOf b ≡ k → 2 ≤ length b → Bytes b → fromBE (take 2 b) ≡ k * 16384 + fromBE (take 2 b) % 16384
+unfolding typeOf
+head-word b k e l y = omega (arith, be2-at b 0 l, y 0, y 1)
+
+pub size-free : (b : List ℕ) → typeOf b ≡ 0 → sizeOf b ≡ fromBE (take 4 b) * 2
+unfolding sizeOf
+size-free b e = rw e
+
+pub size-used : (b : List ℕ) (k : ℕ) → typeOf b ≡ suc k → sizeOf b ≡ fromBE (take 2 b) % 16384 * 2
+unfolding sizeOf
+size-used b k e = rw (e, ne-eqb (suc k) 0 (λ q. omega arith))
+
+enc-free : (b : List ℕ) → typeOf b ≡ 0 → 4 ≤ sizeOf b → sizeOf b ≡ length b → allZero (drop 4 b) ≡ true → Bytes b → encodeBlock (free (sizeOf b)) ≡ b
+unfolding encodeBlock
+enc-free b e l w zs y =
+    let e₁ : sizeOf b / 2 ≡ fromBE (take 4 b) = omega (arith, size-free b e) in
+    let e₂ : replicate (sizeOf b - 4) 0 ≡ drop 4 b = rw (w, ← length-drop 4 b) (sym (all-zero-is (drop 4 b) zs)) in
+    rw (e₁, part-bytes 4 b y (omega arith), e₂) (take-append-drop 4 b)
+
+enc-fixed : (b : List ℕ) → typeOf b ≡ 1 → 4 ≤ sizeOf b → sizeOf b ≡ length b → Bytes b → encodeBlock (fixed (drop 2 b)) ≡ b
+unfolding encodeBlock
+enc-fixed b e l w y =
+    let e₁ : 16384 + (2 + length (drop 2 b)) / 2 ≡ fromBE (take 2 b) = omega (arith, size-used b 0 e, head-word b 1 e (omega arith) y, length-drop 2 b) in
+    rw (e₁, part-bytes 2 b y (omega arith)) (take-append-drop 2 b)
+
+enc-reloc : (b : List ℕ) → typeOf b ≡ 2 → 4 ≤ sizeOf b → sizeOf b ≡ length b → Bytes b → encodeBlock (reloc (handleOf b) (drop 4 b)) ≡ b
+unfolding encodeBlock handleOf
+enc-reloc b e l w y =
+    let e₁ : 32768 + (4 + length (drop 4 b)) / 2 ≡ fromBE (take 2 b) = omega (arith, size-used b 1 e, head-word b 2 e (omega arith) y, length-drop 4 b) in
+    rw (e₁, part-bytes 2 b y (omega arith), part-bytes 2 (drop 2 b) (bytes-drop 2 b y) (omega (arith, length-drop 2 b)))
+    (tail (drop-drop 2 2 b))
+  where
+    tail : drop 2 (drop 2 b) ≡ drop 4 b → take 2 b ++ (take 2 (drop 2 b) ++ drop 4 b) ≡ b
+    tail q = rw (← q, take-append-drop 2 (drop 2 b)) (take-append-drop 2 b)
+
+pub enc-dec : (z : List ℕ) (first : ℕ) (prev : Bool) (at : ℕ) (b : List ℕ) → blockOk z first prev at b ≡ true → Bytes b → encodeBlock (decodeBlock b) ≡ b
+unfolding decodeBlock typeRule freeRule
+enc-dec z first prev at b g y =
+    let gb = is-good z first prev at b g in
+    go (typeOf b) refl (gb .low) (gb .whole) (gb .rule)
+  where
+    go : (k : ℕ) → typeOf b ≡ k → 4 ≤ sizeOf b → sizeOf b ≡ length b → typeRule k (freeRule prev b) (relocRule z first at (handleOf b)) ≡ true
+        → encodeBlock (byKind k (free (sizeOf b)) (fixed (drop 2 b)) (reloc (handleOf b) (drop 4 b))) ≡ b
+    go zero e l w r = enc-free b e l w (and-right (not prev) _ r) y
+    go (suc zero) e l w r = enc-fixed b e l w y
+    go (suc (suc zero)) e l w r = enc-reloc b e l w y
+    go (suc (suc (suc k))) e l w r = let q : _≡_ {A = ℕ} 0 1 = cc in let x : ⊥ = omega arith in absurd x
+
+-- ---- all splitBlocks
+
+pub bytes-left : (a b : List ℕ) → Bytes (a ++ b) → Bytes a
+bytes-left a b h = subst Bytes (take-append-seam a b) (bytes-take (length a) (a ++ b) h)
+
+pub bytes-right : (a b : List ℕ) → Bytes (a ++ b) → Bytes b
+bytes-right a b h = subst Bytes (drop-append-seam a b) (bytes-drop (length a) (a ++ b) h)
+
+encs-decs : (z : List ℕ) (first : ℕ) (prev : Bool) (at : ℕ) (bs : List (List ℕ)) → blocksOk z first prev at bs ≡ true → Bytes (join bs) → map encodeBlock (map decodeBlock bs) ≡ bs
+unfolding join blocksOk
+encs-decs z first prev at [] g y = refl
+encs-decs z first prev at (b ∷ bs) g y =
+    rw (
+      enc-dec z first prev at b (and-left _ (blocksOk z first (isFree b) (at + length b) bs) g) (bytes-left b (join bs) y),
+      encs-decs z first (isFree b) (at + length b) bs (and-right (blockOk z first prev at b) _ g) (bytes-right b (join bs) y),
+    )
+
+pub tiles-bytes : (z : List ℕ) (first : ℕ) (prev : Bool) (at : ℕ) (r : List ℕ) → blocksOk z first prev at (splitBlocks r) ≡ true → Bytes r → join (map encodeBlock (map decodeBlock (splitBlocks r))) ≡ r
+tiles-bytes z first prev at r g y =
+    let j = join-blocks z first prev at r g in
+    rw (encs-decs z first prev at (splitBlocks r) g (subst Bytes (sym j) y)) j

@@ -1,0 +1,259 @@
+-- From bytes to the structure and back: the masters' values follow from the blocks' places and the chain.
+use mathlib.Core.Path.{_≡_, refl, sym, ap, ap₂, _∙_, subst}
+use mathlib.Core.List.{List, [], _∷_, _++_, map, append-assoc}
+use mathlib.Core.Bool.{Bool, true, false, cond, not, _&&_}
+use Prim.Native.Nat.{ℕ, zero, suc, _+_, _*_, _-_, _/_, _%_, _<_, _≤_, min}
+use native.Mathlib.Nat.{add-zero, zero-add, add-assoc}
+use native.Mathlib.Omega.{arith}
+use lib.Dec.{eqb, leb}
+use borrow.Author.Tests.{eqb-true, eqb-false, eq-eqb, ne-eqb}
+use lib.ListN.{length, getD, take, drop, length-append, length-take, length-drop, take-append-drop}
+use lib.Seq.{take-take, take-add, getD-take, drop-drop, drop-cons, take-all}
+use Rattle.bigendian.specs.BigEndian.{fromBE, toBE, slice, Bytes}
+use Rattle.format.proofs.Bool.{and-left, and-right}
+use Rattle.format.specs.WellFormed.{headerOk, lengthField, firstField, mastersField, chainField, typeOf, sizeOf, handleOf, isFree, isReloc, splitBlocks, isMaster, masterAt, links, typeRule, freeRule, relocRule, blockOk, blocksOk, relocs, bodyOk, zoneOf, wellFormed}
+use Rattle.format.proofs.Walk.{Good, is-good, drop-take}
+use Rattle.format.proofs.Masters.{Master, is-master}
+use Rattle.format.proofs.Header.{Fields, header-facts}
+use Rattle.format.proofs.Count.{one, occurs, All, offsets, one-same, one-other, one-eq}
+use Rattle.format.proofs.Live.{handles, chain, total, Held, is-held, handles-none, Parts, body-parts, owned, length-handles, length-chain}
+use Rattle.structure.specs.Structure.{Block, free, fixed, reloc, Structure, size, encodeBlock, decodeBlock, byKind, sizes, relocCount, count, start, len, headOf, placeOf, nextOf, value, words, join, header, encode, decodeZone, decode}
+use Rattle.structure.proofs.Codec.{part-bytes, bytes-drop, bytes-take, tiles-bytes, join-blocks}
+
+-- ---- words
+
+-- the n bytes at k, then the rest
+pub peel : (n k : ℕ) (z t : List ℕ) → Bytes z → k + n ≤ length z → t ≡ drop (k + n) z → toBE n (fromBE (slice z k n)) ++ t ≡ drop k z
+peel n k z t y l e = rw (part-bytes n (drop k z) (bytes-drop k z y) (omega (arith, length-drop k z)), e, ← drop-drop n k z) (take-append-drop n (drop k z))
+
+pub words-of : (z : List ℕ) (k n : ℕ) → Bytes z → k + 4 * n ≤ length z → words (masterAt z) (offsets k n) ++ drop (k + 4 * n) z ≡ drop k z
+unfolding words offsets
+words-of z k zero y l = rw add-zero
+words-of z k (suc n) y l =
+    let e : k + 4 * suc n ≡ k + 4 + 4 * n = omega arith in
+    rw (append-assoc, e) (peel 4 k z _ y (omega arith) (words-of z (k + 4) n y (omega arith)))
+
+pub words-same : (f g : ℕ → ℕ) (hs : List ℕ) → All (λ (h : ℕ). f h ≡ g h) hs → words f hs ≡ words g hs
+unfolding words
+words-same f g [] a = refl
+words-same f g (h ∷ hs) a = rw (a .0, words-same f g hs (a .1))
+
+pub all-offsets : (P : ℕ → Type 0) (first k n : ℕ) → ((h : ℕ) → Master first h → P h) → 16 ≤ k → k % 4 ≡ 0 → k + 4 * n ≤ first → All P (offsets k n)
+unfolding offsets
+all-offsets P first k zero f l q u = tt
+all-offsets P first k (suc n) f l q u =
+    (f k (record { low = l; fits = omega arith; four = q }), all-offsets P first (k + 4) n f (omega arith) (omega arith) (omega arith))
+
+-- ---- splitBlocks, one at a time
+
+module _ (z : List ℕ) (first : ℕ) (prev : Bool) (at : ℕ) (b : List ℕ) (g : blockOk z first prev at b ≡ true) where
+  -- by type
+  pub by : (P : ℕ → Type 0) → (typeOf b ≡ 0 → P 0) → (typeOf b ≡ 1 → P 1) → (typeOf b ≡ 2 → P 2) → P (typeOf b)
+  unfolding typeRule
+  by P a₀ a₁ a₂ = go (typeOf b) refl (is-good z first prev at b g .rule)
+    where
+      go : (k : ℕ) → typeOf b ≡ k → typeRule k (freeRule prev b) (relocRule z first at (handleOf b)) ≡ true → P k
+      go zero e r = a₀ e
+      go (suc zero) e r = a₁ e
+      go (suc (suc zero)) e r = a₂ e
+      go (suc (suc (suc k))) e r = let q : _≡_ {A = ℕ} 0 1 = cc in let x : ⊥ = omega arith in absurd x
+
+  pub size-dec : size (decodeBlock b) ≡ length b
+  unfolding decodeBlock
+  size-dec =
+      let gb = is-good z first prev at b g in
+      by (λ k. size (byKind k (free (sizeOf b)) (fixed (drop 2 b)) (reloc (handleOf b) (drop 4 b))) ≡ length b)
+      (λ e. gb .whole) (λ e. omega (arith, gb .low, gb .whole, length-drop 2 b)) (λ e. omega (arith, gb .low, gb .whole, length-drop 4 b))
+
+  pub count-dec : (bs : List Block) → relocCount (decodeBlock b ∷ bs) ≡ cond (isReloc b) 1 0 + relocCount bs
+  unfolding decodeBlock relocCount isReloc
+  count-dec bs =
+      by (λ k. relocCount (byKind k (free (sizeOf b)) (fixed (drop 2 b)) (reloc (handleOf b) (drop 4 b)) ∷ bs) ≡ cond (eqb k 2) 1 0 + relocCount bs)
+      (λ e. omega arith) (λ e. omega arith) (λ e. omega arith)
+
+  pub place-dec : (h o : ℕ) (bs : List Block) → placeOf h o (decodeBlock b ∷ bs) ≡ cond (isReloc b && eqb h (handleOf b)) (o + 4) (placeOf h (o + size (decodeBlock b)) bs)
+  unfolding decodeBlock placeOf isReloc
+  place-dec h o bs =
+      by (λ k. placeOf h o (byKind k (free (sizeOf b)) (fixed (drop 2 b)) (reloc (handleOf b) (drop 4 b)) ∷ bs)
+      ≡ cond (eqb k 2 && eqb h (handleOf b)) (o + 4) (placeOf h (o + size (byKind k (free (sizeOf b)) (fixed (drop 2 b)) (reloc (handleOf b) (drop 4 b)))) bs))
+      (λ e. refl) (λ e. refl) (λ e. refl)
+
+module _ (z : List ℕ) (first : ℕ) where
+  pub sizes-decs : (prev : Bool) (at : ℕ) (bs : List (List ℕ)) → blocksOk z first prev at bs ≡ true → sizes (map decodeBlock bs) ≡ total bs
+  unfolding sizes total blocksOk
+  sizes-decs prev at [] g = refl
+  sizes-decs prev at (b ∷ bs) g =
+      omega (arith, size-dec z first prev at b (and-left _ (blocksOk z first (isFree b) (at + length b) bs) g), sizes-decs (isFree b) (at + length b) bs (and-right (blockOk z first prev at b) _ g))
+
+  pub counts-decs : (prev : Bool) (at : ℕ) (bs : List (List ℕ)) → blocksOk z first prev at bs ≡ true → relocCount (map decodeBlock bs) ≡ relocs bs
+  unfolding relocs blocksOk relocCount
+  counts-decs prev at [] g = refl
+  counts-decs prev at (b ∷ bs) g =
+      count-dec z first prev at b (and-left _ (blocksOk z first (isFree b) (at + length b) bs) g) (map decodeBlock bs)
+      ∙ ap (λ (n : ℕ). cond (isReloc b) 1 0 + n) (counts-decs (isFree b) (at + length b) bs (and-right (blockOk z first prev at b) _ g))
+
+  -- the place of a handle's block is what its master holds
+  pub places : (prev : Bool) (at h : ℕ) (bs : List (List ℕ)) → blocksOk z first prev at bs ≡ true
+      → placeOf h at (map decodeBlock bs) ≡ cond (eqb (occurs h (handles bs)) 0) 0 (masterAt z h)
+  unfolding blocksOk handles occurs placeOf
+  places prev at h [] g = refl
+  places prev at h (b ∷ bs) g =
+      let g₀ = and-left _ (blocksOk z first (isFree b) (at + length b) bs) g in
+      place-dec z first prev at b g₀ h at (map decodeBlock bs)
+      ∙ go (isReloc b) refl g₀ (size-dec z first prev at b g₀) (places (isFree b) (at + length b) h bs (and-right (blockOk z first prev at b) _ g))
+    where
+      go : (t : Bool) → isReloc b ≡ t → blockOk z first prev at b ≡ true → size (decodeBlock b) ≡ length b
+          → placeOf h (at + length b) (map decodeBlock bs) ≡ cond (eqb (occurs h (handles bs)) 0) 0 (masterAt z h)
+          → cond (t && eqb h (handleOf b)) (at + 4) (placeOf h (at + size (decodeBlock b)) (map decodeBlock bs))
+          ≡ cond (eqb (occurs h (cond t (handleOf b ∷ handles bs) (handles bs))) 0) 0 (masterAt z h)
+      go false e g₀ s i = rw s i
+      go true e g₀ s i = same (eqb h (handleOf b)) refl
+        where
+          same : (u : Bool) → eqb h (handleOf b) ≡ u → cond u (at + 4) (placeOf h (at + size (decodeBlock b)) (map decodeBlock bs)) ≡ cond (eqb (one h (handleOf b) + occurs h (handles bs)) 0) 0 (masterAt z h)
+          same true q =
+              let eh = eqb-true h (handleOf b) q in
+              let m = is-held z first prev at b g₀ e in
+              rw (ne-eqb (one h (handleOf b) + occurs h (handles bs)) 0 (λ x. omega (arith, one-same h (handleOf b) eh)))
+              (sym (ap (masterAt z) eh ∙ m .holds))
+          same false q = rw (one-other h (handleOf b) (eqb-false h (handleOf b) q), zero-add, s) i
+
+  head-chain : (n h : ℕ) → links z first n h ≡ true → headOf (chain z n h) ≡ h
+  unfolding links chain
+  head-chain zero h p = sym (eqb-true h 0 p)
+  head-chain (suc n) h p = refl
+
+  -- what follows a master in the chain is what it holds
+  pub nexts : (n k h : ℕ) → links z first n k ≡ true → nextOf h (chain z n k) ≡ cond (eqb (occurs h (chain z n k)) 0) 0 (masterAt z h)
+  unfolding links chain nextOf occurs
+  nexts zero k h p = refl
+  nexts (suc n) k h p =
+      let p₁ = and-right (isMaster first k) _ p in
+      go (eqb h k) refl (head-chain n (masterAt z k) p₁) (nexts n (masterAt z k) h p₁)
+    where
+      go : (t : Bool) → eqb h k ≡ t → headOf (chain z n (masterAt z k)) ≡ masterAt z k
+          → nextOf h (chain z n (masterAt z k)) ≡ cond (eqb (occurs h (chain z n (masterAt z k))) 0) 0 (masterAt z h)
+          → cond t (headOf (chain z n (masterAt z k))) (nextOf h (chain z n (masterAt z k)))
+          ≡ cond (eqb (one h k + occurs h (chain z n (masterAt z k))) 0) 0 (masterAt z h)
+      go true e hd i =
+          let eh = eqb-true h k e in
+          rw (ne-eqb (one h k + occurs h (chain z n (masterAt z k))) 0 (λ x. omega (arith, one-same h k eh))) (hd ∙ sym (ap (masterAt z) eh))
+      go false e hd i = rw (one-other h k (eqb-false h k e), zero-add) i
+
+-- one of two counts is 1
+one-of : (a b v : ℕ) → a + b ≡ 1 → cond (eqb a 0) 0 v + cond (eqb b 0) 0 v ≡ v
+one-of zero zero v e = let x : ⊥ = omega arith in absurd x
+one-of zero (suc b) v e = rw (ne-eqb (suc b) 0 (λ q. omega arith)) (omega arith)
+one-of (suc a) zero v e = rw (ne-eqb (suc a) 0 (λ q. omega arith)) (omega arith)
+one-of (suc a) (suc b) v e = let x : ⊥ = omega arith in absurd x
+
+total-join : (bs : List (List ℕ)) → total bs ≡ length (join bs)
+unfolding total join
+total-join [] = refl
+total-join (b ∷ bs) = omega (arith, length-append b (join bs), total-join bs)
+
+-- the header's bytes, field by field
+glue : (z : List ℕ) → Bytes z → 16 ≤ length z → getD z 14 0 ≡ 0 → getD z 15 0 ≡ 0 → (l f m c : ℕ) (t : List ℕ)
+    → l ≡ lengthField z → f ≡ firstField z → m ≡ mastersField z → c ≡ chainField z → t ≡ drop 16 z
+    → (toBE 4 l ++ (toBE 4 f ++ (toBE 4 m ++ (toBE 2 c ++ 0 ∷ 0 ∷ [])))) ++ t ≡ z
+glue z y n z₁ z₂ l f m c t e₁ e₂ e₃ e₄ e =
+    rw (e₁, e₂, e₃, e₄) (simp append-assoc
+    (peel 4 0 z _ y (omega arith) (peel 4 4 z _ y (omega arith) (peel 4 8 z _ y (omega arith) (peel 2 12 z _ y (omega arith)
+    (sym (drop-cons z 14 0 (omega arith) ∙ ap₂ (λ (x : ℕ) (xs : List ℕ). x ∷ xs) z₁ (drop-cons z 15 0 (omega arith) ∙ ap₂ (λ (x : ℕ) (xs : List ℕ). x ∷ xs) z₂ (sym e)))))))))
+
+-- ---- the whole zone
+
+-- what is known of the bytes z of a well-formed zone, with none beyond its length
+pub record Whole (z : List ℕ) : Type 0 where
+  pub bytes : Bytes z
+  pub long : 16 ≤ length z
+  pub all : lengthField z ≡ length z
+  pub zero14 : getD z 14 0 ≡ 0
+  pub zero15 : getD z 15 0 ≡ 0
+  pub begin : firstField z ≡ 16 + 4 * mastersField z
+  pub within : firstField z ≤ length z
+  pub few : mastersField z ≤ 8188
+  pub limit : lengthField z ≤ 1048576
+  pub parts : Parts z (firstField z) (mastersField z) (chainField z)
+
+module _ (z : List ℕ) (w : Whole z) where
+  abbrev bs : List (List ℕ)
+  bs = splitBlocks (drop (firstField z) z)
+
+  abbrev st : Structure
+  st = decodeZone z
+
+  pub count-is : count st ≡ mastersField z
+  unfolding decodeZone
+  count-is = omega (arith, counts-decs z (firstField z) false (firstField z) bs (w .parts .walk), length-chain z (mastersField z - relocs bs) (chainField z), w .parts .few)
+
+  pub start-is : start st ≡ firstField z
+  start-is = omega (arith, count-is, w .begin)
+
+  total-is : total bs ≡ length z - firstField z
+  total-is = total-join bs ∙ ap length (join-blocks z (firstField z) false (firstField z) (drop (firstField z) z) (w .parts .walk)) ∙ length-drop (firstField z) z
+
+  pub value-is : (h : ℕ) → Master (firstField z) h → value st h ≡ masterAt z h
+  unfolding decodeZone
+  value-is h q =
+      ap₂ (λ (a b : ℕ). a + b)
+      (ap (λ (o : ℕ). placeOf h o (map decodeBlock bs)) start-is ∙ places z (firstField z) false (firstField z) h bs (w .parts .walk))
+      (nexts z (firstField z) (mastersField z - relocs bs) (chainField z) h (w .parts .ends))
+      ∙ one-of (occurs h (handles bs)) (occurs h (chain z (mastersField z - relocs bs) (chainField z))) (masterAt z h)
+      (owned z (firstField z) (mastersField z) (chainField z) (w .begin) (w .parts) h q)
+
+  pub len-is : len st ≡ lengthField z
+  unfolding decodeZone
+  len-is = omega (arith, start-is, sizes-decs z (firstField z) false (firstField z) bs (w .parts .walk), total-is, w .all, w .within)
+
+  rest-is : words (value st) (offsets 16 (count st)) ++ join (map encodeBlock (st .blocks)) ≡ drop 16 z
+  unfolding decodeZone
+  rest-is =
+      let f : 16 + 4 * mastersField z ≡ firstField z = sym (w .begin) in
+      ap₂ (λ (a b : List ℕ). a ++ b)
+      (ap (λ (n : ℕ). words (value st) (offsets 16 n)) count-is
+      ∙ words-same (value st) (masterAt z) (offsets 16 (mastersField z)) (all-offsets _ (firstField z) 16 (mastersField z) value-is (omega arith) refl (omega (arith, w .begin))))
+      (tiles-bytes z (firstField z) false (firstField z) (drop (firstField z) z) (w .parts .walk) (bytes-drop (firstField z) z (w .bytes)) ∙ ap (λ (n : ℕ). drop n z) (w .begin))
+      ∙ words-of z 16 (mastersField z) (w .bytes) (omega (arith, w .begin, w .within))
+
+  pub head-is : headOf (st .links) ≡ chainField z
+  unfolding decodeZone
+  head-is = head-chain z (firstField z) (mastersField z - relocs bs) (chainField z) (w .parts .ends)
+
+  -- the bytes of a zone are those of its structure
+  pub encode-zone : encode (decodeZone z) ≡ z
+  unfolding encode header
+  encode-zone = glue z (w .bytes) (w .long) (w .zero14) (w .zero15) (len st) (start st) (count st) (headOf (st .links)) _ len-is start-is count-is head-is rest-is
+
+-- ---- from the buffer to the zone
+
+cut-take : (s : List ℕ) (n k j : ℕ) → k + j ≤ n → slice (take n s) k j ≡ slice s k j
+cut-take s n k j l = rw (drop-take k n s, take-take j (n - k) (drop k s) (omega arith))
+
+pub whole : (s : List ℕ) → Bytes s → wellFormed s ≡ true → Whole (zoneOf s)
+unfolding wellFormed
+whole s y h =
+    let f = header-facts s (and-left _ (bodyOk (zoneOf s) (firstField s) (mastersField s) (chainField s)) h) in
+    let b = and-right (headerOk s) _ h in
+    let l16 : 16 ≤ lengthField s = omega arith in
+    let n : length (zoneOf s) ≡ lengthField s = omega (arith, length-take (lengthField s) s) in
+    let e₀ : lengthField (zoneOf s) ≡ lengthField s = ap fromBE (cut-take s (lengthField s) 0 4 (omega arith)) in
+    let e₁ : firstField (zoneOf s) ≡ firstField s = ap fromBE (cut-take s (lengthField s) 4 4 (omega arith)) in
+    let e₂ : mastersField (zoneOf s) ≡ mastersField s = ap fromBE (cut-take s (lengthField s) 8 4 (omega arith)) in
+    let e₃ : chainField (zoneOf s) ≡ chainField s = ap fromBE (cut-take s (lengthField s) 12 2 (omega arith)) in
+    record {
+      bytes = bytes-take (lengthField s) s y;
+      long = omega arith;
+      all = omega arith;
+      zero14 = getD-take (lengthField s) s 14 0 (omega arith) ∙ f .zero14;
+      zero15 = getD-take (lengthField s) s 15 0 (omega arith) ∙ f .zero15;
+      begin = omega arith;
+      within = omega arith;
+      few = omega arith;
+      limit = omega arith;
+      parts = rw (e₁, e₂, e₃) (body-parts (zoneOf s) (firstField s) (mastersField s) (chainField s) b);
+    }
+
+-- the structure of a well-formed buffer gives the buffer back
+pub encode-decode : (s : List ℕ) → Bytes s → wellFormed s ≡ true → encode (decode s) ++ drop (lengthField s) s ≡ s
+unfolding decode
+encode-decode s y h = rw (encode-zone (zoneOf s) (whole s y h)) (take-append-drop (lengthField s) s)

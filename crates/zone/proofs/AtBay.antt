@@ -1,0 +1,63 @@
+-- A call that changes one bay changes one growHere of the splitBlocks, and of the bytes.
+use mathlib.Core.Path.{_≡_, refl, ap, ap₂, sym, _∙_}
+use mathlib.Core.Bool.{Bool, true, false, cond}
+use mathlib.Core.Option.{Option, none, some}
+use mathlib.Core.List.{List, [], _∷_, _++_, map, append-assoc, append-nil}
+use Prim.Native.Nat.{ℕ, zero, suc, _+_, _≤_, max}
+use native.Mathlib.Omega.{arith}
+use lib.ListN.{length, length-append}
+use lib.Dec.{leb}
+use borrow.Author.Tests.{leb-false}
+use Rattle.structure.specs.Structure.{Block, free, fixed, reloc, encodeBlock, join, sizes}
+use Rattle.zone.specs.Bays.{Bays, last, more, over, onLow, maxS}
+use Rattle.zone.specs.Bay.{Item, Cell, free as gapCell, held, baySize, baySum}
+use Rattle.zone.proofs.BayLaws.{Each, nothing, just, each-over, each-cond′}
+use Rattle.zone.specs.Calls.{Fixed}
+use Rattle.zone.specs.Group.{flatBay, flatten}
+
+flat-append : (cs : List Cell) (a r : List Block) → flatBay cs (a ++ r) ≡ flatBay cs a ++ r
+flat-append [] a r = refl
+flat-append (gapCell n ∷ cs) a r = ap (free n ∷_) (flat-append cs a r)
+flat-append (held e ∷ cs) a r = ap (reloc (e .handle) (e .bytes) ∷_) (flat-append cs a r)
+
+-- the splitBlocks before the bay, its cells, and the splitBlocks behind; pre ends in a fixed block or is empty, by how it is made
+pub record AtBay (t : List Cell → Bool) (f : List Cell → List Cell) (s u : Bays (List Cell) Fixed) : Type 0 where
+  pub pre : List Block
+  pub bay : List Cell
+  pub rest : List Block
+  pub before : flatten s ≡ pre ++ flatBay bay rest
+  pub after : flatten u ≡ pre ++ flatBay (f bay) rest
+  pub passes : t bay ≡ true
+
+-- the lowest bay that passes
+pub low-at : (t : List Cell → Bool) (f : List Cell → List Cell) (s : Bays (List Cell) Fixed) → Each (AtBay t f s) (onLow t f s)
+low-at t f (last b) = each-cond′ (t b) (λ e. just (record { pre = []; bay = b; rest = []; before = refl; after = refl; passes = e })) (λ e. nothing)
+low-at t f (more b x s) =
+    each-cond′ (t b) (λ e. just (record { pre = []; bay = b; rest = fixed (x .bytes) ∷ flatten s; before = refl; after = refl; passes = e }))
+    (λ e. each-over (more b x) (λ u a. record {
+      pre = flatBay b (fixed (x .bytes) ∷ a .pre);
+      bay = a .bay;
+      rest = a .rest;
+      before = ap (λ (l : List Block). flatBay b (fixed (x .bytes) ∷ l)) (a .before) ∙ flat-append b (fixed (x .bytes) ∷ a .pre) (flatBay (a .bay) (a .rest));
+      after = ap (λ (l : List Block). flatBay b (fixed (x .bytes) ∷ l)) (a .after) ∙ flat-append b (fixed (x .bytes) ∷ a .pre) (flatBay (f (a .bay)) (a .rest));
+      passes = a .passes;
+    }) (low-at t f s))
+
+-- ---- bytes
+
+abbrev pub bytesOf : List Block → List ℕ
+bytesOf bs = join (map encodeBlock bs)
+
+bytes-append : (a b : List Block) → bytesOf (a ++ b) ≡ bytesOf a ++ bytesOf b
+unfolding join
+bytes-append [] b = refl
+bytes-append (x ∷ a) b = ap (encodeBlock x ++_) (bytes-append a b) ∙ sym (append-assoc (encodeBlock x) (bytesOf a) (bytesOf b))
+
+-- the bytes before and behind the bay stay: a `write-mid` of one growHere
+pub low-bytes : (t : List Cell → Bool) (f : List Cell → List Cell) (s u : Bays (List Cell) Fixed) (a : AtBay t f s u)
+    → (bytesOf (flatten s) ≡ bytesOf (a .pre) ++ (bytesOf (flatBay (a .bay) []) ++ bytesOf (a .rest)))
+    × (bytesOf (flatten u) ≡ bytesOf (a .pre) ++ (bytesOf (flatBay (f (a .bay)) []) ++ bytesOf (a .rest)))
+low-bytes t f s u a = (ap bytesOf (a .before) ∙ parts (a .bay), ap bytesOf (a .after) ∙ parts (f (a .bay)))
+  where
+    parts : (b : List Cell) → bytesOf (a .pre ++ flatBay b (a .rest)) ≡ bytesOf (a .pre) ++ (bytesOf (flatBay b []) ++ bytesOf (a .rest))
+    parts b = bytes-append (a .pre) (flatBay b (a .rest)) ∙ ap (bytesOf (a .pre) ++_) (ap bytesOf (flat-append b [] (a .rest)) ∙ bytes-append (flatBay b []) (a .rest))

@@ -1,0 +1,22 @@
+-- The calls at the ledger's bays: for the proofs only.
+use mathlib.Core.List.{List, [], _∷_, _++_, map}
+use Prim.Native.Nat.{ℕ, _+_, _-_}
+use Rattle.zone.specs.Bay.{Item, total, remove, alter, sized}
+use Rattle.zone.specs.Calls.{BayKind}
+pub use Rattle.zone.specs.ZoneBays.{zoneBays}
+pub use Rattle.zone.specs.LedgerText.{Room, room}
+
+abbrev pub ledgerBays : BayKind Room
+ledgerBays = record {
+  sum = λ b. b .cap - total (b .entries);
+  all = λ b. b .entries;
+  fresh = λ n. room n [];
+  put = λ e b. room (b .cap) (e ∷ b .entries);
+  drop = λ h b. room (b .cap) (remove h (b .entries));
+  edit = λ h f b. room (b .cap) (map (alter h f) (b .entries));
+  reshape = λ h a b. room (b .cap) (map (alter h (sized a)) (b .entries));
+  takeHigh = λ n b. room (b .cap - n) (b .entries);
+  join = λ b n c. room (b .cap + n + c .cap) (b .entries ++ c .entries);
+  compactBay = λ b. b;
+  grow = λ k b. room (b .cap + k) (b .entries);
+}

@@ -1,0 +1,72 @@
+-- The bytes of a zone. The masters are derived: a live one from its block's place, a free one from the chain.
+use mathlib.Core.Path.{_≡_, refl}
+use mathlib.Core.Bool.{Bool, true, false, cond}
+use mathlib.Core.Option.{Option, none, some, Option·getD}
+use mathlib.Core.List.{List, [], _∷_, _++_, map}
+use Prim.Native.Nat.{ℕ, zero, suc, _+_, _-_, _*_, _/_, _%_, _^_}
+use lib.ListN.{length, take, drop, replicate}
+use lib.Dec.{leb, ltb, eqb}
+use Rattle.zone.specs.Bays.{Bays, last, more, orElse, sumS}
+use Rattle.zone.specs.Bay.{is, Item, itemSize, Cell, free, held, baySize, items, header}
+use Rattle.zone.specs.Calls.{Fixed, fsize, State, handlesFrom}
+use Rattle.zone.proofs.Handles.{Zone}
+use Rattle.zone.proofs.Places.{firstBlock}
+
+-- w bytes, high byte first
+abbrev pub big : ℕ → ℕ → List ℕ
+big zero n = []
+big (suc w) n = (n / 256 ^ w) % 256 ∷ big w n
+
+abbrev pub freeBytes : ℕ → List ℕ
+freeBytes n = big 4 (n / 2) ++ replicate (n - 4) 0
+
+abbrev pub itemBytes : Item → List ℕ
+itemBytes e = big 2 (32768 + itemSize e / 2) ++ (big 2 (e .handle) ++ e .bytes)
+
+abbrev pub cellBytes : List Cell → List ℕ
+cellBytes [] = []
+cellBytes (free n ∷ cs) = freeBytes n ++ cellBytes cs
+cellBytes (held e ∷ cs) = itemBytes e ++ cellBytes cs
+
+-- a allocate-fixed block's header: fixedHeader bytes
+abbrev pub fixedHead : Fixed → List ℕ
+fixedHead x = big 2 (16384 + fsize x / 2)
+
+abbrev pub fixedBytes : Fixed → List ℕ
+fixedBytes x = fixedHead x ++ x .bytes
+
+abbrev pub blockBytes : Bays (List Cell) Fixed → List ℕ
+blockBytes (last b) = cellBytes b
+blockBytes (more b x s) = cellBytes b ++ (fixedBytes x ++ blockBytes s)
+
+-- where a handle's data start, in cells from the offset p
+abbrev pub whereIn : ℕ → ℕ → List Cell → Option ℕ
+whereIn h p [] = none
+whereIn h p (free n ∷ cs) = whereIn h (p + n) cs
+whereIn h p (held e ∷ cs) = cond (is h e) (some (p + header)) (whereIn h (p + itemSize e) cs)
+
+abbrev pub whereS : ℕ → ℕ → Bays (List Cell) Fixed → Option ℕ
+whereS h p (last b) = whereIn h p b
+whereS h p (more b x s) = orElse (whereIn h p b) (whereS h (p + baySize b + fsize x) s)
+
+abbrev pub headOr0 : List ℕ → ℕ
+headOr0 [] = 0
+headOr0 (h ∷ hs) = h
+
+-- the next of a handle in the chain, or 0
+abbrev pub nextOf : ℕ → List ℕ → ℕ
+nextOf h [] = 0
+nextOf h (k ∷ ks) = cond (eqb h k) (headOr0 ks) (nextOf h ks)
+
+abbrev pub masterOf : Zone → ℕ → ℕ
+masterOf z h = Option·getD (whereS h (firstBlock (z .m)) (z .bays)) (nextOf h (z .chain))
+
+abbrev pub masterBytes : Zone → List ℕ → List ℕ
+masterBytes z [] = []
+masterBytes z (h ∷ hs) = big 4 (masterOf z h) ++ masterBytes z hs
+
+abbrev pub headerBytes : Zone → List ℕ
+headerBytes z = big 4 (z .len) ++ (big 4 (firstBlock (z .m)) ++ (big 4 (z .m) ++ (big 2 (headOr0 (z .chain)) ++ big 2 0)))
+
+abbrev pub zoneBytes : Zone → List ℕ
+zoneBytes z = headerBytes z ++ (masterBytes z (handlesFrom 16 (z .m)) ++ blockBytes (z .bays))

@@ -1,0 +1,204 @@
+-- What holds of every block's data: bytes, and no more than a header can say. Kept by each call that is fed with bytes.
+use mathlib.Core.Path.{_≡_, refl, ap, ap₂, sym, _∙_, subst}
+use mathlib.Core.Bool.{Bool, true, false, cond}
+use mathlib.Core.Option.{Option, none, some}
+use mathlib.Core.List.{List, [], _∷_, _++_, map, List·Permᴰ, List·Permᴰ·nil, List·Permᴰ·cons, List·Permᴰ·swap, List·Permᴰ·trans, Permᴰ·symm, append-nil}
+use Prim.Native.Nat.{ℕ, zero, suc, _+_, _-_, _*_, _/_, _%_, _≤_, _<_}
+use native.Mathlib.Omega.{arith}
+use lib.ListN.{length, getD, set, take, drop, replicate, length-replicate}
+use lib.Dec.{leb, eqb}
+use borrow.Author.Tests.{leb-true}
+use Rattle.bigendian.specs.BigEndian.{Bytes}
+use Rattle.zone.specs.Bays.{Bays, last, more, over, orElse, onLow, onHigh, glue, onJoin, mapS, onFixed, onLast, lastS, findS}
+use Rattle.zone.specs.Bay.{is, Item, itemSize, get, remove, alter, Cell, baySum, items, gap, joinBays, compactBay, put, takeHigh, release, edit, sized, resized, reshape}
+use Rattle.zone.proofs.BayLaws.{Each, nothing, just, each-cond, each-over, put-keeps, cut-less, tidy-items, items-weld, items-gap, release-items, edit-items}
+use Rattle.zone.proofs.Sums.{each-orElse, each-weaken}
+use Rattle.zone.proofs.Resize.{length-sized}
+use Rattle.zone.proofs.Own.{own-shaped}
+use Rattle.zone.specs.Calls.{relocLimit, fixedLimit, fixedHeader, Fixed, fsize, pointer, alterFixed, newItem, newFixed, placeLow, placeHigh, joinAt, lookup, own, resizeIn, up4}
+use Rattle.zone.proofs.BayKinds.{zoneBays}
+use Rattle.zone.proofs.Sound.{Block}
+use Rattle.zone.proofs.Walk.{Closed, any}
+use lib.Seq.{sets, length-sets}
+use Rattle.zone.proofs.Handles.{Zone}
+
+-- ---- of every bay and every allocate-fixed block
+
+pub data Every {B F : Type 0} (P : B → Type 0) (Q : F → Type 0) : Bays B F → Type 0 where
+  e-last : {b : B} → P b → Every P Q (last b)
+  e-more : {b : B} {x : F} {s : Bays B F} → P b → Q x → Every P Q s → Every P Q (more b x s)
+
+module _ {B F : Type 0} {P : B → Type 0} {Q : F → Type 0} where
+  pub every-low : (t : B → Bool) (f : B → B) → ((b : B) → t b ≡ true → P b → P (f b)) → {s : Bays B F} → Every P Q s → Each (Every P Q) (onLow t f s)
+  every-low t f h (e-last {b = b} p) = each-cond (t b) (λ k. just (e-last (h b k p))) nothing
+  every-low t f h (e-more {b = b} {x = x} p q e) = each-cond (t b) (λ k. just (e-more (h b k p) q e)) (each-over (more b x) (λ u r. e-more p q r) (every-low t f h e))
+
+  pub every-high : (t : B → Bool) (f : B → B) (mk : ℕ → F) (e : B) (at : F → ℕ) (end : ℕ) → ((b : B) → t b ≡ true → P b → P (f b)) → ((n : ℕ) → Q (mk n)) → P e
+      → {s : Bays B F} → Every P Q s → Each (λ (r : F × Bays B F). Every P Q (r .1)) (onHigh t f mk e at end s)
+  every-high t f mk e at end h m z (e-last {b = b} p) = each-cond (t b) (λ k. just (e-more (h b k p) (m end) (e-last z))) nothing
+  every-high t f mk e at end h m z (e-more {b = b} {x = x} p q r) =
+      each-orElse (each-over _ (λ u k. e-more p q k) (every-high t f mk e at end h m z r))
+      (each-cond (t b) (λ k. just (e-more (h b k p) (m (at x)) (e-more z q r))) nothing)
+
+  pub every-join : (t : F → Bool) (j : B → F → B → B) → ((b c : B) (x : F) → P b → P c → P (j b x c)) → {s : Bays B F} → Every P Q s → Each (Every P Q) (onJoin t j s)
+  every-join t j h (e-last p) = nothing
+  every-join t j h (e-more {b = b} {x = x} p q (e-last {b = c} r)) = each-cond (t x) (λ k. just (e-last (h b c x p r))) nothing
+  every-join t j h (e-more {b = b} {x = x} p q (e-more {b = c} {x = y} r o e)) =
+      each-cond (t x) (λ k. just (e-more (h b c x p r) o e)) (each-over (more b x) (λ u k. e-more p q k) (every-join t j h (e-more r o e)))
+
+  pub every-map : (f : B → B) → ((b : B) → P b → P (f b)) → {s : Bays B F} → Every P Q s → Every P Q (mapS f s)
+  every-map f h (e-last {b = b} p) = e-last (h b p)
+  every-map f h (e-more {b = b} p q e) = e-more (h b p) q (every-map f h e)
+
+  pub every-fixed : (f : F → F) → ((x : F) → Q x → Q (f x)) → {s : Bays B F} → Every P Q s → Every P Q (onFixed f s)
+  every-fixed f h (e-last p) = e-last p
+  every-fixed f h (e-more {x = x} p q e) = e-more p (h x q) (every-fixed f h e)
+
+  pub every-last : (f : B → B) {s : Bays B F} → (P (lastS s) → P (f (lastS s))) → Every P Q s → Every P Q (onLast f s)
+  every-last f h (e-last p) = e-last (h p)
+  every-last f h (e-more p q e) = e-more p q (every-last f h e)
+
+  pub every-find : {X : Type 0} (R : X → Type 0) (f : B → Option X) → ((b : B) → P b → Each R (f b)) → {s : Bays B F} → Every P Q s → Each R (findS f s)
+  every-find R f h (e-last {b = b} p) = h b p
+  every-find R f h (e-more {b = b} p q e) = each-orElse (h b p) (every-find R f h e)
+
+-- ---- of every item
+
+pub data Items (P : Item → Type 0) : List Item → Type 0 where
+  i-nil : Items P []
+  i-cons : {e : Item} {es : List Item} → P e → Items P es → Items P (e ∷ es)
+
+module _ {P : Item → Type 0} where
+  pub items-perm : {a b : List Item} → List·Permᴰ a b → Items P a → Items P b
+  items-perm List·Permᴰ·nil i = i-nil
+  items-perm (List·Permᴰ·cons e p) (i-cons x i) = i-cons (subst P e x) (items-perm p i)
+  items-perm (List·Permᴰ·swap {a = a} {b = b} e q) (i-cons y (i-cons x i)) = rw (← e, ← q) (i-cons x (i-cons y i))
+  items-perm (List·Permᴰ·trans p q) i = items-perm q (items-perm p i)
+
+  pub items-append : {a b : List Item} → Items P a → Items P b → Items P (a ++ b)
+  items-append i-nil j = j
+  items-append (i-cons x i) j = i-cons x (items-append i j)
+
+  pub items-remove : (h : ℕ) {a : List Item} → Items P a → Items P (remove h a)
+  items-remove h i-nil = i-nil
+  items-remove h (i-cons {e = e} {es = es} x i) = go (is h e) (items-remove h i)
+    where
+      go : (t : Bool) → Items P (remove h es) → Items P (cond t (remove h es) (e ∷ remove h es))
+      go true k = k
+      go false k = i-cons x k
+
+  pub items-map : (f : Item → Item) → ((e : Item) → P e → P (f e)) → {a : List Item} → Items P a → Items P (map f a)
+  items-map f h i-nil = i-nil
+  items-map f h (i-cons {e = e} x i) = i-cons (h e x) (items-map f h i)
+
+  pub items-get : (h : ℕ) {a : List Item} → Items P a → Each P (get h a)
+  items-get h i-nil = nothing
+  items-get h (i-cons {e = e} x i) = each-cond (is h e) (λ k. just x) (items-get h i)
+
+-- ---- bytes
+
+bytes-zeros : (n : ℕ) → Bytes (replicate n 0)
+bytes-zeros zero i = omega arith
+bytes-zeros (suc n) zero = omega arith
+bytes-zeros (suc n) (suc i) = bytes-zeros n i
+
+bytes-append : (a b : List ℕ) → Bytes a → Bytes b → Bytes (a ++ b)
+bytes-append [] b p q i = q i
+bytes-append (x ∷ a) b p q zero = p 0
+bytes-append (x ∷ a) b p q (suc i) = bytes-append a b (λ j. p (suc j)) q i
+
+bytes-take : (n : ℕ) (s : List ℕ) → Bytes s → Bytes (take n s)
+bytes-take zero s h i = omega arith
+bytes-take (suc n) [] h i = omega arith
+bytes-take (suc n) (x ∷ xs) h zero = h 0
+bytes-take (suc n) (x ∷ xs) h (suc i) = bytes-take n xs (λ j. h (suc j)) i
+
+bytes-set : (s : List ℕ) (k a : ℕ) → a < 256 → Bytes s → Bytes (set s k a)
+bytes-set [] k a l h i = h i
+bytes-set (x ∷ s) zero a l h zero = l
+bytes-set (x ∷ s) zero a l h (suc i) = h (suc i)
+bytes-set (x ∷ s) (suc k) a l h zero = h 0
+bytes-set (x ∷ s) (suc k) a l h (suc i) = bytes-set s k a l (λ j. h (suc j)) i
+
+pub bytes-sets : (vs s : List ℕ) (k : ℕ) → Bytes vs → Bytes s → Bytes (sets s k vs)
+bytes-sets [] s k v h = h
+bytes-sets (a ∷ vs) s k v h = bytes-sets vs (set s k a) (suc k) (λ j. v (suc j)) (bytes-set s k a (v 0) h)
+
+-- ---- data of at most n bytes
+
+pub record Data (n : ℕ) (l : List ℕ) : Type 0 where
+  pub bytes : Bytes l
+  pub short : length l ≤ n
+
+-- a change of a block's bytes that leaves bytes
+pub record Feeds (f : List ℕ → List ℕ) : Type 0 where
+  pub feeds : (l : List ℕ) → Bytes l → Bytes (f l)
+
+pub fed-write : (i n : ℕ) (buf : List ℕ) → Bytes buf → Feeds (λ (l : List ℕ). sets l i (take n buf))
+fed-write i n buf y = record { feeds = λ l h. bytes-sets (take n buf) l i (bytes-take n buf y) h }
+
+abbrev pub ItemOk : Item → Type 0
+ItemOk e = Data relocLimit (e .bytes)
+
+pub record FixedOk (x : Fixed) : Type 0 where
+  pub holds : Data fixedLimit (x .bytes)
+  pub by4 : fsize x % 4 ≡ 0
+
+abbrev pub BayOk : List Cell → Type 0
+BayOk b = Items ItemOk (items b)
+
+pub record Clean (z : Zone) : Type 0 where
+  pub clean : Every BayOk FixedOk (z .bays)
+
+zeros-data : (n k : ℕ) → n ≤ k → Data k (replicate n 0)
+zeros-data n k l = record { bytes = bytes-zeros n; short = omega (arith, length-replicate {A = ℕ} n 0) }
+
+sized-data : (a k : ℕ) (l : List ℕ) → a ≤ k → Bytes l → Data k (sized a l)
+sized-data a k l q y = record { bytes = bytes-append (take a l) (replicate (a - length l) 0) (bytes-take a l y) (bytes-zeros (a - length l)); short = omega (arith, length-sized a l) }
+
+alter-data : (h : ℕ) (f : List ℕ → List ℕ) → ((l : List ℕ) → Data relocLimit l → Data relocLimit (f l)) → (e : Item) → ItemOk e → ItemOk (alter h f e)
+alter-data h f k e d = go (is h e)
+  where
+    go : (t : Bool) → ItemOk (cond t (record { handle = e .handle; bytes = f (e .bytes) }) e)
+    go true = k (e .bytes) d
+    go false = d
+
+feed-data : (k : ℕ) (f : List ℕ → List ℕ) → ((l : List ℕ) → length (f l) ≡ length l) → Feeds f → (l : List ℕ) → Data k l → Data k (f l)
+feed-data k f q y l d = record { bytes = y .feeds l (d .bytes); short = omega (arith, q l, d .short) }
+
+alter-fixed-ok : (p : ℕ) (f : List ℕ → List ℕ) → ((l : List ℕ) → length (f l) ≡ length l) → Feeds f → (x : Fixed) → FixedOk x → FixedOk (alterFixed p f x)
+alter-fixed-ok p f q y x d = go (eqb p (pointer x))
+  where
+    go : (t : Bool) → FixedOk (cond t (record { place = x .place; bytes = f (x .bytes) }) x)
+    go true = record { holds = feed-data fixedLimit f q y (x .bytes) (d .holds); by4 = omega (arith, q (x .bytes), d .by4) }
+    go false = d
+
+new-fixed-ok : (n end : ℕ) → Block n → n ≤ fixedHeader + fixedLimit → FixedOk (newFixed n end)
+new-fixed-ok n end b lim = record { holds = zeros-data (n - fixedHeader) fixedLimit (omega arith); by4 = omega (arith, b, length-replicate {A = ℕ} (n - fixedHeader) 0) }
+
+put-ok : (i : Item) → ItemOk i → (b : List Cell) → leb (itemSize i) (baySum b) ≡ true → BayOk b → BayOk (put i b)
+put-ok i d b t p = items-perm (Permᴰ·symm (put-keeps i b (leb-true (itemSize i) (baySum b) t) .perm)) (i-cons d p)
+
+release-ok : (h : ℕ) (b : List Cell) → BayOk b → BayOk (release h b)
+release-ok h b p = rw (release-items h b) (items-remove h p)
+
+join-ok : (b c : List Cell) (n : ℕ) → BayOk b → BayOk c → BayOk (joinBays b (gap n c))
+join-ok b c n p q = rw (items-weld b (gap n c), items-gap n c) (items-append p q)
+
+pub clean-closed : Closed zoneBays Feeds Clean
+clean-closed = record {
+  low = λ z h hs c lim q g. each-weaken (λ b r. record { clean = r }) (every-low _ (put (newItem h c)) (λ b t p. put-ok (newItem h c) (zeros-data (up4 c) relocLimit (omega arith)) b t p) (g .clean));
+  high = λ z n b lim g. each-weaken (λ r q. record { clean = q })
+      (every-high _ (takeHigh n) (newFixed n) [] _ (z .len) (λ b t p. rw (cut-less n b (leb-true n (baySum b) t) .same) p) (λ end. new-fixed-ok n end b lim) i-nil (g .clean));
+  drop = λ z h g. each-weaken (λ e u. record { clean = every-map (release h) (release-ok h) (g .clean) }) (any (lookup zoneBays h z));
+  join = λ z p g. each-weaken (λ b q. record { clean = q }) (every-join _ _ (λ b c x r s. join-ok b c (fsize x) r s) (g .clean));
+  edit = λ z h f q fed g. record { clean = every-map (edit h f) (λ b p. rw (edit-items h f b) (items-map (alter h f) (alter-data h f (feed-data relocLimit f q fed)) p)) (g .clean) };
+  edit-fixed = λ z p f q fed g. record { clean = every-fixed (alterFixed p f) (alter-fixed-ok p f q fed) (g .clean) };
+  resize = λ z h a q g. each-weaken (λ e d lim. each-weaken (λ b r. record { clean = r })
+      (each-orElse (every-low (own zoneBays h a) (reshape h a) (λ b t p. rw (own-shaped h a b t .same) (items-map (alter h (sized a)) (alter-data h (sized a) (λ l d. sized-data a relocLimit l lim (d .bytes))) p)) (g .clean))
+      (every-low _ (put (resized a e)) (λ b t p. put-ok (resized a e) (sized-data a relocLimit (e .bytes) lim (d .bytes)) b t p) (every-map (release h) (release-ok h) (g .clean)))))
+      (every-find ItemOk (λ (b : List Cell). get h (items b)) (λ b p. items-get h p) (g .clean));
+  compactBay = λ z g. record { clean = every-map compactBay (λ b p. rw (tidy-items b) p) (g .clean) };
+  grow = λ z n q l m g. record { clean = every-last _ (λ p. join-ok (lastS (z .bays)) [] n p i-nil) (g .clean) };
+  takeHigh = λ z n q g. record { clean = every-last _ (λ p. rw (cut-less n (lastS (z .bays)) q .same) p) (g .clean) };
+}

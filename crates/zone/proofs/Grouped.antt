@@ -1,0 +1,126 @@
+-- From a line of splitBlocks to bays: what holds of a valid structure, grouped.
+use mathlib.Core.Path.{_≡_, refl, ap, ap₂, sym, _∙_, subst}
+use mathlib.Core.Bool.{Bool, true, false, cond, false≢true}
+use mathlib.Core.List.{List, [], _∷_, _++_, Permᴰ·refl}
+use Prim.Native.Nat.{ℕ, zero, suc, _+_, _-_, _*_, _/_, _%_, _≤_, _<_}
+use native.Mathlib.Omega.{arith}
+use lib.ListN.{length}
+use Rattle.format.proofs.Count.{occurs, offsets}
+use Rattle.structure.specs.Structure.{Structure, Block, free, fixed, reloc, sizes, count, start, len}
+use Rattle.structure.proofs.Valid.{handlesOf, Tiled, Valid}
+use Rattle.zone.specs.Bays.{Bays, last, more, AllS}
+use Rattle.zone.proofs.BaysLaws.{Like, like-last, like-more}
+use Rattle.zone.specs.Bay.{Item, itemSize, Cell, free as gapCell, held, baySize, items}
+use Rattle.zone.proofs.Sound as Sound
+use Rattle.zone.proofs.Sound.{Sound, s-nil, s-end, s-free, s-held}
+use Rattle.zone.specs.Calls as Calls
+use Rattle.zone.specs.Calls.{Fixed, fsize, Call, Out, step}
+use Rattle.zone.proofs.BayKinds.{Room, room, zoneBays, ledgerBays}
+use Rattle.zone.proofs.Simulation.{sim, alike, step-same, same-next}
+use Rattle.zone.proofs.Agreement.{Fits, Equal, link, agree}
+use Rattle.zone.proofs.Ledger.{Matches}
+use Rattle.zone.proofs.Handles.{Owns, live, masters, owns-closed, single}
+use Rattle.zone.proofs.Places as Places
+use Rattle.zone.proofs.Places.{tile-last, tile-more, Placed, placed-closed}
+use Rattle.zone.proofs.Walk.{left, step-closed, step-kept, Fed}
+use Rattle.zone.proofs.Clean.{Every, e-last, e-more, Items, i-nil, i-cons, ItemOk, FixedOk, BayOk, Data, Clean, Feeds, clean-closed}
+use Rattle.zone.proofs.Trace.{Bounded, bounded-closed, Long, long-closed, sound-of}
+use Rattle.zone.specs.Group.{inFront, group, flatBay, flatten}
+use Rattle.zone.proofs.GroupLaws.{flatten-group, group-flatten}
+use Rattle.zone.specs.Meaning.{Zone, inBays, inLine}
+use Rattle.zone.proofs.Keep.{Whole, live-strip, occurs-same, masters-same}
+
+pub line-bays : (buf : ℕ) (s : Structure) → inLine (inBays buf s) ≡ s
+line-bays buf s = λ i. record { links = s .links; blocks = flatten-group (start s) (s .blocks) i }
+
+-- ---- places
+
+front-free : (n : ℕ) {p end : ℕ} {s : Bays (List Cell) Fixed} → Places.Tiled (p + n) s end → Places.Tiled p (inFront (gapCell n) s) end
+front-free n {p} (tile-last {end = end} {b = b} e) = tile-last {p = p} {end = end} {b = gapCell n ∷ b} (omega arith)
+front-free n {p} (tile-more {b = b} {x = x} e t) = tile-more {p = p} {b = gapCell n ∷ b} {x = x} (omega arith) t
+
+front-held : (d : Item) {p end : ℕ} {s : Bays (List Cell) Fixed} → Places.Tiled (p + itemSize d) s end → Places.Tiled p (inFront (held d) s) end
+front-held d {p} (tile-last {end = end} {b = b} e) = tile-last {p = p} {end = end} {b = held d ∷ b} (omega arith)
+front-held d {p} (tile-more {b = b} {x = x} e t) = tile-more {p = p} {b = held d ∷ b} {x = x} (omega arith) t
+
+placed-group : (p end : ℕ) (bs : List Block) → p + sizes bs ≡ end → Places.Tiled p (group p bs) end
+unfolding sizes
+placed-group p end [] e = tile-last {p = p} {end = end} {b = []} (omega arith)
+placed-group p end (free n ∷ bs) e = front-free n (placed-group (p + n) end bs (omega arith))
+placed-group p end (reloc h d ∷ bs) e = front-held (record { handle = h; bytes = d }) (placed-group (p + (4 + length d)) end bs (omega arith))
+placed-group p end (fixed d ∷ bs) e = tile-more {p = p} {b = []} {x = record { place = p; bytes = d }} (omega arith) (placed-group (p + (2 + length d)) end bs (omega arith))
+
+-- ---- soundness
+
+sound-held : (e : Item) → Sound.Block (itemSize e) → (s : Bays (List Cell) Fixed) → AllS Sound s → AllS Sound (inFront (held e) s)
+sound-held e b (last c) d = s-held b d
+sound-held e b (more c x s) d = (s-held b (d .0), d .1)
+
+sound-both : (n : ℕ) (e : Item) → Sound.Block n → Sound.Block (itemSize e) → (s : Bays (List Cell) Fixed) → AllS Sound s → AllS Sound (inFront (gapCell n) (inFront (held e) s))
+sound-both n e k b (last c) d = s-free k (s-held b d)
+sound-both n e k b (more c x s) d = (s-free k (s-held b (d .0)), d .1)
+
+-- with a free block in front, where none is before
+sound-group : (prev : Bool) (p : ℕ) (bs : List Block) → Tiled prev bs
+    → AllS Sound (group p bs) × (prev ≡ true → (n : ℕ) → Sound.Block n → AllS Sound (inFront (gapCell n) (group p bs)))
+sound-group prev p [] t = (s-nil, λ e n b. s-end b)
+sound-group prev p (free n ∷ bs) t = (sound-group true (p + n) bs (t .4) .1 refl n (omega (arith, t .1, t .2)), λ e. absurd (false≢true (sym (t .0) ∙ e)))
+sound-group prev p (reloc h d ∷ bs) t =
+    let i : Item = record { handle = h; bytes = d } in
+    let r = sound-group false (p + (4 + length d)) bs (t .3) .0 in
+    let k : Sound.Block (4 + length d) = omega (arith, t .0) in
+    (sound-held i k (group (p + (4 + length d)) bs) r, λ e n b. sound-both n i b k (group (p + (4 + length d)) bs) r)
+sound-group prev p (fixed d ∷ bs) t =
+    let r = sound-group false (p + (2 + length d)) bs (t .3) .0 in
+    ((s-nil, r), λ e n b. (s-end b, r))
+
+-- ---- data
+
+clean-free : (n : ℕ) {s : Bays (List Cell) Fixed} → Every BayOk FixedOk s → Every BayOk FixedOk (inFront (gapCell n) s)
+clean-free n (e-last i) = e-last i
+clean-free n (e-more i q r) = e-more i q r
+
+clean-held : (e : Item) → ItemOk e → {s : Bays (List Cell) Fixed} → Every BayOk FixedOk s → Every BayOk FixedOk (inFront (held e) s)
+clean-held e d (e-last i) = e-last (i-cons d i)
+clean-held e d (e-more i q r) = e-more (i-cons d i) q r
+
+clean-group : (prev : Bool) (p : ℕ) (bs : List Block) → Tiled prev bs → Every BayOk FixedOk (group p bs)
+clean-group prev p [] t = e-last i-nil
+clean-group prev p (free n ∷ bs) t = clean-free n (clean-group true (p + n) bs (t .4))
+clean-group prev p (reloc h d ∷ bs) t = clean-held (record { handle = h; bytes = d }) (record { bytes = t .2; short = t .1 }) (clean-group false (p + (4 + length d)) bs (t .3))
+clean-group prev p (fixed d ∷ bs) t = e-more i-nil (record { holds = record { bytes = t .2; short = t .1 }; by4 = t .0 }) (clean-group false (p + (2 + length d)) bs (t .3))
+
+pub whole-bays : (buf : ℕ) (s : Structure) → Valid s → len s ≤ buf → Whole (inBays buf s)
+whole-bays buf s v l = record {
+  owned = record { owns = λ h. omega (arith, live-strip h (group (start s) (s .blocks)), ap (λ (bs : List Block). occurs h (handlesOf bs)) (flatten-group (start s) (s .blocks)), occurs-same h (s .links), masters-same (count s) h, v .owned h) };
+  placed = record { tiled = placed-group (start s) (len s) (s .blocks) refl };
+  bounded = record { within = l; limit = v .short; few = v .few };
+  sound = sound-group false (start s) (s .blocks) (v .tiled) .0;
+  clean = record { clean = clean-group false (start s) (s .blocks) (v .tiled) };
+}
+
+-- ---- every call keeps it
+
+-- the ledger that a zone shows
+ledgerS : Bays (List Cell) Fixed → Bays Room Fixed
+ledgerS (last b) = last (room (baySize b) (items b))
+ledgerS (more b x s) = more (room (baySize b) (items b)) x (ledgerS s)
+
+shows-self : (s : Bays (List Cell) Fixed) → AllS Sound s → Every BayOk FixedOk s → Like Fits Equal s (ledgerS s)
+unfolding ledgerS
+shows-self (last b) d (e-last i) = like-last (record { size = refl; perm = Permᴰ·refl _; sound = d })
+shows-self (more b x s) d (e-more i q r) = like-more {x = x} {y = x} (record { size = refl; perm = Permᴰ·refl _; sound = d .0 }) (record { equal = refl; block = omega (arith, q .by4) }) (shows-self s (d .1) r)
+
+pub whole-step : (c : Call) (z : Zone) → Fed Feeds c → Whole z → Whole ((step zoneBays c z) .next)
+whole-step c z f w =
+    let r = same-next zoneBays ledgerBays link agree (step-same zoneBays ledgerBays link agree (alike c) (single z (w .owned)) (sim (shows-self (z .bays) (w .sound) (w .clean .clean)))) in
+    record {
+      owned = left (step-kept zoneBays Owns owns-closed c z (w .owned));
+      placed = left (step-kept zoneBays Placed placed-closed c z (w .placed));
+      bounded = left (step-kept zoneBays Bounded bounded-closed c z (w .bounded));
+      sound = sound-of _ _ r;
+      clean = left (step-closed zoneBays Feeds Clean clean-closed c z f (w .clean));
+    }
+
+pub same-buffer : (c : Call) (z : Zone) → ((step zoneBays c z) .next) .buf ≡ z .buf
+same-buffer c z = left (step-kept zoneBays (Long (z .buf)) (long-closed (z .buf)) c z (record { long = refl })) .long

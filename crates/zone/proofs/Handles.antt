@@ -1,0 +1,176 @@
+-- Every master is either a live block's or in the chain, and once: kept by each call.
+use mathlib.Core.Path.{_≡_, refl, ap, ap₂, sym, _∙_, subst}
+use mathlib.Core.Bool.{Bool, true, false, cond, _&&_}
+use mathlib.Core.Option.{Option, none, some}
+use mathlib.Core.List.{List, [], _∷_, _++_, map, append-nil}
+use Prim.Native.Nat.{ℕ, zero, suc, _+_, _-_, _*_, _/_, _%_, _≤_, _<_, max, min}
+use native.Mathlib.Omega.{arith}
+use lib.ListN.{length}
+use lib.Seq.{sets}
+use lib.Dec.{leb, ltb, eqb}
+use borrow.Author.Tests.{leb-true, eqb-true, eqb-false, eq-eqb, ne-eqb}
+use Rattle.zone.specs.Bays.{Bays, last, more, over, onLow, onHigh, onJoin, mapS, onFixed, onLast, findS, findF, sumS, maxS, lastS, AllS}
+use Rattle.zone.specs.Bay.{is, Item, itemSize, remove, alter, get, count, Cell, free, held, baySum, items, gap, joinBays, compactBay, put, takeHigh, release, edit, reshape, sized, resized}
+use Rattle.zone.proofs.BayLaws.{Each, nothing, just, each-cond, put-keeps, Keeps, Less, cut-less, tidy-items, items-weld, items-gap, release-items, edit-items, perm-count, cond-ap}
+use Rattle.zone.proofs.Sums.{each-weaken, each-and, each-orElse, find-each, onLow-sum, onHigh-sum, onJoin-sum, mapS-sum, mapS-zero, onFixed-sum, onLast-sum, sum-parts, find-sum}
+use Rattle.zone.proofs.Walk.{Closed, Whatever}
+use Rattle.zone.proofs.Own.{own-shaped}
+use Rattle.zone.proofs.Resize.{Shaped}
+use Rattle.zone.specs.Calls.{alterFixed, up4, Fixed, fixedHeader, fsize, pointer, BayKind, State, Answer, Out, Call, allocate-relocatable, allocate-fixed, free-handle, free-pointer, read, write, size, compact, sums, enlarge, shrink, answers, refusal, refuse, done, orRefuse, onTop, withBays, lookup, own, reaches, newItem, newFixed, placeLow, placeHigh, joinAt, allocate, allocateFixed, freeHandle, freePointer, sizeOf, compactAll, totalsOf, enlargeBy, shrinkBy, step, initial, run, after, handlesFrom}
+use Rattle.zone.proofs.BayKinds.{zoneBays}
+
+abbrev pub Zone : Type 0
+Zone = State (List Cell)
+
+abbrev pub occurs : ℕ → List ℕ → ℕ
+occurs h [] = 0
+occurs h (k ∷ ks) = cond (eqb h k) (suc (occurs h ks)) (occurs h ks)
+
+abbrev pub live : ℕ → Bays (List Cell) Fixed → ℕ
+live h s = sumS (λ (b : List Cell). count h (items b)) s
+
+-- how often h is a master's offset
+abbrev pub masters : ℕ → ℕ → ℕ
+masters m h = occurs h (handlesFrom 16 m)
+
+-- each master is live or in the chain, and once
+pub record Owns (z : Zone) : Type 0 where
+  pub owns : (h : ℕ) → live h (z .bays) + occurs h (z .chain) ≡ masters (z .m) h
+
+-- the masters are distinct
+pub occurs-below : (h k n : ℕ) → h < k → occurs h (handlesFrom k n) ≡ 0
+occurs-below h k zero l = refl
+occurs-below h k (suc n) l = rw (ne-eqb h k (λ e. omega arith)) (occurs-below h (k + 4) n (omega arith))
+
+pub occurs-once : (h k n : ℕ) → occurs h (handlesFrom k n) ≤ 1
+occurs-once h k zero = omega arith
+occurs-once h k (suc n) = go (eqb h k) refl (occurs-once h (k + 4) n)
+  where
+    go : (t : Bool) → eqb h k ≡ t → occurs h (handlesFrom (k + 4) n) ≤ 1 → cond t (suc (occurs h (handlesFrom (k + 4) n))) (occurs h (handlesFrom (k + 4) n)) ≤ 1
+    go true e l = omega (arith, occurs-below h (k + 4) n (omega (arith, eqb-true h k e)))
+    go false e l = l
+
+-- counts after each change of a bay
+count-append : (h : ℕ) (a b : List Item) → count h (a ++ b) ≡ count h a + count h b
+count-append h [] b = omega arith
+count-append h (e ∷ a) b = go (is h e) (count-append h a b)
+  where
+    go : (t : Bool) → count h (a ++ b) ≡ count h a + count h b → cond t (suc (count h (a ++ b))) (count h (a ++ b)) ≡ cond t (suc (count h a)) (count h a) + count h b
+    go true q = omega arith
+    go false q = q
+
+count-remove-same : (h : ℕ) (a : List Item) → count h (remove h a) ≡ 0
+count-remove-same h [] = refl
+count-remove-same h (e ∷ a) = go (is h e) refl (count-remove-same h a)
+  where
+    go : (t : Bool) → is h e ≡ t → count h (remove h a) ≡ 0 → count h (cond t (remove h a) (e ∷ remove h a)) ≡ 0
+    go true q r = r
+    go false q r = rw q r
+
+count-remove-other : (g h : ℕ) (a : List Item) → (g ≡ h → ⊥) → count g (remove h a) ≡ count g a
+count-remove-other g h [] n = refl
+count-remove-other g h (e ∷ a) n = go (is h e) refl (count-remove-other g h a n)
+  where
+    go : (t : Bool) → is h e ≡ t → count g (remove h a) ≡ count g a → count g (cond t (remove h a) (e ∷ remove h a)) ≡ count g (e ∷ a)
+    go true q r = rw (ne-eqb g (e .handle) (λ k. n (k ∙ sym (eqb-true h (e .handle) q)))) r
+    go false q r = rw r
+
+alter-handle : (h : ℕ) (f : List ℕ → List ℕ) (e : Item) → (alter h f e) .handle ≡ e .handle
+alter-handle h f e = go (is h e)
+  where
+    go : (t : Bool) → (cond t (record { handle = e .handle; bytes = f (e .bytes) }) e) .handle ≡ e .handle
+    go true = refl
+    go false = refl
+
+count-alter : (g h : ℕ) (f : List ℕ → List ℕ) (a : List Item) → count g (map (alter h f) a) ≡ count g a
+count-alter g h f [] = refl
+count-alter g h f (e ∷ a) = rw (alter-handle h f e, count-alter g h f a)
+
+get-count : (h : ℕ) (a : List Item) → Each (λ (e : Item). 1 ≤ count h a) (get h a)
+get-count h [] = nothing
+get-count h (e ∷ a) = go (is h e) (get-count h a)
+  where
+    go : (t : Bool) → Each (λ (e : Item). 1 ≤ count h a) (get h a) → Each (λ (e : Item). 1 ≤ cond t (suc (count h a)) (count h a)) (cond t (some e) (get h a))
+    go true q = just (omega arith)
+    go false q = q
+
+get-its : (h : ℕ) (a : List Item) → Each (λ (e : Item). h ≡ e .handle) (get h a)
+get-its h [] = nothing
+get-its h (e ∷ a) = each-cond (is h e) (λ q. just (eqb-true h (e .handle) q)) (get-its h a)
+
+each-all : {A : Type 0} {P : ℕ → A → Type 0} {o : Option A} → ((k : ℕ) → Each (P k) o) → Each (λ (a : A). (k : ℕ) → P k a) o
+each-all {o = none} f = nothing
+each-all {o = some a} f = just (λ k. one (f k))
+  where
+    one : {P : _ → Type 0} → Each P (some a) → P a
+    one (just p) = p
+
+cond-add : (t : Bool) (n : ℕ) → cond t (suc n) n ≡ cond t 1 0 + n
+cond-add true n = omega arith
+cond-add false n = omega arith
+
+module _ where
+  pub single : (z : Zone) → Owns z → AllS (λ (b : List Cell). (h : ℕ) → count h (items b) ≤ 1) (z .bays)
+  single z g = all (z .bays) (λ h. sum-parts (λ (b : List Cell). count h (items b)) 1 (z .bays) (omega (arith, g .owns h, occurs-once h 16 (z .m))))
+    where
+      all : (s : Bays (List Cell) Fixed) → ((h : ℕ) → AllS (λ (b : List Cell). count h (items b) ≤ 1) s) → AllS (λ (b : List Cell). (h : ℕ) → count h (items b) ≤ 1) s
+      all (last b) f = f
+      all (more b x s) f = ((λ h. f h .0), all s (λ h. f h .1))
+
+  -- an item found by its handle
+  pub record Found (h : ℕ) (z : Zone) (e : Item) : Type 0 where
+    pub its : h ≡ e .handle
+    pub once-live : 1 ≤ live h (z .bays)
+
+  -- what became of the live handles
+  abbrev Lives : (ℕ → ℕ) → Bays (List Cell) Fixed → Bays (List Cell) Fixed → Type 0
+  Lives f s u = (k : ℕ) → live k u ≡ f k + live k s
+
+  low-lives : (i : Item) (s : Bays (List Cell) Fixed) → Each (Lives (λ k. cond (is k i) 1 0) s) (placeLow zoneBays i s)
+  low-lives i s = each-all (λ k. onLow-sum (λ (b : List Cell). count k (items b)) _ _ _ (λ b e. perm-count k (put-keeps i b (leb-true (itemSize i) (baySum b) e) .perm) ∙ cond-add (is k i) (count k (items b))) s)
+
+  high-lives : (n end : ℕ) (s : Bays (List Cell) Fixed) → Each (λ (r : Fixed × Bays (List Cell) Fixed). (k : ℕ) → live k (r .1) ≡ live k s) (placeHigh zoneBays n end s)
+  high-lives n end s = each-all (λ k. onHigh-sum (λ (b : List Cell). count k (items b)) (reaches zoneBays n) (takeHigh n) _ [] _ end refl (λ b e. ap (count k) (cut-less n b (leb-true n (baySum b) e) .same)) s)
+
+  join-lives : (p : ℕ) (s : Bays (List Cell) Fixed) → Each (λ (u : Bays (List Cell) Fixed). (k : ℕ) → live k u ≡ live k s) (joinAt zoneBays p s)
+  join-lives p s = each-all (λ k. onJoin-sum (λ (b : List Cell). count k (items b)) _ (λ (b : List Cell) (x : Fixed) (c : List Cell). joinBays b (gap (fsize x) c)) (λ b c x. ap (count k) (items-weld b (gap (fsize x) c) ∙ ap (items b ++_) (items-gap (fsize x) c)) ∙ count-append k (items b) (items c)) s)
+
+  -- the chain and the live handles stay
+  steady : (z : Zone) (n : ℕ) (u : Bays (List Cell) Fixed) → ((k : ℕ) → live k u ≡ live k (z .bays)) → Owns z → Owns (record { buf = z .buf; len = n; m = z .m; chain = z .chain; bays = u })
+  steady z n u r g = record { owns = λ k. ap (_+ occurs k (z .chain)) (r k) ∙ g .owns k }
+
+  dropped : (h : ℕ) (z : Zone) → Owns z → 1 ≤ live h (z .bays) → (k : ℕ) (t : Bool) → eqb k h ≡ t
+      → live k (mapS (release h) (z .bays)) + cond t (suc (occurs k (z .chain))) (occurs k (z .chain)) ≡ masters (z .m) k
+  dropped h z g q k true e = rw (eqb-true k h e) (omega (arith, mapS-zero (λ (b : List Cell). count h (items b)) (release h) (λ b. ap (count h) (release-items h b) ∙ count-remove-same h (items b)) (z .bays), g .owns h, occurs-once h 16 (z .m)))
+  dropped h z g q k false e = ap (_+ occurs k (z .chain)) (mapS-sum _ (λ (b : List Cell). count k (items b)) (release h) (λ b. ap (count k) (release-items h b) ∙ count-remove-other k h (items b) (eqb-false k h e)) (z .bays)) ∙ g .owns k
+
+  -- the item found is dropped and put again
+  moved : (h : ℕ) (z : Zone) → Owns z → (e : Item) → Found h z e → (u : Bays (List Cell) Fixed)
+      → Lives (λ k. cond (is k e) 1 0) (mapS (release h) (z .bays)) u → (k : ℕ) → live k u ≡ live k (z .bays)
+  moved h z g e f u r k = go (eqb k h) refl (rw (← f .its) at (r k))
+    where
+      go : (t : Bool) → eqb k h ≡ t → live k u ≡ cond t 1 0 + live k (mapS (release h) (z .bays)) → live k u ≡ live k (z .bays)
+      go true q l = omega (arith, dropped h z g (f .once-live) k true q, g .owns k)
+      go false q l = omega (arith, dropped h z g (f .once-live) k false q, g .owns k)
+
+  pub found : (h : ℕ) (z : Zone) → Each (Found h z) (lookup zoneBays h z)
+  found h z = each-weaken (λ e q. record { its = q .0; once-live = q .1 })
+      (each-and (find-each (λ (e : Item). h ≡ e .handle) (λ (b : List Cell). get h (items b)) (λ b. get-its h (items b)) (z .bays))
+      (find-sum (λ (b : List Cell). get h (items b)) (λ (b : List Cell). count h (items b)) (λ b. get-count h (items b)) (z .bays)))
+
+  own-lives : (h a : ℕ) (s : Bays (List Cell) Fixed) → Each (λ (u : Bays (List Cell) Fixed). (k : ℕ) → live k u ≡ live k s) (onLow (own zoneBays h a) (reshape h a) s)
+  own-lives h a s = each-all (λ k. each-weaken (λ u q. omega (arith, q)) (onLow-sum (λ (b : List Cell). count k (items b)) 0 (own zoneBays h a) (reshape h a) (λ b t. ap (count k) (own-shaped h a b t .same) ∙ count-alter k h (sized a) (items b) ∙ omega arith) s))
+
+  pub owns-closed : Closed zoneBays Whatever Owns
+  owns-closed = record {
+    low = λ z h hs c lim q g. each-weaken (λ b r. record { owns = λ k. omega (arith, r k, g .owns k, cond-add (eqb k h) (occurs k hs), ap (occurs k) q) }) (low-lives (newItem h c) (z .bays));
+    high = λ z n b lim g. each-weaken (λ r q. steady z (z .len) (r .1) q g) (high-lives n (z .len) (z .bays));
+    drop = λ z h g. each-weaken (λ e f. record { owns = λ k. dropped h z g (f .once-live) k (eqb k h) refl }) (found h z);
+    join = λ z p g. each-weaken (λ b q. steady z (z .len) b q g) (join-lives p (z .bays));
+    edit = λ z h f q fed g. steady z (z .len) _ (λ k. mapS-sum _ (λ (b : List Cell). count k (items b)) (edit h f) (λ b. ap (count k) (edit-items h f b) ∙ count-alter k h f (items b)) (z .bays)) g;
+    edit-fixed = λ z p f q fed g. steady z (z .len) _ (λ k. onFixed-sum (λ (b : List Cell). count k (items b)) (alterFixed p f) (z .bays)) g;
+    resize = λ z h a q g. each-weaken (λ e f lim. each-weaken (λ b r. steady z (z .len) b r g) (each-orElse (own-lives h a (z .bays)) (each-weaken (λ u r. moved h z g e f u r) (low-lives (resized a e) (mapS (release h) (z .bays)))))) (found h z);
+    compactBay = λ z g. steady z (z .len) _ (λ k. mapS-sum _ (λ (b : List Cell). count k (items b)) compactBay (λ b. ap (count k) (tidy-items b)) (z .bays)) g;
+    grow = λ z n q l m g. steady z _ _ (λ k. onLast-sum (λ (b : List Cell). count k (items b)) _ (z .bays) (ap (count k) (items-weld (lastS (z .bays)) (gap n []) ∙ ap (items (lastS (z .bays)) ++_) (items-gap n []) ∙ append-nil (items (lastS (z .bays)))))) g;
+    takeHigh = λ z n q g. steady z _ _ (λ k. onLast-sum (λ (b : List Cell). count k (items b)) _ (z .bays) (ap (count k) (cut-less n (lastS (z .bays)) q .same))) g;
+  }

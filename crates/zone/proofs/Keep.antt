@@ -1,0 +1,158 @@
+-- The structures of the codec and those of the calls: what holds of the one holds of the other.
+use mathlib.Core.Path.{_≡_, refl, ap, ap₂, sym, _∙_, subst}
+use mathlib.Core.Bool.{Bool, true, false, cond}
+use mathlib.Core.Option.{Option, none, some, Option·getD}
+use mathlib.Core.List.{List, [], _∷_, _++_, map}
+use Prim.Native.Nat.{ℕ, zero, suc, _+_, _-_, _*_, _/_, _%_, _≤_, _<_}
+use native.Mathlib.Omega.{arith}
+use native.Mathlib.Nat.{add-zero, add-assoc}
+use lib.ListN.{length, length-append}
+use lib.Dec.{eqb, leb}
+use borrow.Author.Tests.{eqb-true, eqb-false, eq-eqb, ne-eqb}
+use Rattle.bigendian.specs.BigEndian.{Bytes}
+use Rattle.format.proofs.Count.{one, occurs, offsets, All, sumOver, sum-occurs, one-same, one-other, one-comm, length-offsets, occurs-append}
+use Rattle.structure.proofs.Round.{offset-le}
+use Rattle.structure.specs.Structure.{Structure, Block, free, fixed, reloc, sizes, relocCount, count, start, len}
+use Rattle.structure.proofs.Valid.{handlesOf, Tiled, Valid}
+use Rattle.zone.specs.Bays.{Bays, last, more, sumS, AllS}
+use Rattle.zone.specs.Bay as Bay
+use Rattle.zone.specs.Bay.{Item, is, itemSize, Cell, free as gapCell, held, baySize, items}
+use Rattle.zone.proofs.Sound as Sound
+use Rattle.zone.proofs.Sound.{Sound, s-nil, s-end, s-free, s-held}
+use Rattle.zone.specs.Calls.{Fixed, fsize, handlesFrom}
+use Rattle.zone.proofs.Handles as Handles
+use Rattle.zone.proofs.Handles.{Owns, live, masters}
+use Rattle.zone.proofs.Places as Places
+use Rattle.zone.proofs.Places.{tile-last, tile-more, Placed}
+use Rattle.zone.proofs.Clean.{Every, e-last, e-more, Items, i-nil, i-cons, ItemOk, FixedOk, BayOk, Data, Clean}
+use Rattle.zone.proofs.Trace.{Bounded}
+use Rattle.zone.specs.Group.{group, flatBay, flatten}
+use Rattle.zone.proofs.GroupLaws.{flatten-group, group-flatten}
+use Rattle.zone.specs.Meaning.{Zone, inBays, inLine}
+
+-- ---- sizes
+
+size-bay : (cs : List Cell) (r : List Block) → sizes (flatBay cs r) ≡ baySize cs + sizes r
+unfolding sizes
+size-bay [] r = omega arith
+size-bay (gapCell n ∷ cs) r = omega (arith, size-bay cs r)
+size-bay (held e ∷ cs) r = omega (arith, size-bay cs r)
+
+size-strip : {p end : ℕ} {s : Bays (List Cell) Fixed} → Places.Tiled p s end → p + sizes (flatten s) ≡ end
+unfolding sizes
+size-strip (tile-last {b = b} e) = omega (arith, size-bay b [])
+size-strip (tile-more {b = b} {x = x} {s = s} e t) = omega (arith, size-bay b (fixed (x .bytes) ∷ flatten s), size-strip t)
+
+-- ---- handles
+
+pub occurs-same : (h : ℕ) (ks : List ℕ) → Handles.occurs h ks ≡ occurs h ks
+unfolding occurs
+occurs-same h [] = refl
+occurs-same h (k ∷ ks) = go (eqb h k) (occurs-same h ks)
+  where
+    go : (t : Bool) → Handles.occurs h ks ≡ occurs h ks → cond t (suc (Handles.occurs h ks)) (Handles.occurs h ks) ≡ cond t 1 0 + occurs h ks
+    go true e = omega arith
+    go false e = omega arith
+
+pub offsets-same : (h n : ℕ) → handlesFrom h n ≡ offsets h n
+unfolding offsets
+offsets-same h zero = refl
+offsets-same h (suc n) = ap (h ∷_) (offsets-same (h + 4) n)
+
+pub masters-same : (m h : ℕ) → masters m h ≡ occurs h (offsets 16 m)
+masters-same m h = occurs-same h (handlesFrom 16 m) ∙ ap (occurs h) (offsets-same 16 m)
+
+live-bay : (h : ℕ) (cs : List Cell) (r : List Block) → occurs h (handlesOf (flatBay cs r)) ≡ Bay.count h (items cs) + occurs h (handlesOf r)
+unfolding occurs handlesOf
+live-bay h [] r = omega arith
+live-bay h (gapCell n ∷ cs) r = live-bay h cs r
+live-bay h (held e ∷ cs) r = go (eqb h (e .handle)) (live-bay h cs r)
+  where
+    go : (t : Bool) → occurs h (handlesOf (flatBay cs r)) ≡ Bay.count h (items cs) + occurs h (handlesOf r)
+        → cond t 1 0 + occurs h (handlesOf (flatBay cs r)) ≡ cond t (suc (Bay.count h (items cs))) (Bay.count h (items cs)) + occurs h (handlesOf r)
+    go true e = omega arith
+    go false e = omega arith
+
+pub live-strip : (h : ℕ) (s : Bays (List Cell) Fixed) → occurs h (handlesOf (flatten s)) ≡ live h s
+unfolding occurs handlesOf
+live-strip h (last b) = live-bay h b [] ∙ add-zero _
+live-strip h (more b x s) = live-bay h b (fixed (x .bytes) ∷ flatten s) ∙ ap (Bay.count h (items b) +_) (live-strip h s)
+
+length-handles : (bs : List Block) → length (handlesOf bs) ≡ relocCount bs
+unfolding handlesOf relocCount
+length-handles [] = refl
+length-handles (free n ∷ bs) = length-handles bs
+length-handles (fixed d ∷ bs) = length-handles bs
+length-handles (reloc h d ∷ bs) = ap suc (length-handles bs)
+
+-- ---- as many handles as masters
+
+each-of : (P : ℕ → Type 0) (xs : List ℕ) → ((x : ℕ) → 0 < occurs x xs → P x) → All P xs
+unfolding occurs
+each-of P [] f = tt
+each-of P (x ∷ xs) f = (f x (omega (arith, one-same x x refl)), each-of P xs (λ y l. f y (omega arith)))
+
+sum-same : (ms : List ℕ) (f g : ℕ → ℕ) → ((h : ℕ) → f h ≡ g h) → sumOver ms f ≡ sumOver ms g
+unfolding sumOver
+sum-same [] f g e = refl
+sum-same (m ∷ ms) f g e = omega (arith, e m, sum-same ms f g e)
+
+-- a list that has each of the n offsets once, and nothing else, has n elements
+counted : (n : ℕ) (xs : List ℕ) → ((h : ℕ) → occurs h xs ≡ occurs h (offsets 16 n)) → length xs ≡ n
+counted n xs e =
+    sym (sum-occurs (offsets 16 n) xs (each-of _ xs (λ x l. omega (arith, e x, offset-le x 16 n))))
+    ∙ sum-same (offsets 16 n) (λ h. occurs h xs) (λ h. occurs h (offsets 16 n)) e
+    ∙ sum-occurs (offsets 16 n) (offsets 16 n) (each-of _ (offsets 16 n) (λ x l. omega (arith, offset-le x 16 n)))
+    ∙ length-offsets 16 n
+
+-- ---- from bays to a line
+
+-- what is known of a zone between calls
+pub record Whole (z : Zone) : Type 0 where
+  pub owned : Owns z
+  pub placed : Placed z
+  pub bounded : Bounded z
+  pub sound : AllS Sound (z .bays)
+  pub clean : Clean z
+
+module _ (z : Zone) (w : Whole z) where
+  owns-line : (h : ℕ) → occurs h (handlesOf (flatten (z .bays))) + occurs h (z .chain) ≡ occurs h (offsets 16 (z .m))
+  owns-line h = omega (arith, live-strip h (z .bays), occurs-same h (z .chain), masters-same (z .m) h, w .owned .owns h)
+
+  pub count-line : count (inLine z) ≡ z .m
+  count-line =
+      omega (
+        arith,
+        length-handles (flatten (z .bays)),
+        length-append (handlesOf (flatten (z .bays))) (z .chain),
+        counted (z .m) (handlesOf (flatten (z .bays)) ++ z .chain) (λ h. occurs-append h (handlesOf (flatten (z .bays))) (z .chain) ∙ owns-line h),
+      )
+
+  pub len-line : len (inLine z) ≡ z .len
+  len-line = omega (arith, count-line, size-strip (w .placed .tiled))
+
+  -- the bays are found again
+  pub bays-line : inBays (z .buf) (inLine z) ≡ z
+  bays-line = λ i. record { buf = z .buf; len = len-line i; m = count-line i; chain = z .chain; bays = same i }
+    where
+      same : group (start (inLine z)) (flatten (z .bays)) ≡ z .bays
+      same = ap (λ (m : ℕ). group (16 + 4 * m) (flatten (z .bays))) count-line ∙ group-flatten (w .placed .tiled)
+
+tiled-bay : {cs : List Cell} (r : List Block) → Sound cs → BayOk cs → baySize cs ≤ 1048576 → ((q : Bool) → Tiled q r) → Tiled false (flatBay cs r)
+tiled-bay r s-nil i l k = k false
+tiled-bay r (s-end b) i l k = (refl, omega (arith, b), b .by4, omega arith, k true)
+tiled-bay r (s-free b (s-held c s)) (i-cons d i) l k = (refl, omega (arith, b), b .by4, omega arith, (omega (arith, c), d .short, d .bytes, tiled-bay r s i (omega arith) k))
+tiled-bay r (s-held b s) (i-cons d i) l k = (omega (arith, b), d .short, d .bytes, tiled-bay r s i (omega arith) k)
+
+tiled-strip : {p end : ℕ} {s : Bays (List Cell) Fixed} → Places.Tiled p s end → end ≤ 1048576 → AllS Sound s → Every BayOk FixedOk s → Tiled false (flatten s)
+tiled-strip (tile-last e) l d (e-last i) = tiled-bay [] d i (omega arith) (λ q. tt)
+tiled-strip (tile-more {b = b} {x = x} {s = s} e t) l d (e-more i q r) =
+    tiled-bay (fixed (x .bytes) ∷ flatten s) (d .0) i (omega (arith, size-strip t)) (λ u. (q .by4, q .holds .short, q .holds .bytes, tiled-strip t l (d .1) r))
+
+pub valid-line : (z : Zone) → Whole z → Valid (inLine z)
+valid-line z w = record {
+  tiled = tiled-strip (w .placed .tiled) (w .bounded .limit) (w .sound) (w .clean .clean);
+  owned = λ h. owns-line z w h ∙ ap (λ (n : ℕ). occurs h (offsets 16 n)) (sym (count-line z w));
+  few = omega (arith, count-line z w, w .bounded .few);
+  short = omega (arith, len-line z w, w .bounded .limit);
+}

@@ -1,0 +1,123 @@
+-- The calls on bytes are the calls on bays, one after the other on one buffer.
+use mathlib.Core.Path.{_≡_, refl, ap, ap₂, sym, _∙_, subst}
+use mathlib.Core.Bool.{Bool, true, false, cond}
+use mathlib.Core.List.{List, [], _∷_, _++_}
+use Prim.Native.Nat.{ℕ, _+_, _-_, _*_, _%_, _≤_, _<_, max}
+use native.Mathlib.Omega.{arith}
+use lib.ListN.{length, take, drop, replicate, length-append, length-replicate, length-drop}
+use lib.Seq.{drop-at}
+use Rattle.bigendian.specs.BigEndian.{Bytes}
+use Rattle.format.specs.WellFormed.{wellFormed, lengthField}
+use Rattle.structure.specs.Structure.{Structure, len, encode, decode}
+use Rattle.structure.proofs.Valid.{Valid}
+use Rattle.structure.proofs.Round.{well-formed, decode-encode, length-is}
+use Rattle.structure.proofs.Sound.{valid}
+use Rattle.structure.proofs.Table.{encode-decode}
+use Rattle.zone.specs.Calls as Calls
+use Rattle.zone.specs.Calls.{Call, Answer, Out, step, run, after}
+use Rattle.zone.proofs.BayKinds.{Room, zoneBays, ledgerBays}
+use Rattle.zone.proofs.Walk.{Fed}
+use Rattle.zone.proofs.Clean.{Feeds}
+use Rattle.zone.proofs.Handles.{single}
+use Rattle.zone.proofs.Simulation.{alike, AnswerLike, Agreed, g-nil, g-cons, step-same, same-answer, same-next}
+use Rattle.zone.proofs.Agreement.{link, agree}
+use Rattle.zone.proofs.Ledger.{Matches, Equally}
+use Rattle.zone.specs.Meaning.{Zone, inBays, inLine, Result, replacing, outcome, callBytes, illFormed, runBytes, afterBytes}
+use Rattle.zone.proofs.Keep.{Whole, valid-line, len-line, bays-line}
+use Rattle.zone.proofs.Grouped.{line-bays, whole-bays, whole-step, same-buffer}
+
+-- the buffer holds the zone
+pub record Stored (bs : List ℕ) (z : Zone) : Type 0 where
+  pub split : bs ≡ encode (inLine z) ++ drop (z .len) bs
+  pub buffer : length bs ≡ z .buf
+
+module _ (bs : List ℕ) (z : Zone) (w : Whole z) (s : Stored bs z) where
+  pub stored-well : wellFormed bs ≡ true
+  stored-well = subst (λ (l : List ℕ). wellFormed l ≡ true) (sym (s .split)) (well-formed (inLine z) (valid-line z w) (drop (z .len) bs))
+
+  pub stored-decode : decode bs ≡ inLine z
+  stored-decode = ap decode (s .split) ∙ decode-encode (inLine z) (valid-line z w) (drop (z .len) bs)
+
+  pub stored-bays : inBays (length bs) (decode bs) ≡ z
+  stored-bays = ap₂ inBays (s .buffer) stored-decode ∙ bays-line z w
+
+  pub call-is : (c : Call) → callBytes c bs ≡ outcome bs (inLine z) (step zoneBays c z)
+  call-is c = λ i. cond (stored-well i) (outcome bs (stored-decode i) (step zoneBays c (stored-bays i))) (record { answer = illFormed c; bytes = bs })
+
+length-line : (z : Zone) → Whole z → length (encode (inLine z)) ≡ z .len
+length-line z w = length-is (inLine z) (valid-line z w) ∙ len-line z w
+
+pub stored-after : (bs : List ℕ) (z u : Zone) → Whole z → Whole u → u .buf ≡ z .buf → Stored bs z → Stored (replacing bs (inLine z) (inLine u)) u
+stored-after bs z u w v e s =
+    let rest : List ℕ = replicate (len (inLine z) - len (inLine u)) 0 ++ drop (max (len (inLine z)) (len (inLine u))) bs in
+    record {
+      split = ap (encode (inLine u) ++_) (sym (drop-at (encode (inLine u)) rest (u .len) (length-line u v)));
+      buffer =
+          length-append (encode (inLine u)) rest
+          ∙ ap₂ _+_ (length-line u v) (length-append (replicate (len (inLine z) - len (inLine u)) 0) (drop (max (len (inLine z)) (len (inLine u))) bs))
+          ∙ omega (arith, length-replicate {A = ℕ} (len (inLine z) - len (inLine u)) 0, length-drop (max (len (inLine z)) (len (inLine u))) bs, len-line z w, len-line u v, s .buffer, w .bounded, v .bounded);
+    }
+
+-- what is asked of the list's own bytes: what is written are bytes
+pub data AllFed : List Call → Type 0 where
+  f-nil : AllFed []
+  f-cons : {c : Call} {cs : List Call} → Fed Feeds c → AllFed cs → AllFed (c ∷ cs)
+
+-- what a list of calls on a buffer leaves
+pub record Ran (cs : List Call) (bs : List ℕ) (z : Zone) (l : Calls.State Room) : Type 0 where
+  pub answers : Agreed Equally cs (runBytes cs bs) (run ledgerBays cs l)
+  pub whole : Whole (after zoneBays cs z)
+  pub stored : Stored (afterBytes cs bs) (after zoneBays cs z)
+  pub matches : Matches (after zoneBays cs z) (after ledgerBays cs l)
+
+pub ran : (cs : List Call) (bs : List ℕ) (z : Zone) (l : Calls.State Room) → AllFed cs → Whole z → Stored bs z → Matches z l → Ran cs bs z l
+ran [] bs z l f w s r = record { answers = g-nil; whole = w; stored = s; matches = r }
+ran (c ∷ cs) bs z l (f-cons f fs) w s r =
+    let u : Zone = (step zoneBays c z) .next in
+    let q = step-same zoneBays ledgerBays link agree (alike c) (single z (w .owned)) r in
+    let w′ : Whole u = whole-step c z f w in
+    let k = call-is bs z w s c in
+    let s′ : Stored ((callBytes c bs) .bytes) u = rw k (stored-after bs z u w w′ (same-buffer c z) s) in
+    let like : AnswerLike Equally c ((callBytes c bs) .answer) ((step ledgerBays c l) .answer) = rw k (same-answer zoneBays ledgerBays link agree q) in
+    let n = ran cs ((callBytes c bs) .bytes) u ((step ledgerBays c l) .next) fs w′ s′ (same-next zoneBays ledgerBays link agree q) in
+    record { answers = g-cons like (n .answers); whole = n .whole; stored = n .stored; matches = n .matches }
+
+-- ---- any well-formed buffer, whatever call made it
+
+module _ (bs : List ℕ) (y : Bytes bs) (h : wellFormed bs ≡ true) where
+  abbrev zoneIn : Zone
+  zoneIn = inBays (length bs) (decode bs)
+
+  pub beyond : drop (len (decode bs)) bs ≡ drop (lengthField bs) bs
+  beyond =
+      ap (drop (len (decode bs))) (sym (encode-decode bs y h))
+      ∙ drop-at (encode (decode bs)) (drop (lengthField bs) bs) (len (decode bs)) (length-is (decode bs) (valid bs y h))
+
+  pub well-whole : Whole zoneIn
+  well-whole =
+      whole-bays (length bs) (decode bs) (valid bs y h)
+      (omega (arith, ap length (encode-decode bs y h), length-append (encode (decode bs)) (drop (lengthField bs) bs), length-is (decode bs) (valid bs y h)))
+
+  pub well-stored : Stored bs zoneIn
+  well-stored = record {
+    split = sym (encode-decode bs y h) ∙ ap₂ (λ (s : Structure) (t : List ℕ). encode s ++ t) (sym (line-bays (length bs) (decode bs))) (sym beyond);
+    buffer = refl;
+  }
+
+  -- a call that leaves the structure leaves every byte
+  pub same-bytes : replacing bs (decode bs) (inLine zoneIn) ≡ bs
+  same-bytes = ap (replacing bs (decode bs)) (line-bays (length bs) (decode bs)) ∙ ap (encode (decode bs) ++_) (none (len (decode bs)) ∙ beyond) ∙ encode-decode bs y h
+    where
+      none : (n : ℕ) → replicate (n - n) 0 ++ drop (max n n) bs ≡ drop n bs
+      none n = let a : n - n ≡ 0 = omega arith in let b : max n n ≡ n = omega arith in rw (a, b)
+
+  pub refused : (c : Call) → (step zoneBays c zoneIn) .next ≡ zoneIn → (callBytes c bs) .bytes ≡ bs
+  refused c e = rw h (ap (λ (z : Zone). replacing bs (decode bs) (inLine z)) e ∙ same-bytes)
+
+  -- the bytes that a call leaves are well-formed, and their structure is the one that the call says
+  pub call-well : (c : Call) → Fed Feeds c → wellFormed ((callBytes c bs) .bytes) ≡ true
+  call-well c f =
+      let u : Zone = (step zoneBays c zoneIn) .next in
+      let w′ : Whole u = whole-step c zoneIn f well-whole in
+      let s′ : Stored ((callBytes c bs) .bytes) u = rw (call-is bs zoneIn well-whole well-stored c) (stored-after bs zoneIn u well-whole w′ (same-buffer c zoneIn) well-stored) in
+      stored-well ((callBytes c bs) .bytes) u w′ s′

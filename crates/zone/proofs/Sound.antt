@@ -1,0 +1,103 @@
+-- A sound bay: sizes are multiples of 4 and not 0, and no two free blocks are neighbours. Each change of a bay keeps it.
+use mathlib.Core.Path.{_≡_, refl, ap, ap₂, sym, _∙_, subst}
+use mathlib.Core.Bool.{Bool, true, false, cond}
+use mathlib.Core.Option.{Option, none, some, Option·getD}
+use mathlib.Core.List.{List, [], _∷_, _++_, map}
+use Prim.Native.Nat.{ℕ, zero, suc, _+_, _-_, _*_, _/_, _%_, _≤_, _<_}
+use native.Mathlib.Omega.{arith}
+use lib.ListN.{length}
+use lib.Dec.{leb, ltb, eqb}
+use borrow.Author.Tests.{leb-true}
+use Rattle.zone.specs.Bays.{over}
+use Rattle.zone.specs.Bay.{is, Item, header, itemSize, total, remove, alter, Cell, free, held, baySize, baySum, items, merge, gap, packed, joinBays, compactBay, fit, put, trim, takeHigh, release, edit}
+use Rattle.zone.proofs.BayLaws.{Each, nothing, just, each-over, each-cond, each-getD, alter-size}
+
+pub record Block (n : ℕ) : Type 0 where
+  pub some-bytes : 0 < n
+  pub by4 : n % 4 ≡ 0
+
+pub data Sound : List Cell → Type 0 where
+  s-nil : Sound []
+  s-end : {n : ℕ} → Block n → Sound (free n ∷ [])
+  s-free : {n : ℕ} {e : Item} {cs : List Cell} → Block n → Sound (held e ∷ cs) → Sound (free n ∷ held e ∷ cs)
+  s-held : {e : Item} {cs : List Cell} → Block (itemSize e) → Sound cs → Sound (held e ∷ cs)
+
+pub gap-sound : (n : ℕ) {cs : List Cell} → n % 4 ≡ 0 → Sound cs → Sound (gap n cs)
+gap-sound zero q s = s
+gap-sound (suc n) q s-nil = s-end {n = suc n} (omega arith)
+gap-sound (suc n) q (s-end {n = k} b) = s-end {n = suc n + k} (omega (arith, b))
+gap-sound (suc n) q (s-free {n = k} b s) = s-free {n = suc n + k} (omega (arith, b)) s
+gap-sound (suc n) q (s-held b s) = s-free {n = suc n} (omega arith) (s-held b s)
+
+-- the items' sizes are sound
+pub data Sizes : List Item → Type 0 where
+  z-nil : Sizes []
+  z-cons : {e : Item} {es : List Item} → Block (itemSize e) → Sizes es → Sizes (e ∷ es)
+
+pub items-sizes : {cs : List Cell} → Sound cs → Sizes (items cs)
+items-sizes s-nil = z-nil
+items-sizes (s-end b) = z-nil
+items-sizes (s-free b s) = items-sizes s
+items-sizes (s-held b s) = z-cons b (items-sizes s)
+
+pub packed-sound : {es : List Item} {t : List Cell} → Sizes es → Sound t → Sound (packed es t)
+packed-sound z-nil s = s
+packed-sound (z-cons b z) s = s-held b (packed-sound z s)
+
+pub sum-by4 : {cs : List Cell} → Sound cs → baySum cs % 4 ≡ 0
+sum-by4 s-nil = refl
+sum-by4 (s-end b) = omega (arith, b)
+sum-by4 (s-free {n = n} {e = e} {cs = cs} b s) = let h : baySum (held e ∷ cs) % 4 ≡ 0 = sum-by4 s in omega (arith, b)
+sum-by4 (s-held b s) = sum-by4 s
+
+pub tidy-sound : {cs : List Cell} → Sound cs → Sound (compactBay cs)
+tidy-sound {cs} s = packed-sound (items-sizes s) (gap-sound (baySum cs) (sum-by4 s) s-nil)
+
+pub fit-sound : (e : Item) {cs : List Cell} → Block (itemSize e) → Sound cs → Each Sound (fit e cs)
+fit-sound e q s-nil = nothing
+fit-sound e q (s-end {n = n} b) = each-cond (leb (itemSize e) n) (λ h. just (s-held q (gap-sound (n - itemSize e) (omega (arith, leb-true (itemSize e) n h, b)) s-nil))) nothing
+fit-sound e q (s-free {n = n} {e = d} {cs = cs} b (s-held c s)) =
+    let r : Each (λ a. Sound (free n ∷ a)) (fit e (held d ∷ cs)) = each-over (held d ∷_) (λ a p. s-free b (s-held c p)) (fit-sound e q s) in
+    each-cond (leb (itemSize e) n) (λ h. just (s-held q (gap-sound (n - itemSize e) (omega (arith, leb-true (itemSize e) n h, b)) (s-held c s))))
+    (each-over (free n ∷_) (λ a p. p) r)
+fit-sound e q (s-held {e = d} b s) = each-over (held d ∷_) (λ a p. s-held b p) (fit-sound e q s)
+
+pub put-sound : (e : Item) {cs : List Cell} → Block (itemSize e) → itemSize e ≤ baySum cs → Sound cs → Sound (put e cs)
+put-sound e {cs} q h s =
+    each-getD (fit-sound e q s) (packed-sound (items-sizes s) (s-held q (gap-sound (baySum cs - itemSize e) (omega (arith, q, sum-by4 s)) s-nil)))
+
+pub trim-sound : (n : ℕ) {cs : List Cell} → n % 4 ≡ 0 → Sound cs → Each Sound (trim n cs)
+trim-sound n q s-nil = nothing
+trim-sound n q (s-end {n = k} b) = each-cond (leb n k) (λ h. just (gap-sound (k - n) (omega (arith, leb-true n k h, b)) s-nil)) nothing
+trim-sound n q (s-free {n = k} {e = d} {cs = cs} b (s-held c s)) =
+    let r : Each (λ a. Sound (free k ∷ a)) (trim n (held d ∷ cs)) = each-over (held d ∷_) (λ a p. s-free b (s-held c p)) (trim-sound n q s) in
+    each-over (free k ∷_) (λ a p. p) r
+trim-sound n q (s-held {e = d} b s) = each-over (held d ∷_) (λ a p. s-held b p) (trim-sound n q s)
+
+pub cut-sound : (n : ℕ) {cs : List Cell} → n % 4 ≡ 0 → n ≤ baySum cs → Sound cs → Sound (takeHigh n cs)
+cut-sound n {cs} q h s = each-getD (trim-sound n q s) (packed-sound (items-sizes s) (gap-sound (baySum cs - n) (omega (arith, sum-by4 s)) s-nil))
+
+cond-sound : (t : Bool) {a b : List Cell} → Sound a → Sound b → Sound (cond t a b)
+cond-sound true p q = p
+cond-sound false p q = q
+
+pub release-sound : (h : ℕ) {cs : List Cell} → Sound cs → Sound (release h cs)
+release-sound h s-nil = s-nil
+release-sound h (s-end {n = n} b) = gap-sound n (b .by4) s-nil
+release-sound h (s-free {n = n} b s) = gap-sound n (b .by4) (release-sound h s)
+release-sound h (s-held {e = e} b s) = cond-sound (is h e) (gap-sound (itemSize e) (b .by4) (release-sound h s)) (s-held b (release-sound h s))
+
+pub weld-sound : {cs t : List Cell} → Sound cs → Sound t → Sound (joinBays cs t)
+weld-sound s-nil r = r
+weld-sound (s-end {n = n} b) r = gap-sound n (b .by4) r
+weld-sound (s-free {n = n} b s) r = gap-sound n (b .by4) (weld-sound s r)
+weld-sound (s-held b s) r = s-held b (weld-sound s r)
+
+pub alter-block : (h : ℕ) (f : List ℕ → List ℕ) → ((l : List ℕ) → length (f l) ≡ length l) → (e : Item) → Block (itemSize e) → Block (itemSize (alter h f e))
+alter-block h f q e b = rw (alter-size h f e q) b
+
+pub edit-sound : (h : ℕ) (f : List ℕ → List ℕ) → ((l : List ℕ) → length (f l) ≡ length l) → {cs : List Cell} → Sound cs → Sound (edit h f cs)
+edit-sound h f q s-nil = s-nil
+edit-sound h f q (s-end b) = s-end b
+edit-sound h f q (s-free b (s-held {e = e} c s)) = s-free b (s-held (alter-block h f q e c) (edit-sound h f q s))
+edit-sound h f q (s-held {e = e} b s) = s-held (alter-block h f q e b) (edit-sound h f q s)

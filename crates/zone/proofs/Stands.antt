@@ -1,0 +1,159 @@
+-- Where bytes stand in the zone: each live handle's from the offset in its master, each allocate-fixed block's from its pointer.
+use mathlib.Core.Path.{_≡_, refl, ap, ap₂, sym, _∙_, subst}
+use mathlib.Core.Bool.{Bool, true, false, cond}
+use mathlib.Core.Option.{Option, none, some, Option·getD}
+use mathlib.Core.List.{List, [], _∷_, _++_, map, append-assoc, append-nil}
+use Prim.Native.Nat.{ℕ, zero, suc, _+_, _-_, _*_, _/_, _%_, _≤_, _<_}
+use native.Mathlib.Omega.{arith}
+use native.Mathlib.Nat.{add-assoc}
+use lib.ListN.{length, replicate, length-append, length-replicate, take, drop}
+use lib.Seq.{take-at, drop-at}
+use lib.Dec.{leb, ltb, eqb}
+use Rattle.zone.specs.Bays.{Bays, last, more, orElse, findS, AllS}
+use Rattle.zone.proofs.BaysLaws.{Both, absent, present, cond-both, orElse-both}
+use Rattle.zone.proofs.BayLaws.{Each, nothing, just}
+use Rattle.zone.specs.Bay.{is, Item, itemSize, get, Cell, free, held, baySize, items}
+use Rattle.zone.proofs.Sound.{Block, Sound, s-nil, s-end, s-free, s-held}
+use Rattle.zone.specs.Calls.{Fixed, fixedHeader, fsize, pointer, State, handlesFrom}
+use Rattle.zone.proofs.Handles.{Zone}
+use Rattle.zone.proofs.Places.{Tiled, tile-last, tile-more, Placed, firstBlock}
+use Rattle.zone.proofs.Bytes.{big, freeBytes, itemBytes, cellBytes, fixedHead, fixedBytes, blockBytes, whereIn, whereS, nextOf, masterOf, masterBytes, headerBytes, zoneBytes}
+
+pub record Stands (bs : List ℕ) (at : ℕ) (v : List ℕ) : Type 0 where
+  pub front : List ℕ
+  pub rest : List ℕ
+  pub split : bs ≡ front ++ (v ++ rest)
+  pub place : length front ≡ at
+
+-- so the bytes are read from there
+pub stands-read : {bs v : List ℕ} {at : ℕ} → Stands bs at v → take (length v) (drop at bs) ≡ v
+stands-read {v = v} s = rw (s .split) (rw (drop-at (s .front) (v ++ s .rest) _ (s .place)) (take-at v (s .rest) (length v) refl))
+
+pub stands-here : (v rest : List ℕ) → Stands (v ++ rest) 0 v
+stands-here v rest = record { front = []; rest = rest; split = refl; place = refl }
+
+pub stands-after : (xs : List ℕ) (n : ℕ) {bs v : List ℕ} {at : ℕ} → length xs ≡ n → Stands bs at v → Stands (xs ++ bs) (n + at) v
+stands-after xs n {v = v} q s = record { front = xs ++ s .front; rest = s .rest; split = ap (xs ++_) (s .split) ∙ sym (append-assoc xs (s .front) (v ++ s .rest)); place = omega (arith, length-append xs (s .front), s .place) }
+
+pub stands-before : {xs v : List ℕ} {at : ℕ} (bs : List ℕ) → Stands xs at v → Stands (xs ++ bs) at v
+stands-before {v = v} bs s = record { front = s .front; rest = s .rest ++ bs; split = ap (_++ bs) (s .split) ∙ simp append-assoc; place = s .place }
+
+pub length-big : (w n : ℕ) → length (big w n) ≡ w
+length-big zero n = refl
+length-big (suc w) n = ap suc (length-big w n)
+
+pub length-free : (n : ℕ) → Block n → length (freeBytes n) ≡ n
+length-free n b = simp (length-replicate) (omega (arith, b))
+
+pub length-cells : {cs : List Cell} → Sound cs → length (cellBytes cs) ≡ baySize cs
+length-cells s-nil = refl
+length-cells (s-end {n = n} b) = length-append (freeBytes n) [] ∙ ap (_+ 0) (length-free n b)
+length-cells (s-free {n = n} {e = e} {cs = cs} b s) = length-append (freeBytes n) (cellBytes (held e ∷ cs)) ∙ ap₂ _+_ (length-free n b) (length-cells s)
+length-cells (s-held {e = e} {cs = cs} b s) = simp (length-append) (omega (arith, length-cells s))
+
+-- an item's bytes stand where its handle is found, counted from p
+pub record At (bs : List ℕ) (p : ℕ) (e : Item) (q : ℕ) : Type 0 where
+  pub off : ℕ
+  pub found : q ≡ p + off
+  pub stands : Stands bs off (e .bytes)
+
+shift : (xs : List ℕ) (n : ℕ) {bs : List ℕ} {p q : ℕ} {e : Item} → length xs ≡ n → At bs (p + n) e q → At (xs ++ bs) p e q
+shift xs n {p = p} k a = record { off = n + a .off; found = omega (arith, a .found); stands = stands-after xs n k (a .stands) }
+
+more-after : {bs : List ℕ} {p q : ℕ} {e : Item} (cs : List ℕ) → At bs p e q → At (bs ++ cs) p e q
+more-after cs a = record { off = a .off; found = a .found; stands = stands-before cs (a .stands) }
+
+pub weaken-both : {A B : Type 0} {R Q : A → B → Type 0} {a : Option A} {b : Option B} → ((x : A) (y : B) → R x y → Q x y) → Both R a b → Both Q a b
+weaken-both h absent = absent
+weaken-both h (present {a = x} {b = y} r) = present (h x y r)
+
+data-stand : (e : Item) → Stands (itemBytes e) 4 (e .bytes)
+data-stand e = record { front = big 2 (32768 + itemSize e / 2) ++ big 2 (e .handle); rest = []; split = simp append-nil; place = refl }
+
+pub in-cells : (h p : ℕ) {cs : List Cell} → Sound cs → Both (At (cellBytes cs) p) (get h (items cs)) (whereIn h p cs)
+in-cells h p s-nil = absent
+in-cells h p (s-end b) = absent
+in-cells h p (s-free {n = n} b s) = weaken-both (λ x y a. shift (freeBytes n) n (length-free n b) a) (in-cells h (p + n) s)
+in-cells h p (s-held {e = e} {cs = cs} b s) =
+    cond-both (is h e) (is h e) refl
+    (λ t. present (record { off = 4; found = refl; stands = stands-before (cellBytes cs) (data-stand e) }))
+    (weaken-both (λ x y a. shift (itemBytes e) (itemSize e) (omega arith) a) (in-cells h (p + itemSize e) s))
+
+pub in-blocks : (h p : ℕ) (s : Bays (List Cell) Fixed) → AllS Sound s → Both (At (blockBytes s) p) (findS (λ (b : List Cell). get h (items b)) s) (whereS h p s)
+in-blocks h p (last b) d = in-cells h p d
+in-blocks h p (more b x s) d =
+    orElse-both (weaken-both (λ e q a. more-after (fixedBytes x ++ blockBytes s) a) (in-cells h p (d .0)))
+    (weaken-both (λ e q a. shift (cellBytes b) (baySize b) (length-cells (d .0)) (shift (fixedBytes x) (fsize x) (omega arith) a)) (in-blocks h (p + baySize b + fsize x) s (d .1)))
+
+length-masters : (z : Zone) (hs : List ℕ) → length (masterBytes z hs) ≡ 4 * length hs
+length-masters z [] = refl
+length-masters z (h ∷ hs) = omega (arith, length-masters z hs)
+
+length-handles : (h n : ℕ) → length (handlesFrom h n) ≡ n
+length-handles h zero = refl
+length-handles h (suc n) = ap suc (length-handles (h + 4) n)
+
+pub in-zone : {v : List ℕ} {at : ℕ} (z : Zone) → Stands (blockBytes (z .bays)) at v → Stands (zoneBytes z) (firstBlock (z .m) + at) v
+in-zone z s = rw (add-assoc 16 (4 * z .m) _) (stands-after (headerBytes z) 16 refl (stands-after (masterBytes z (handlesFrom 16 (z .m))) (4 * z .m) (omega (arith, length-masters z (handlesFrom 16 (z .m)), length-handles 16 (z .m))) s))
+
+both-each : {A B : Type 0} {R : A → B → Type 0} {a : Option A} {b : Option B} (P : A → B → Type 0) (d : B) → ((x : A) (y : B) → R x y → P x y) → Both R a b → Each (λ (x : A). P x (Option·getD b d)) a
+both-each P d f absent = nothing
+both-each P d f (present r) = just (f _ _ r)
+
+-- a live handle's bytes stand in the zone, from the offset in its master
+pub handle-stands : (h : ℕ) (z : Zone) → AllS Sound (z .bays) → Each (λ (e : Item). Stands (zoneBytes z) (masterOf z h) (e .bytes)) (findS (λ (b : List Cell). get h (items b)) (z .bays))
+handle-stands h z d =
+    both-each (λ e q. Stands (zoneBytes z) q (e .bytes)) (nextOf h (z .chain)) (λ e q a. rw (a .found) (in-zone z (a .stands))) (in-blocks h (firstBlock (z .m)) (z .bays) d)
+
+-- a master stands at its handle
+pub master-stands : (z : Zone) (i : ℕ) → i < z .m → Stands (zoneBytes z) (16 + 4 * i) (big 4 (masterOf z (16 + 4 * i)))
+master-stands z i l = stands-after (headerBytes z) 16 refl (stands-before (blockBytes (z .bays)) (nth 16 (z .m) i (16 + 4 * i) l refl))
+  where
+    nth : (h n i k : ℕ) → i < n → h + 4 * i ≡ k → Stands (masterBytes z (handlesFrom h n)) (4 * i) (big 4 (masterOf z k))
+    nth h zero i k l e = absurd (omega arith)
+    nth h (suc n) zero k l e = let q : k ≡ h = omega arith in rw q (stands-here (big 4 (masterOf z h)) (masterBytes z (handlesFrom (h + 4) n)))
+    nth h (suc n) (suc i) k l e = let q : 4 * suc i ≡ 4 + 4 * i = omega arith in rw q (stands-after (big 4 (masterOf z h)) 4 refl (nth (h + 4) n i k (omega arith) (omega arith)))
+
+-- what holds of each allocate-fixed block
+abbrev pub AllF : (Fixed → Type 0) → Bays (List Cell) Fixed → Type 0
+AllF D (last b) = Unit {0}
+AllF D (more b x s) = D x × AllF D s
+
+all-map : (D E : Fixed → Type 0) → ((x : Fixed) → D x → E x) → (s : Bays (List Cell) Fixed) → AllF D s → AllF E s
+all-map D E h (last b) d = tt
+all-map D E h (more b x s) d = (h x (d .0), all-map D E h s (d .1))
+
+record FixedAt (bs : List ℕ) (p : ℕ) (x : Fixed) : Type 0 where
+  pub off : ℕ
+  pub found : pointer x ≡ p + off
+  pub stands : Stands bs off (x .bytes)
+
+fixed-data : (x : Fixed) → Stands (fixedBytes x) fixedHeader (x .bytes)
+fixed-data x = record { front = fixedHead x; rest = []; split = simp append-nil; place = refl }
+
+fixed-at : {p end : ℕ} {s : Bays (List Cell) Fixed} → AllS Sound s → Tiled p s end → AllF (FixedAt (blockBytes s) p) s
+fixed-at d (tile-last e) = tt
+fixed-at d (tile-more {p = p} {b = b} {x = x} {s = s} e t) = (
+  record { off = baySize b + fixedHeader; found = omega arith; stands = stands-after (cellBytes b) (baySize b) (length-cells (d .0)) (stands-before (blockBytes s) (fixed-data x)) },
+  all-map (FixedAt (blockBytes s) (x .place + fsize x)) (FixedAt (cellBytes b ++ (fixedBytes x ++ blockBytes s)) p)
+      (λ y a. record {
+        off = baySize b + (fsize x + a .off);
+        found = omega (arith, a .found);
+        stands = stands-after (cellBytes b) (baySize b) (length-cells (d .0)) (stands-after (fixedBytes x) (fsize x) (omega arith) (a .stands));
+      })
+      s (fixed-at (d .1) t),
+)
+
+-- each allocate-fixed block's bytes stand in the zone, from its pointer
+pub pointers-stand : (z : Zone) → AllS Sound (z .bays) → Placed z → AllF (λ (x : Fixed). Stands (zoneBytes z) (pointer x) (x .bytes)) (z .bays)
+pointers-stand z d g = all-map (FixedAt (blockBytes (z .bays)) (firstBlock (z .m))) _ (λ x a. rw (a .found) (in-zone z (a .stands))) (z .bays) (fixed-at d (g .tiled))
+
+blocks-length : {p end : ℕ} {s : Bays (List Cell) Fixed} → AllS Sound s → Tiled p s end → p + length (blockBytes s) ≡ end
+blocks-length d (tile-last e) = omega (arith, length-cells d)
+blocks-length d (tile-more {b = b} {x = x} {s = s} e t) =
+    omega (arith, length-append (cellBytes b) (fixedBytes x ++ blockBytes s), length-append (fixedBytes x) (blockBytes s), length-cells (d .0), blocks-length (d .1) t)
+
+-- the zone's bytes are as many as its length
+pub zone-length : (z : Zone) → AllS Sound (z .bays) → Placed z → length (zoneBytes z) ≡ z .len
+zone-length z d g =
+    omega (arith, length-append (masterBytes z (handlesFrom 16 (z .m))) (blockBytes (z .bays)), length-masters z (handlesFrom 16 (z .m)), length-handles 16 (z .m), blocks-length d (g .tiled))

@@ -1,0 +1,148 @@
+-- One bay: its blocks in address order, and what each call does to it.
+use mathlib.Core.Bool.{Bool, true, false, cond, not}
+use mathlib.Core.Option.{Option, none, some, Option·getD}
+use mathlib.Core.List.{List, [], _∷_, _++_, map}
+use Prim.Native.Nat.{ℕ, zero, suc, _+_, _-_, _*_, _/_, _≤_, max}
+use lib.ListN.{length, take, drop, replicate}
+use lib.Dec.{leb, ltb, eqb}
+use Rattle.zone.specs.Bays.{over}
+
+-- what a relocatable block holds
+pub record Item : Type 0 where
+  pub handle : ℕ
+  pub bytes : List ℕ
+
+-- whether an item is the one that a key names
+abbrev pub is : ℕ → Item → Bool
+is h e = eqb h (e .handle)
+
+abbrev pub header : ℕ
+header = 4
+
+abbrev pub itemSize : Item → ℕ
+itemSize e = header + length (e .bytes)
+
+abbrev pub total : List Item → ℕ
+total [] = 0
+total (e ∷ es) = itemSize e + total es
+
+-- the items with another handle
+abbrev pub remove : ℕ → List Item → List Item
+remove h [] = []
+remove h (e ∷ es) = cond (is h e) (remove h es) (e ∷ remove h es)
+
+abbrev pub alter : ℕ → (List ℕ → List ℕ) → Item → Item
+alter h f e = cond (is h e) (record { handle = e .handle; bytes = f (e .bytes) }) e
+
+abbrev pub get : ℕ → List Item → Option Item
+get h [] = none
+get h (e ∷ es) = cond (is h e) (some e) (get h es)
+
+abbrev pub count : ℕ → List Item → ℕ
+count h [] = 0
+count h (e ∷ es) = cond (is h e) (suc (count h es)) (count h es)
+
+-- a block of a bay
+pub data Cell : Type 0 where
+  free : ℕ → Cell
+  held : Item → Cell
+
+abbrev pub baySize : List Cell → ℕ
+baySize [] = 0
+baySize (free n ∷ cs) = n + baySize cs
+baySize (held e ∷ cs) = itemSize e + baySize cs
+
+-- the bay's sum
+abbrev pub baySum : List Cell → ℕ
+baySum [] = 0
+baySum (free n ∷ cs) = n + baySum cs
+baySum (held e ∷ cs) = baySum cs
+
+abbrev pub items : List Cell → List Item
+items [] = []
+items (free n ∷ cs) = items cs
+items (held e ∷ cs) = e ∷ items cs
+
+-- n free bytes in front, merged with a free block that follows; none for 0
+abbrev pub merge : ℕ → List Cell → List Cell
+merge n [] = free n ∷ []
+merge n (free k ∷ cs) = free (n + k) ∷ cs
+merge n (held e ∷ cs) = free n ∷ held e ∷ cs
+
+abbrev pub gap : ℕ → List Cell → List Cell
+gap zero cs = cs
+gap (suc n) cs = merge (suc n) cs
+
+abbrev pub packed : List Item → List Cell → List Cell
+packed [] t = t
+packed (e ∷ es) t = held e ∷ packed es t
+
+-- one bay after another, merged at the seam
+abbrev pub joinBays : List Cell → List Cell → List Cell
+joinBays [] t = t
+joinBays (free n ∷ cs) t = gap n (joinBays cs t)
+joinBays (held e ∷ cs) t = held e ∷ joinBays cs t
+
+abbrev pub compactBay : List Cell → List Cell
+compactBay cs = packed (items cs) (gap (baySum cs) [])
+
+-- the lowest free block that is big enough, from its low end
+abbrev pub fit : Item → List Cell → Option (List Cell)
+fit e [] = none
+fit e (free k ∷ cs) = cond (leb (itemSize e) k) (some (held e ∷ gap (k - itemSize e) cs)) (over (free k ∷_) (fit e cs))
+fit e (held d ∷ cs) = over (held d ∷_) (fit e cs)
+
+abbrev pub put : Item → List Cell → List Cell
+put e cs = Option·getD (fit e cs) (packed (items cs) (held e ∷ gap (baySum cs - itemSize e) []))
+
+-- the last block, if it is free and big enough, less n bytes at its high end
+abbrev pub trim : ℕ → List Cell → Option (List Cell)
+trim n [] = none
+trim n (free k ∷ []) = cond (leb n k) (some (gap (k - n) [])) none
+trim n (free k ∷ (c ∷ cs)) = over (free k ∷_) (trim n (c ∷ cs))
+trim n (held e ∷ cs) = over (held e ∷_) (trim n cs)
+
+abbrev pub takeHigh : ℕ → List Cell → List Cell
+takeHigh n cs = Option·getD (trim n cs) (packed (items cs) (gap (baySum cs - n) []))
+
+abbrev pub release : ℕ → List Cell → List Cell
+release h [] = []
+release h (free n ∷ cs) = gap n (release h cs)
+release h (held e ∷ cs) = cond (is h e) (gap (itemSize e) (release h cs)) (held e ∷ release h cs)
+
+abbrev pub edit : ℕ → (List ℕ → List ℕ) → List Cell → List Cell
+edit h f [] = []
+edit h f (free n ∷ cs) = free n ∷ edit h f cs
+edit h f (held e ∷ cs) = held (alter h f e) ∷ edit h f cs
+
+-- a bytes: the first ones of l, and zeros
+abbrev pub sized : ℕ → List ℕ → List ℕ
+sized a l = take a l ++ replicate (a - length l) 0
+
+abbrev pub resized : ℕ → Item → Item
+resized a e = record { handle = e .handle; bytes = sized a (e .bytes) }
+
+-- an item grown by n bytes into the free block right after it
+abbrev pub growInto : Item → ℕ → List Cell → Option (List Cell)
+growInto d n [] = none
+growInto d n (free k ∷ cs) = cond (leb n k) (some (held d ∷ gap (k - n) cs)) none
+growInto d n (held e ∷ cs) = none
+
+abbrev pub inPlace : Item → ℕ → List Cell → Option (List Cell)
+inPlace e a cs =
+    cond (leb a (length (e .bytes)))
+    (some (held (resized a e) ∷ gap (length (e .bytes) - a) cs))
+    (growInto (resized a e) (a - length (e .bytes)) cs)
+
+abbrev pub growHere : ℕ → ℕ → List Cell → Option (List Cell)
+growHere h a [] = none
+growHere h a (free k ∷ cs) = over (free k ∷_) (growHere h a cs)
+growHere h a (held e ∷ cs) = cond (is h e) (inPlace e a cs) (over (held e ∷_) (growHere h a cs))
+
+abbrev pub reshape : ℕ → ℕ → List Cell → List Cell
+reshape h a cs = Option·getD (growHere h a cs) (packed (map (alter h (sized a)) (items cs)) (gap (baySize cs - total (map (alter h (sized a)) (items cs))) []))
+
+-- whether an item can have a bytes where n more are free
+abbrev pub roomFor : ℕ → ℕ → Option Item → Bool
+roomFor a n none = false
+roomFor a n (some e) = leb (a - length (e .bytes)) n

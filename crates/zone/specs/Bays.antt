@@ -1,0 +1,83 @@
+-- BayKind and allocate-fixed blocks in address order: a bay, then any number of times a allocate-fixed block and a bay.
+-- Every function here is used at the bays of a zone and at the bays of a ledger.
+use mathlib.Core.Path.{_≡_, refl, ap, sym, _∙_}
+use mathlib.Core.Bool.{Bool, true, false, cond}
+use mathlib.Core.Option.{Option, none, some}
+use mathlib.Core.List.{List, [], _∷_, _++_}
+use Prim.Native.Nat.{ℕ, zero, suc, _+_, _≤_, max}
+
+pub data Bays (B F : Type 0) : Type 0 where
+  last : B → Bays B F
+  more : B → F → Bays B F → Bays B F
+
+abbrev pub over : {A B : Type 0} → (A → B) → Option A → Option B
+over f none = none
+over f (some a) = some (f a)
+
+abbrev pub orElse : {A : Type 0} → Option A → Option A → Option A
+orElse none b = b
+orElse (some a) b = some a
+
+module _ {B F : Type 0} where
+  -- the lowest bay that passes the test is changed
+  abbrev pub onLow : (B → Bool) → (B → B) → Bays B F → Option (Bays B F)
+  onLow t f (last b) = cond (t b) (some (last (f b))) none
+  onLow t f (more b x s) = cond (t b) (some (more (f b) x s)) (over (more b x) (onLow t f s))
+
+  -- the highest bay that passes the test is split by a new allocate-fixed block at its end; `end` is where the strip ends
+  abbrev pub onHigh : (B → Bool) → (B → B) → (ℕ → F) → B → (F → ℕ) → ℕ → Bays B F → Option (F × Bays B F)
+  onHigh t f mk e at end (last b) = cond (t b) (some (mk end, more (f b) (mk end) (last e))) none
+  onHigh t f mk e at end (more b x s) =
+      orElse (over (λ (r : F × Bays B F). (r .0, more b x (r .1))) (onHigh t f mk e at end s))
+      (cond (t b) (some (mk (at x), more (f b) (mk (at x)) (more e x s))) none)
+
+  abbrev pub glue : (B → F → B → B) → B → F → Bays B F → Bays B F
+  glue j b x (last c) = last (j b x c)
+  glue j b x (more c y s) = more (j b x c) y s
+
+  -- the first allocate-fixed block that passes the test goes, and the bays beside it are joined
+  abbrev pub onJoin : (F → Bool) → (B → F → B → B) → Bays B F → Option (Bays B F)
+  onJoin p j (last b) = none
+  onJoin p j (more b x s) = cond (p x) (some (glue j b x s)) (over (more b x) (onJoin p j s))
+
+  abbrev pub mapS : (B → B) → Bays B F → Bays B F
+  mapS f (last b) = last (f b)
+  mapS f (more b x s) = more (f b) x (mapS f s)
+
+  abbrev pub onFixed : (F → F) → Bays B F → Bays B F
+  onFixed f (last b) = last b
+  onFixed f (more b x s) = more b (f x) (onFixed f s)
+
+  abbrev pub onLast : (B → B) → Bays B F → Bays B F
+  onLast f (last b) = last (f b)
+  onLast f (more b x s) = more b x (onLast f s)
+
+  -- the first bay that answers
+  abbrev pub findS : {X : Type 0} → (B → Option X) → Bays B F → Option X
+  findS f (last b) = f b
+  findS f (more b x s) = orElse (f b) (findS f s)
+
+  -- what holds of each bay
+  abbrev pub AllS : (B → Type 0) → Bays B F → Type 0
+  AllS D (last b) = D b
+  AllS D (more b x s) = D b × AllS D s
+
+  abbrev pub findF : (F → Bool) → Bays B F → Option F
+  findF p (last b) = none
+  findF p (more b x s) = cond (p x) (some x) (findF p s)
+
+  abbrev pub sumS : (B → ℕ) → Bays B F → ℕ
+  sumS μ (last b) = μ b
+  sumS μ (more b x s) = μ b + sumS μ s
+
+  abbrev pub concatS : {X : Type 0} → (B → List X) → Bays B F → List X
+  concatS f (last b) = f b
+  concatS f (more b x s) = f b ++ concatS f s
+
+  abbrev pub maxS : (B → ℕ) → Bays B F → ℕ
+  maxS μ (last b) = μ b
+  maxS μ (more b x s) = max (μ b) (maxS μ s)
+
+  abbrev pub lastS : Bays B F → B
+  lastS (last b) = b
+  lastS (more b x s) = lastS s

@@ -1,0 +1,20 @@
+-- The bays of a zone: their blocks in address order.
+use mathlib.Core.List.{List, []}
+use Prim.Native.Nat.{ℕ}
+use Rattle.zone.specs.Bay.{Cell, baySum, items, gap, joinBays, compactBay, put, takeHigh, release, edit, reshape}
+use Rattle.zone.specs.Calls.{BayKind}
+
+abbrev pub zoneBays : BayKind (List Cell)
+zoneBays = record {
+  sum = baySum;
+  all = items;
+  fresh = λ n. gap n [];
+  put = put;
+  drop = release;
+  edit = edit;
+  reshape = reshape;
+  takeHigh = takeHigh;
+  join = λ b n c. joinBays b (gap n c);
+  compactBay = compactBay;
+  grow = λ k b. joinBays b (gap k []);
+}

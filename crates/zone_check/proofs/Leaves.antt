@@ -1,0 +1,162 @@
+-- The laws that the leaves and loops of the check cite: each concludes what the code returns, from facts that stand there.
+use mathlib.Core.Path.{_≡_, refl, sym, ap, _∙_}
+use mathlib.Core.List.{List, [], _∷_, _++_}
+use mathlib.Core.Bool.{Bool, true, false, cond, not, _&&_, and-assoc}
+use Prim.Native.Nat.{ℕ, zero, suc, _+_, _*_, _-_, _/_, _%_, _<_, _≤_, min}
+use native.Mathlib.Nat.{sub-zero, add-zero, zero-add, add-sub-cancel-left, sub-add-eq}
+use native.Mathlib.Numerals.{add-one, sub-one}
+use native.Mathlib.Omega.{arith}
+use lib.Dec.{eqb, leb}
+use borrow.Author.Tests.{eq-eqb, ne-eqb, leb-true, eqb-true, le-leb, lt-leb}
+use lib.ListN.{length, getD, take, drop, length-take, length-drop, drop-of-length-le}
+use lib.Seq.{take-take, getD-take, getD-drop, drop-drop}
+use Rattle.bigendian.specs.BigEndian.{fromBE, slice}
+use Rattle.memory.specs.Zeros.{allZero}
+use Rattle.format.proofs.Bool.{and-left, and-right, is-false}
+use Rattle.format.specs.WellFormed.{headerOk, lengthField, firstField, mastersField, typeOf, sizeOf, handleOf, isFree, isReloc, splitFrom, splitBlocks, isMaster, masterAt, links, typeRule, freeRule, relocRule, blockOk, blocksOk, relocs, bodyOk}
+use Rattle.format.proofs.Masters.{Master, is-master}
+use Rattle.format.proofs.Walk.{First, is-first, first-rule, drop-take, Turn, stop, end, end-count}
+
+pub kind-law : (z : List ℕ) (at : ℕ) → getD z at 0 / 64 ≡ typeOf (drop at z)
+unfolding typeOf
+kind-law z at = rw (getD-drop, add-zero)
+
+pub size-free : (r : List ℕ) (k b : ℕ) → k ≡ typeOf r → k ≡ 0 → b ≡ fromBE (take 4 r) → b * 2 ≡ sizeOf r
+unfolding sizeOf
+size-free r k b e z eb = rw (← e, z, eb)
+
+pub size-used : (r : List ℕ) (k b : ℕ) → k ≡ typeOf r → (k ≡ 0 → ⊥) → b ≡ fromBE (take 2 r) → b % 16384 * 2 ≡ sizeOf r
+unfolding sizeOf
+size-used r k b e z eb = rw (← e, ne-eqb k 0 z, eb)
+
+pub reloc-yes : (r : List ℕ) (k : ℕ) → k ≡ typeOf r → k ≡ 2 → _≡_ {A = ℕ} 1 (cond (isReloc r) 1 0)
+unfolding isReloc
+reloc-yes r k e q = rw (← e, q)
+
+pub reloc-no : (r : List ℕ) (k : ℕ) → k ≡ typeOf r → (k ≡ 2 → ⊥) → _≡_ {A = ℕ} 0 (cond (isReloc r) 1 0)
+unfolding isReloc
+reloc-no r k e q = rw (← e, ne-eqb k 2 q)
+
+pub free-law : (r : List ℕ) (k : ℕ) → k ≡ typeOf r → eqb k 0 ≡ isFree r
+unfolding isFree
+free-law r k e = rw e
+
+pub master-law : (first h : ℕ) → (leb 16 h && leb (h + 4) first && eqb (h % 4) 0) ≡ isMaster first h
+unfolding isMaster
+master-law first h = refl
+
+pub master-fits : (z : List ℕ) (first h : ℕ) (t : Bool) → t ≡ isMaster first h → t ≡ true → first ≤ length z → h + 4 ≤ length z
+master-fits z first h t e y l = let m = is-master first h (sym e ∙ y) in omega arith
+
+-- ---- the rules of a block
+
+pub free-rule-prev : (b : List ℕ) (prev : Bool) → prev ≡ true → false ≡ freeRule prev b
+unfolding freeRule
+free-rule-prev b prev e = rw e
+
+pub free-rule : (z : List ℕ) (at n : ℕ) (prev t : Bool) → prev ≡ false → 4 ≤ n → t ≡ allZero (slice z (at + 4) (at + n - (at + 4)))
+    → t ≡ freeRule prev (take n (drop at z))
+unfolding freeRule
+free-rule z at n prev t e h q =
+    let d : at + n - (at + 4) ≡ n - 4 = omega arith in
+    rw (e, drop-take 4 n (drop at z), drop-drop 4 at z, ← d) q
+
+pub reloc-rule : (z : List ℕ) (first at h v : ℕ) (t : Bool) → h ≡ fromBE (slice z (at + 2) 2) → t ≡ isMaster first h → t ≡ true → v ≡ fromBE (slice z h 4)
+    → eqb v (at + 4) ≡ relocRule z first at (handleOf (drop at z))
+unfolding relocRule handleOf
+reloc-rule z first at h v t e q y w = rw (drop-drop 2 at z, ← e, ← q, y, w)
+
+pub reloc-rule-no : (z : List ℕ) (first at h : ℕ) (t : Bool) → h ≡ fromBE (slice z (at + 2) 2) → t ≡ isMaster first h → t ≡ false
+    → false ≡ relocRule z first at (handleOf (drop at z))
+unfolding relocRule handleOf
+reloc-rule-no z first at h t e q y = rw (drop-drop 2 at z, ← e, ← q, y)
+
+-- ---- the test of a block
+
+module _ (z : List ℕ) (first : ℕ) (prev : Bool) (at n : ℕ) where
+  abbrev test : Bool
+  test = blockOk z first prev at (take (sizeOf (drop at z)) (drop at z))
+
+  pub no-low : n ≡ sizeOf (drop at z) → n < 4 → false ≡ test
+  no-low e h = sym (is-false _ (λ g. let f = is-first z first prev at (drop at z) g in omega arith))
+
+  pub no-four : n ≡ sizeOf (drop at z) → (n % 4 ≡ 0 → ⊥) → false ≡ test
+  no-four e h = sym (is-false _ (λ g. let f = is-first z first prev at (drop at z) g in h (rw e (f .four))))
+
+  pub no-room : n ≡ sizeOf (drop at z) → length z - at < n → false ≡ test
+  no-room e h = sym (is-false _ (λ g. let f = is-first z first prev at (drop at z) g in omega (arith, length-drop at z)))
+
+  module _ (k : ℕ) (e : n ≡ sizeOf (drop at z)) (low : 4 ≤ n) (four : n % 4 ≡ 0) (fits : n ≤ length z - at) (ek : k ≡ typeOf (drop at z)) where
+    by-kind : test ≡ typeRule k (freeRule prev (take n (drop at z))) (relocRule z first at (handleOf (drop at z)))
+    by-kind = rw (first-rule z first prev at (drop at z) (omega arith) (rw (← e) four) (omega (arith, length-drop at z)), ← ek, ← e)
+
+    pub yes-free : (t : Bool) → k ≡ 0 → t ≡ freeRule prev (take n (drop at z)) → t ≡ test
+    unfolding typeRule
+    yes-free t q h = rw (by-kind, q) h
+
+    pub yes-fixed : k ≡ 1 → true ≡ test
+    unfolding typeRule
+    yes-fixed q = rw (by-kind, q)
+
+    pub yes-reloc : (t : Bool) → k ≡ 2 → t ≡ relocRule z first at (handleOf (drop at z)) → t ≡ test
+    unfolding typeRule
+    yes-reloc t q h = rw (by-kind, q) h
+
+    pub no-kind : (k ≡ 0 → ⊥) → (k ≡ 1 → ⊥) → (k ≡ 2 → ⊥) → false ≡ test
+    unfolding typeRule
+    no-kind a b c = rw by-kind (go k a b c)
+      where
+        go : (k : ℕ) → (k ≡ 0 → ⊥) → (k ≡ 1 → ⊥) → (k ≡ 2 → ⊥) → false ≡ typeRule k (freeRule prev (take n (drop at z))) (relocRule z first at (handleOf (drop at z)))
+        go zero a b c = absurd (a refl)
+        go (suc zero) a b c = absurd (b refl)
+        go (suc (suc zero)) a b c = absurd (c refl)
+        go (suc (suc (suc k))) a b c = refl
+
+-- ---- the chain
+
+pub links-step : (z : List ℕ) (first left h v : ℕ) (t w : Bool) → t ≡ isMaster first h → t ≡ true → 0 < left → v ≡ fromBE (slice z h 4)
+    → links z first left h ≡ w → links z first (left - 1) v ≡ w
+unfolding links
+links-step z first zero h v t w e y l q inv = let e : ⊥ = omega arith in absurd e
+links-step z first (suc left) h v t w e y l q inv = rw (sub-one, q) (rw (← e, y) at inv)
+
+pub links-no : (z : List ℕ) (first left h : ℕ) (t w : Bool) → t ≡ isMaster first h → t ≡ false → 0 < left → links z first left h ≡ w → false ≡ w
+unfolding links
+links-no z first zero h t w e y l inv = let e : ⊥ = omega arith in absurd e
+links-no z first (suc left) h t w e y l inv = rw (← e, y) at inv
+
+pub links-done : (z : List ℕ) (first left h : ℕ) (w : Bool) → left ≤ 0 → links z first left h ≡ w → eqb h 0 ≡ w
+unfolding links
+links-done z first zero h w l inv = inv
+links-done z first (suc left) h w l inv = let e : ⊥ = omega arith in absurd e
+
+-- ---- the walk
+
+pub tiles-stop : (z : List ℕ) (first at : ℕ) (prev t w : Bool) → at < length z
+    → t ≡ blockOk z first prev at (take (sizeOf (drop at z)) (drop at z)) → t ≡ false → blocksOk z first prev at (splitBlocks (drop at z)) ≡ w → false ≡ w
+tiles-stop z first at prev t w h e q inv = sym (stop z first prev at h (sym e ∙ q)) ∙ inv
+
+pub tiles-step : (z : List ℕ) (first at n : ℕ) (prev f w : Bool) → Turn z first prev at n → f ≡ isFree (drop at z)
+    → blocksOk z first prev at (splitBlocks (drop at z)) ≡ w → blocksOk z first f (at + n) (splitBlocks (drop (at + n) z)) ≡ w
+tiles-step z first at n prev f w t e inv = rw e (sym (t .walk) ∙ inv)
+
+pub tiles-count : (z : List ℕ) (first at n count one w : ℕ) (prev : Bool) → Turn z first prev at n → one ≡ cond (isReloc (drop at z)) 1 0
+    → count + relocs (splitBlocks (drop at z)) ≡ w → count + one + relocs (splitBlocks (drop (at + n) z)) ≡ w
+tiles-count z first at n count one w prev t e inv = omega (arith, t .count)
+
+pub tiles-end : (z : List ℕ) (first at : ℕ) (prev w : Bool) → length z ≤ at → blocksOk z first prev at (splitBlocks (drop at z)) ≡ w → true ≡ w
+tiles-end z first at prev w h inv = sym (end z first prev at h) ∙ inv
+
+pub tiles-end-count : (z : List ℕ) (at count w : ℕ) → length z ≤ at → count + relocs (splitBlocks (drop at z)) ≡ w → count ≡ w
+tiles-end-count z at count w h inv = omega (arith, end-count z at h)
+
+-- ---- the header
+
+pub header-short : (s : List ℕ) → length s < 16 → false ≡ headerOk s
+unfolding headerOk
+header-short s h = rw (lt-leb 16 (length s) h)
+
+pub header-law : (s : List ℕ) (l first m : ℕ) → 16 ≤ length s → l ≡ lengthField s → first ≡ firstField s → m ≡ mastersField s
+    → (eqb (getD s 14 0) 0 && eqb (getD s 15 0) 0 && eqb (l % 4) 0 && leb l (length s) && leb l 1048576 && leb m 8188 && eqb first (16 + 4 * m) && leb first l) ≡ headerOk s
+unfolding headerOk
+header-law s l first m h e₁ e₂ e₃ = rw (le-leb 16 (length s) h, e₁, e₂, e₃)

@@ -1,0 +1,72 @@
+use Rattle.format.proofs.Bool.{passed}
+use mathlib.Core.Path.{sym, _∙_}
+use borrow.Author.Tests.{not-true, not-false}
+use Rattle.format.proofs.Bool.{not-both}
+use mathlib.Core.Path.{_≡_, refl}
+use mathlib.Core.Bool.{true, false}
+use Prim.Native.Nat.{_+_, _-_, _%_, _<_, _≤_}
+use native.Mathlib.Nat.{zero-add}
+use borrow.Author.Needs.{needs}
+use native.Mathlib.Omega.{arith}
+use lib.ListN.{length, drop}
+use Rattle.format.specs.WellFormed.{blocksOk, relocs, splitBlocks}
+use Rattle.zone_check.proofs.Leaves.{tiles-stop, tiles-step, tiles-count, tiles-end, tiles-end-count}
+use Rattle.zone_check.proofs.blocks_ok.Statement.{statement}
+use Rattle.zone_check.proofs.blocks_ok.Tie as tie
+
+abbrev Inv-loop : tie.InvT-loop
+Inv-loop z first at₀ prev₀ count₀ at prev count = (at ≤ length z) × (at % 4 ≡ 0) × (count ≤ at) × (blocksOk z first prev at (splitBlocks (drop at z)) ≡ blocksOk z first false first (splitBlocks (drop first z))) × (count + relocs (splitBlocks (drop at z)) ≡ relocs (splitBlocks (drop first z)))
+
+abbrev μ-loop : tie.MeasureT-loop
+μ-loop z first at₀ prev₀ count₀ at prev count = length z - at
+
+loop-holds : tie.Need-loop-holds Inv-loop μ-loop
+loop-holds c = (omega arith, omega arith, omega arith, refl, zero-add _)
+
+block-ok-requires : tie.Need-block-ok-requires Inv-loop μ-loop
+block-ok-requires c κs = omega arith
+
+returns : tie.Need-returns Inv-loop μ-loop
+returns c = (search (tiles-stop, not-true), λ e. absurd (not-both e refl))
+
+step-requires : tie.Need-step-requires Inv-loop μ-loop
+step-requires c κs = (omega arith, search passed)
+
+is-free-requires : tie.Need-is-free-requires Inv-loop μ-loop
+is-free-requires c κs = omega arith
+
+reloc-one-requires : tie.Need-reloc-one-requires Inv-loop μ-loop
+reloc-one-requires c κs = omega arith
+
+add-count : tie.Need-add-count Inv-loop μ-loop
+add-count c = omega arith
+
+add-at : tie.Need-add-at Inv-loop μ-loop
+add-at c = omega arith
+
+loop-less : tie.Need-loop-less Inv-loop μ-loop
+loop-less c = omega arith
+
+loop-again : tie.Need-loop-again Inv-loop μ-loop
+loop-again c = (omega arith, omega arith, omega arith, search tiles-step, search tiles-count)
+
+returns-2 : tie.Need-returns-2 Inv-loop μ-loop
+returns-2 c = (search tiles-end, λ _. search tiles-end-count)
+
+pub blocks-ok-spec : {M : Type 1} → statement M
+blocks-ok-spec =
+    tie.close
+    (tie.spec
+    Inv-loop
+    μ-loop
+    loop-holds
+    block-ok-requires
+    returns
+    step-requires
+    is-free-requires
+    reloc-one-requires
+    add-count
+    add-at
+    loop-less
+    loop-again
+    returns-2)
