@@ -1,4 +1,4 @@
-// Numbers of 2 and 4 bytes in a slice, high byte first.
+// Numbers of 2 and 4 bytes in a part, high byte first.
 ghost use mathlib.Core.Path.{_≡_};
 ghost use Prim.Native.Nat.{_+_, _<_, _≤_};
 ghost use lib.ListN.{length};

@@ -10,18 +10,19 @@ use borrow.Author.Tests.{eq-eqb, ne-eqb, leb-true, eqb-true, eqb-false, le-leb}
 use lib.ListN.{length, getD, take, drop, length-append}
 use Rattle.bigendian.specs.BigEndian.{fromBE, slice}
 use Rattle.format.proofs.Bool.{and-left, and-right, is-false, not-both}
-use Rattle.format.specs.WellFormed.{typeOf, sizeOf, handleOf, isFree, isReloc, splitBlocks, isMaster, masterAt, links, typeRule, freeRule, relocRule, blockOk, blocksOk, relocs, bodyOk}
+use Rattle.format.specs.WellFormed.{typeOf, sizeOf, handleOf, isFree, isReloc, splitBlocks, isMaster, masterAt, relocs}
+use Rattle.format.specs.OneWalk.{links, typeRule, freeRule, relocRule, blockOk, blocksOk, bodyOk}
 unfoldable pub use Rattle.format.specs.WellFormed.{chain}
 use Rattle.format.proofs.Walk.{Good, is-good}
 use Rattle.format.proofs.Masters.{Master, is-master}
 use Rattle.format.proofs.Count.{one, occurs, All, offsets, one-same, one-other, one-le, one-eq, occurs-offset, cover, occurs-append, all-append, all-at}
 
--- the handles of the relocatable splitBlocks, in address order
+-- the handles of the relocatable blocks, in address order
 unfoldable pub handles : List (List ℕ) → List ℕ
 handles [] = []
 handles (b ∷ bs) = cond (isReloc b) (handleOf b ∷ handles bs) (handles bs)
 
--- the bytes of some splitBlocks
+-- the bytes of some blocks
 unfoldable pub total : List (List ℕ) → ℕ
 total [] = 0
 total (b ∷ bs) = length b + total bs
@@ -56,10 +57,10 @@ is-held z first prev at b g r =
       holds = eqb-true (masterAt z (handleOf b)) (at + 4) (and-right (isMaster first (handleOf b)) _ q);
     }
 
--- ---- the handles of the splitBlocks from offset at on
+-- ---- the handles of the blocks from offset at on
 
 module _ (z : List ℕ) (first : ℕ) where
-  -- a handle of these splitBlocks holds an offset behind at
+  -- a handle of these blocks holds an offset behind at
   pub handles-high : (prev : Bool) (at : ℕ) (bs : List (List ℕ)) → blocksOk z first prev at bs ≡ true
       → All (λ (h : ℕ). Master first h × (at + 4 ≤ masterAt z h)) (handles bs)
   unfolding blocksOk handles
@@ -84,7 +85,7 @@ module _ (z : List ℕ) (first : ℕ) where
       zero-of zero f = refl
       zero-of (suc n) f = absurd (f (omega arith))
 
-  -- no two splitBlocks have one handle
+  -- no two blocks have one handle
   pub handles-once : (prev : Bool) (at h : ℕ) (bs : List (List ℕ)) → blocksOk z first prev at bs ≡ true → occurs h (handles bs) ≤ 1
   unfolding blocksOk handles occurs
   handles-once prev at h [] g = omega arith
@@ -115,7 +116,7 @@ module _ (z : List ℕ) (first : ℕ) where
   links-unique (suc n) zero h p q = let e = eqb-true h 0 q in let m = is-master first h (and-left _ (links z first n (masterAt z h)) p) in let x : ⊥ = omega arith in absurd x
   links-unique (suc n) (suc k) h p q = ap suc (links-unique n k (masterAt z h) (and-right (isMaster first h) _ p) (and-right (isMaster first h) _ q))
 
-  -- what the rest of the chain may start with: 0 or a master, below the splitBlocks
+  -- what the rest of the chain may start with: 0 or a master, below the blocks
   links-low : (n h : ℕ) → 16 ≤ first → links z first n h ≡ true → h < first
   unfolding links
   links-low zero h l p = omega (arith, eqb-true h 0 p)
@@ -158,7 +159,7 @@ module _ (z : List ℕ) (first : ℕ) where
 
 -- ---- where a handle's block is
 
--- a relocatable block with handle h among the splitBlocks bs, the first of them at offset at; v is its data offset
+-- a relocatable block with handle h among the blocks bs, the first of them at offset at; v is its data offset
 pub record Split (at : ℕ) (bs : List (List ℕ)) (h v : ℕ) : Type 0 where
   pub before : List (List ℕ)
   pub block : List ℕ

@@ -1,4 +1,4 @@
--- The recursion of splitBlocks, as equations at an offset: what a loop from block to block needs.
+-- The recursion of blocks, as equations at an offset: what a loop from block to block needs.
 use mathlib.Core.Path.{_≡_, refl, sym, ap, _∙_}
 use mathlib.Core.List.{List, [], _∷_, _++_}
 use mathlib.Core.Bool.{Bool, true, false, cond, not, _&&_}
@@ -14,7 +14,8 @@ use Rattle.bigendian.specs.BigEndian.{fromBE, slice}
 use Rattle.memory.specs.Zeros.{allZero}
 use Rattle.format.proofs.Bool.{and-left, and-right, is-false}
 pub use Rattle.format.specs.Steps.{Turn}
-use Rattle.format.specs.WellFormed.{typeOf, sizeOf, handleOf, isFree, isReloc, splitFrom, splitBlocks, isMaster, masterAt, links, typeRule, freeRule, relocRule, blockOk, blocksOk, relocs, bodyOk}
+use Rattle.format.specs.WellFormed.{typeOf, sizeOf, handleOf, isFree, isReloc, splitFrom, splitBlocks, isMaster, masterAt, relocs}
+use Rattle.format.specs.OneWalk.{links, typeRule, freeRule, relocRule, blockOk, blocksOk, bodyOk}
 
 from-drop : (k : ℕ) (s : List ℕ) → splitFrom k s ≡ splitBlocks (drop k s)
 unfolding splitFrom

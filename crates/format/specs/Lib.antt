@@ -1,2 +1,3 @@
+pub mod OneWalk
 pub mod Steps
 pub mod WellFormed

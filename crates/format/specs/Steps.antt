@@ -4,7 +4,8 @@ use mathlib.Core.List.{List}
 use mathlib.Core.Bool.{Bool, cond}
 use Prim.Native.Nat.{ℕ, _+_, _*_, _%_, _≤_}
 use lib.ListN.{length, getD, drop}
-use Rattle.format.specs.WellFormed.{lengthField, firstField, mastersField, chainField, isFree, isReloc, splitBlocks, blocksOk, relocs}
+use Rattle.format.specs.WellFormed.{lengthField, firstField, mastersField, chainField, isFree, isReloc, splitBlocks, relocs}
+use Rattle.format.specs.OneWalk.{blocksOk}
 
 -- a header's fields, and what its test says of them
 pub record Fields (s : List ℕ) (l first m head : ℕ) : Type 0 where

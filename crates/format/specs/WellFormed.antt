@@ -1,15 +1,17 @@
--- What a well-formed zone is, rule by rule, as a test that computes.
--- A block is the list of its own bytes; a definition about a block reads its first bytes, so it serves the block alone and
--- the bytes from the block on.
+-- Document 01, 'Bytes of a zone': the fields, the blocks, and what a well-formed zone is, rule by rule, as a test that computes.
+-- A block is the list of its own bytes. A definition about a block reads its first bytes alone, so it serves the block and the
+-- bytes from the block on.
 use Prim.Native.Nat.{ℕ, zero, suc, _+_, _*_, _-_, _/_, _%_}
-use mathlib.Core.List.{List, [], _∷_, _++_}
-use mathlib.Core.Bool.{Bool, true, false, cond, not, _&&_}
+use mathlib.Core.List.{List, [], _∷_}
+use mathlib.Core.Bool.{Bool, true, false, cond, not, _&&_, _||_}
+use mathlib.Core.Option.{Option, none, some}
 use lib.ListN.{length, getD, take, drop}
 use lib.Dec.{eqb, leb}
 use Rattle.bigendian.specs.BigEndian.{fromBE, slice}
 use Rattle.memory.specs.Zeros.{allZero}
+use Rattle.block_type.specs.Limits.{freeCode, relocCode, freeHeader, relocHeader, zoneHeader, masterSize, firstBlock, longestZone, mostMasters}
 
--- ---- the header's fields
+-- ---- the header: "at 0 the length L (4 bytes); at 4 bkFst (4); at 8 m (4); at 12 hFstFree (2)"
 
 abbrev pub lengthField : List ℕ → ℕ
 lengthField s = fromBE (slice s 0 4)
@@ -23,39 +25,41 @@ mastersField s = fromBE (slice s 8 4)
 abbrev pub chainField : List ℕ → ℕ
 chainField s = fromBE (slice s 12 2)
 
+-- "the buffer has at least 16 bytes; header bytes 14 and 15 are zero; L is a multiple of 4, at most the buffer's length and
+-- 1,048,576; m ≤ 8,188; bkFst as above and ≤ L"
 unfoldable pub headerOk : List ℕ → Bool
 headerOk s =
-    leb 16 (length s)
+    leb zoneHeader (length s)
     && (eqb (getD s 14 0) 0
     && eqb (getD s 15 0) 0
     && eqb (lengthField s % 4) 0
     && leb (lengthField s) (length s)
-    && leb (lengthField s) 1048576
-    && leb (mastersField s) 8188
-    && eqb (firstField s) (16 + 4 * mastersField s)
+    && leb (lengthField s) longestZone
+    && leb (mastersField s) mostMasters
+    && eqb (firstField s) (firstBlock (mastersField s))
     && leb (firstField s) (lengthField s))
 
--- ---- a block
+-- ---- blocks
 
--- the first two bits: 0 free, 1 fixed, 2 relocatable
+-- "A block's first two bits are its type"
 unfoldable pub typeOf : List ℕ → ℕ
 typeOf b = getD b 0 0 / 64
 
--- the size in bytes that the header has
+-- in bytes, the header included: "Free: a 4-byte size in 2-byte words", "Fixed: 14-bit size in words", "Relocatable: the same"
 unfoldable pub sizeOf : List ℕ → ℕ
-sizeOf b = cond (eqb (typeOf b) 0) (fromBE (take 4 b) * 2) (fromBE (take 2 b) % 16384 * 2)
+sizeOf b = cond (eqb (typeOf b) freeCode) (fromBE (take 4 b) * 2) (fromBE (take 2 b) % 16384 * 2)
 
--- a relocatable block's handle
+-- "then the handle (2 bytes)"
 unfoldable pub handleOf : List ℕ → ℕ
 handleOf b = fromBE (slice b 2 2)
 
 unfoldable pub isFree : List ℕ → Bool
-isFree b = eqb (typeOf b) 0
+isFree b = eqb (typeOf b) freeCode
 
 unfoldable pub isReloc : List ℕ → Bool
-isReloc b = eqb (typeOf b) 2
+isReloc b = eqb (typeOf b) relocCode
 
--- the splitBlocks of a list of bytes, after k bytes that are passed over
+-- the blocks of a list of bytes, each as long as its header says, after k bytes that are passed over
 unfoldable pub splitFrom : ℕ → List ℕ → List (List ℕ)
 splitFrom k [] = []
 splitFrom zero (x ∷ xs) = take (sizeOf (x ∷ xs)) (x ∷ xs) ∷ splitFrom (sizeOf (x ∷ xs) - 1) xs
@@ -64,83 +68,103 @@ splitFrom (suc k) (x ∷ xs) = splitFrom k xs
 abbrev pub splitBlocks : List ℕ → List (List ℕ)
 splitBlocks s = splitFrom 0 s
 
--- ---- masters; first is the offset of the first block, which is where they end
-
-unfoldable pub isMaster : ℕ → ℕ → Bool
-isMaster first h = leb 16 h && leb (h + 4) first && eqb (h % 4) 0
-
-abbrev pub masterAt : List ℕ → ℕ → ℕ
-masterAt z h = fromBE (slice z h 4)
-
--- n masters are visited from h on, and the last holds 0
-unfoldable pub links : List ℕ → ℕ → ℕ → ℕ → Bool
-links z first zero h = eqb h 0
-links z first (suc n) h = isMaster first h && links z first n (masterAt z h)
-
--- ---- the rules of a block of the zone z at offset at; prev: the block before it is free
-
--- by type: a free block is zero after its size and follows no free one; a relocatable block's handle is a master's offset,
--- and that master holds the block's data offset; there is no type 3
-unfoldable pub typeRule : ℕ → Bool → Bool → Bool
-typeRule zero free reloc = free
-typeRule (suc zero) free reloc = true
-typeRule (suc (suc zero)) free reloc = reloc
-typeRule (suc (suc (suc k))) free reloc = false
-
-unfoldable pub freeRule : Bool → List ℕ → Bool
-freeRule prev b = not prev && allZero (drop 4 b)
-
-unfoldable pub relocRule : List ℕ → ℕ → ℕ → ℕ → Bool
-relocRule z first at h = isMaster first h && eqb (masterAt z h) (at + 4)
-
-unfoldable pub blockOk : List ℕ → ℕ → Bool → ℕ → List ℕ → Bool
-blockOk z first prev at b =
-    leb 4 (sizeOf b)
-    && (eqb (sizeOf b % 4) 0
-    && (eqb (sizeOf b) (length b)
-    && typeRule (typeOf b) (freeRule prev b) (relocRule z first at (handleOf b))))
-
-unfoldable pub blocksOk : List ℕ → ℕ → Bool → ℕ → List (List ℕ) → Bool
-blocksOk z first prev at [] = true
-blocksOk z first prev at (b ∷ bs) = blockOk z first prev at b && blocksOk z first (isFree b) (at + length b) bs
-
 -- how many are relocatable
 unfoldable pub relocs : List (List ℕ) → ℕ
 relocs [] = 0
 relocs (b ∷ bs) = cond (isReloc b) 1 0 + relocs bs
 
--- ---- the zone
+-- the rule ok of every block
+unfoldable pub every : (List ℕ → Bool) → List (List ℕ) → Bool
+every ok [] = true
+every ok (b ∷ bs) = ok b && every ok bs
 
--- the splitBlocks of a zone z, without the bytes beyond its length
-abbrev pub blocksOf : List ℕ → List (List ℕ)
-blocksOf z = splitBlocks (drop (firstField z) z)
+-- "types are 0 to 2"
+unfoldable pub typeOk : List ℕ → Bool
+typeOk b = leb (typeOf b) relocCode
 
--- the splitBlocks tile the rest of the zone and obey the rules, and the masters that are no block's are the chain
-unfoldable pub bodyOk : List ℕ → ℕ → ℕ → ℕ → Bool
-bodyOk z first m head =
-    blocksOk z first false first (splitBlocks (drop first z))
-    && (leb (relocs (splitBlocks (drop first z))) m
-    && links z first (m - relocs (splitBlocks (drop first z))) head)
+-- "Sizes include the header, are multiples of 4 and at least 4"
+unfoldable pub sizeOk : List ℕ → Bool
+sizeOk b = leb 4 (sizeOf b) && eqb (sizeOf b % 4) 0
 
--- the bytes of the zone in a buffer
-abbrev pub zoneOf : List ℕ → List ℕ
-zoneOf s = take (lengthField s) s
+-- "blocks tile bkFst to L": none runs past L
+unfoldable pub tileOk : List ℕ → Bool
+tileOk b = eqb (sizeOf b) (length b)
 
-unfoldable pub wellFormed : List ℕ → Bool
-wellFormed s = headerOk s && bodyOk (zoneOf s) (firstField s) (mastersField s) (chainField s)
+-- "Free: .. all later bytes zero"
+unfoldable pub zerosOk : List ℕ → Bool
+zerosOk b = not (isFree b) || allZero (drop freeHeader b)
 
--- how many relocatable splitBlocks; 0 where the zone is not well-formed
-unfoldable pub countOf : List ℕ → ℕ
-countOf s = cond (wellFormed s) (relocs (splitBlocks (drop (firstField s) (zoneOf s)))) 0
+-- "no two free blocks are neighbours"; free: the block before is
+unfoldable pub neighboursOk : Bool → List (List ℕ) → Bool
+neighboursOk free [] = true
+neighboursOk free (b ∷ bs) = not (free && isFree b) && neighboursOk (isFree b) bs
 
--- ---- for the structure of a zone
+-- ---- masters; first is bkFst, where they end
 
--- the n offsets from k on, in steps of 4
+-- h is a master's offset: "Masters follow, 4 bytes each, at 16 + 4i for i below m"
+unfoldable pub isMaster : ℕ → ℕ → Bool
+isMaster first h = leb zoneHeader h && leb (h + masterSize) first && eqb (h % 4) 0
+
+abbrev pub masterAt : List ℕ → ℕ → ℕ
+masterAt z h = fromBE (slice z h 4)
+
+-- the n masters' offsets from k on
 unfoldable pub offsets : ℕ → ℕ → List ℕ
 offsets k zero = []
 offsets k (suc n) = k ∷ offsets (k + 4) n
 
--- the n masters from h on
+-- "each relocatable block's handle is a master's offset and that master holds the block's data offset"; the first block is at `at`
+unfoldable pub handlesOk : List ℕ → ℕ → ℕ → List (List ℕ) → Bool
+handlesOk z first at [] = true
+handlesOk z first at (b ∷ bs) =
+    (not (isReloc b) || (isMaster first (handleOf b) && eqb (masterAt z (handleOf b)) (at + relocHeader)))
+    && handlesOk z first (at + length b) bs
+
+abbrev pub after : ℕ → Option (List ℕ) → Option (List ℕ)
+after h none = none
+after h (some hs) = some (h ∷ hs)
+
+-- "the chain from hFstFree visits only masters and ends in 0": the masters that it visits from h on, n of them at most;
+-- none where it visits anything else, or goes on
+unfoldable pub chainFrom : List ℕ → ℕ → ℕ → ℕ → Option (List ℕ)
+chainFrom z first zero h = cond (eqb h 0) (some []) none
+chainFrom z first (suc n) h =
+    cond (eqb h 0) (some []) (cond (isMaster first h) (after h (chainFrom z first n (masterAt z h))) none)
+
+-- the n masters of a chain from h on
 unfoldable pub chain : List ℕ → ℕ → ℕ → List ℕ
 chain z zero h = []
 chain z (suc n) h = h ∷ chain z n (masterAt z h)
+
+-- "relocatable blocks plus chain length equal m"
+abbrev pub countsOk : ℕ → ℕ → Option (List ℕ) → Bool
+countsOk m k none = false
+countsOk m k (some hs) = eqb (k + length hs) m
+
+-- ---- the zone
+
+-- the bytes of the zone in a buffer: "Bytes beyond L are free of any rule"
+abbrev pub zoneOf : List ℕ → List ℕ
+zoneOf s = take (lengthField s) s
+
+-- the rules of a zone z's blocks bs, which begin at first
+unfoldable pub blockRules : List ℕ → ℕ → List (List ℕ) → Bool
+blockRules z first bs =
+    every typeOk bs
+    && every sizeOk bs
+    && every tileOk bs
+    && every zerosOk bs
+    && neighboursOk false bs
+    && handlesOk z first first bs
+
+unfoldable pub zoneRules : List ℕ → ℕ → ℕ → ℕ → Bool
+zoneRules z first m head =
+    blockRules z first (splitBlocks (drop first z))
+    && countsOk m (relocs (splitBlocks (drop first z))) (chainFrom z first m head)
+
+unfoldable pub wellFormed : List ℕ → Bool
+wellFormed s = headerOk s && zoneRules (zoneOf s) (firstField s) (mastersField s) (chainField s)
+
+-- how many relocatable blocks; 0 where the zone is not well-formed
+unfoldable pub countOf : List ℕ → ℕ
+countOf s = cond (wellFormed s) (relocs (splitBlocks (drop (firstField s) (zoneOf s)))) 0

@@ -1,4 +1,4 @@
--- A copy, one byte a turn: what is left to overwrite is written behind what has been.
+-- A copy, one byte a turn: what is left to write is written behind what has been.
 use mathlib.Core.Path.{_≡_, sym, _∙_}
 use mathlib.Core.List.{List, []}
 use Prim.Native.Nat.{ℕ, suc, _+_, _-_, _<_, _≤_}

@@ -50,7 +50,7 @@ write-step s i x l h =
 pub write-none : (s : List ℕ) (i : ℕ) → overwrite s i [] ≡ s
 write-none s i = rw (add-zero, append-nil, take-append-drop)
 
--- every element of l, one by one: the list that is left to overwrite is written behind the one that has been
+-- every element of l, one by one: the list that is left to write is written behind the one that has been
 pub fill-step : (s w : List ℕ) (i to : ℕ) → i < to → to ≤ length s
     → overwrite s i (replicate (to - i) 0) ≡ w → overwrite (set s i 0) (i + 1) (replicate (to - (i + 1)) 0) ≡ w
 fill-step s w i to h k inv =

@@ -13,11 +13,12 @@ use Rattle.bigendian.specs.BigEndian.{fromBE, toBE, slice, Bytes}
 use Rattle.bigendian.proofs.Laws.{be-toBE, length-toBE, bytes-toBE}
 use Rattle.memory.specs.Zeros.{allZero}
 use Rattle.format.proofs.Bool.{and-left, and-right}
-use Rattle.format.specs.WellFormed.{headerOk, lengthField, firstField, mastersField, chainField, typeOf, sizeOf, handleOf, isFree, isReloc, splitBlocks, isMaster, masterAt, links, typeRule, freeRule, relocRule, blockOk, blocksOk, relocs, bodyOk, zoneOf, wellFormed}
+use Rattle.format.specs.WellFormed.{headerOk, lengthField, firstField, mastersField, chainField, typeOf, sizeOf, handleOf, isFree, isReloc, splitBlocks, isMaster, masterAt, relocs, zoneOf, wellFormed}
+use Rattle.format.specs.OneWalk.{links, typeRule, freeRule, relocRule, blockOk, blocksOk, bodyOk}
 use Rattle.format.proofs.Masters.{Master, is-master}
 use Rattle.format.proofs.Count.{one, occurs, All, offsets, one-same, one-other, one-eq, one-le, occurs-offset, occurs-below, length-offsets}
 use Rattle.format.proofs.Live.{chain}
-use Rattle.structure.specs.Structure.{Block, free, fixed, reloc, Structure, size, encodeBlock, decodeBlock, byKind, sizes, relocCount, count, start, len, headOf, placeOf, nextOf, value, words, join, header, encode, decodeZone, decode}
+use Rattle.structure.specs.Structure.{Block, free, fixed, reloc, Structure, size, encodeBlock, decodeBlock, byType, sizes, relocCount, count, start, len, headOf, placeOf, nextOf, value, words, join, header, encode, decodeZone, decode}
 use Rattle.structure.proofs.Codec.{blocks-join, size-free, size-used}
 use Rattle.structure.proofs.Valid.{handlesOf, Tiled, Valid}
 
@@ -135,13 +136,13 @@ reloc-good : (z : List ℕ) (first at h : ℕ) → Master first h → masterAt z
 unfolding relocRule
 reloc-good z first at h m e = rw (master-of first h m, eq-eqb (masterAt z h) (at + 4) e)
 
--- ---- all splitBlocks; each handle's master holds its block's place
+-- ---- all blocks; each handle's master holds its block's place
 
 pub record Placed (z : List ℕ) (first at : ℕ) (bs : List Block) : Type 0 where
   pub holds : (h : ℕ) → 0 < occurs h (handlesOf bs) → Master first h × (masterAt z h ≡ placeOf h at bs)
   pub single : (h : ℕ) → occurs h (handlesOf bs) ≤ 1
 
--- what the bytes of all the splitBlocks say
+-- what the bytes of all the blocks say
 pub record Encs (z : List ℕ) (first : ℕ) (prev : Bool) (at : ℕ) (bs : List Block) : Type 0 where
   pub walk : blocksOk z first prev at (map encodeBlock bs) ≡ true
   pub back : map decodeBlock (map encodeBlock bs) ≡ bs

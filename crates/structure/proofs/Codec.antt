@@ -12,11 +12,12 @@ use Rattle.bigendian.specs.BigEndian.{fromBE, toBE, slice, Bytes}
 use Rattle.bigendian.proofs.Laws.{toBE-be, be-toBE, length-toBE, be2-at, cut2}
 use Rattle.memory.specs.Zeros.{allZero}
 use Rattle.format.proofs.Bool.{and-left, and-right}
-use Rattle.format.specs.WellFormed.{typeOf, sizeOf, handleOf, isFree, isReloc, splitBlocks, splitFrom, typeRule, freeRule, relocRule, blockOk, blocksOk}
+use Rattle.format.specs.WellFormed.{typeOf, sizeOf, handleOf, isFree, isReloc, splitBlocks, splitFrom}
+use Rattle.format.specs.OneWalk.{typeRule, freeRule, relocRule, blockOk, blocksOk}
 use Rattle.format.proofs.Walk.{Good, is-good, size-take, blocks-cons, blocks-nil}
-use Rattle.structure.specs.Structure.{Block, free, fixed, reloc, encodeBlock, decodeBlock, byKind, join}
+use Rattle.structure.specs.Structure.{Block, free, fixed, reloc, encodeBlock, decodeBlock, byType, join}
 
--- ---- joining splitBlocks
+-- ---- joining blocks
 
 drop-pred : (n x : ℕ) (xs : List ℕ) → 0 < n → drop (n - 1) xs ≡ drop n (x ∷ xs)
 drop-pred zero x xs h = let e : ⊥ = omega arith in absurd e
@@ -118,13 +119,13 @@ enc-dec z first prev at b g y =
     go (typeOf b) refl (gb .low) (gb .whole) (gb .rule)
   where
     go : (k : ℕ) → typeOf b ≡ k → 4 ≤ sizeOf b → sizeOf b ≡ length b → typeRule k (freeRule prev b) (relocRule z first at (handleOf b)) ≡ true
-        → encodeBlock (byKind k (free (sizeOf b)) (fixed (drop 2 b)) (reloc (handleOf b) (drop 4 b))) ≡ b
+        → encodeBlock (byType k (free (sizeOf b)) (fixed (drop 2 b)) (reloc (handleOf b) (drop 4 b))) ≡ b
     go zero e l w r = enc-free b e l w (and-right (not prev) _ r) y
     go (suc zero) e l w r = enc-fixed b e l w y
     go (suc (suc zero)) e l w r = enc-reloc b e l w y
     go (suc (suc (suc k))) e l w r = let q : _≡_ {A = ℕ} 0 1 = cc in let x : ⊥ = omega arith in absurd x
 
--- ---- all splitBlocks
+-- ---- all blocks
 
 pub bytes-left : (a b : List ℕ) → Bytes (a ++ b) → Bytes a
 bytes-left a b h = subst Bytes (take-append-seam a b) (bytes-take (length a) (a ++ b) h)

@@ -1,7 +1,6 @@
 pub mod Back
 pub mod Codec
 pub mod Round
-pub mod Rows
 pub mod Sound
 pub mod Table
 pub mod Valid

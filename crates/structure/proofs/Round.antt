@@ -11,7 +11,9 @@ use lib.ListN.{length, getD, take, drop, replicate, length-append, length-take, 
 use lib.Seq.{take-at, drop-at, drop-drop}
 use Rattle.bigendian.specs.BigEndian.{fromBE, toBE, slice, Bytes}
 use Rattle.bigendian.proofs.Laws.{be-toBE, length-toBE}
-use Rattle.format.specs.WellFormed.{headerOk, lengthField, firstField, mastersField, chainField, splitBlocks, isMaster, masterAt, links, blocksOk, relocs, bodyOk, zoneOf, wellFormed}
+use Rattle.format.specs.WellFormed.{headerOk, lengthField, firstField, mastersField, chainField, splitBlocks, isMaster, masterAt, relocs, zoneOf, wellFormed}
+use Rattle.format.proofs.OneWalk.{one-walk}
+use Rattle.format.specs.OneWalk.{links, blocksOk, bodyOk}
 use Rattle.format.proofs.Masters.{Master}
 use Rattle.format.proofs.Count.{one, occurs, All, offsets, one-same, one-other, one-eq, one-le, occurs-offset, length-offsets}
 use Rattle.format.proofs.Live.{chain}
@@ -221,10 +223,10 @@ module _ (s : Structure) (v : Valid s) where
 
   -- the bytes of a valid structure, with any bytes beyond, are well-formed
   pub well-formed : (t : List ℕ) → wellFormed (encode s ++ t) ≡ true
-  unfolding wellFormed
   well-formed t =
       let h = heads t in
       rw (
+        one-walk (e ++ t),
         header-of (e ++ t) (len s) (start s) (count s) (headOf (s .links)) _ h len-four (omega (arith, length-append e t, length-is)) (v .short) (v .few) refl (omega arith),
         zone-is t,
         h .is-first,

@@ -9,12 +9,13 @@ use borrow.Author.Tests.{eqb-true, not-true}
 use lib.ListN.{length, getD, take, drop, length-append, length-drop}
 use Rattle.bigendian.specs.BigEndian.{fromBE, slice, Bytes}
 use Rattle.format.proofs.Bool.{and-left, and-right}
-use Rattle.format.specs.WellFormed.{lengthField, firstField, mastersField, chainField, typeOf, sizeOf, handleOf, isFree, isReloc, splitBlocks, isMaster, masterAt, links, typeRule, freeRule, relocRule, blockOk, blocksOk, relocs, wellFormed, zoneOf}
+use Rattle.format.specs.WellFormed.{lengthField, firstField, mastersField, chainField, typeOf, sizeOf, handleOf, isFree, isReloc, splitBlocks, isMaster, masterAt, relocs, wellFormed, zoneOf}
+use Rattle.format.specs.OneWalk.{links, typeRule, freeRule, relocRule, blockOk, blocksOk}
 use Rattle.format.proofs.Walk.{Good, is-good}
 use Rattle.format.proofs.Masters.{Master}
 use Rattle.format.proofs.Count.{one, occurs, All, offsets, occurs-offset, all-at}
 use Rattle.format.proofs.Live.{handles, chain, Parts, owned, handles-high, chain-low}
-use Rattle.structure.specs.Structure.{Block, free, fixed, reloc, Structure, decodeBlock, byKind, join, decodeZone, decode, count, len}
+use Rattle.structure.specs.Structure.{Block, free, fixed, reloc, Structure, decodeBlock, byType, join, decodeZone, decode, count, len}
 use Rattle.structure.proofs.Codec.{bytes-drop, bytes-left, bytes-right, join-blocks, size-used}
 use Rattle.structure.proofs.Table.{Whole, whole, by, count-is, len-is}
 use Rattle.structure.proofs.Round.{offset-is}
@@ -25,7 +26,7 @@ module _ (z : List ℕ) (first : ℕ) where
       → handlesOf (decodeBlock b ∷ bs) ≡ cond (isReloc b) (handleOf b ∷ handlesOf bs) (handlesOf bs)
   unfolding decodeBlock handlesOf isReloc
   handle-dec prev at b bs g =
-      by z first prev at b g (λ k. handlesOf (byKind k (free (sizeOf b)) (fixed (drop 2 b)) (reloc (handleOf b) (drop 4 b)) ∷ bs) ≡ cond (eqb k 2) (handleOf b ∷ handlesOf bs) (handlesOf bs))
+      by z first prev at b g (λ k. handlesOf (byType k (free (sizeOf b)) (fixed (drop 2 b)) (reloc (handleOf b) (drop 4 b)) ∷ bs) ≡ cond (eqb k 2) (handleOf b ∷ handlesOf bs) (handlesOf bs))
       (λ e. refl) (λ e. refl) (λ e. refl)
 
   pub handles-decs : (prev : Bool) (at : ℕ) (bs : List (List ℕ)) → blocksOk z first prev at bs ≡ true → handlesOf (map decodeBlock bs) ≡ handles bs
@@ -46,7 +47,7 @@ module _ (z : List ℕ) (first : ℕ) where
       (tiled-decs (isFree b) (at + length b) bs (and-right (blockOk z first prev at b) _ g) (bytes-right b (join bs) y) (omega arith))
     where
       go : (k : ℕ) → typeOf b ≡ k → Good z first prev at b → typeRule k (freeRule prev b) (relocRule z first at (handleOf b)) ≡ true → Bytes b → length b ≤ 1048576
-          → Tiled (eqb k 0) (map decodeBlock bs) → Tiled prev (byKind k (free (sizeOf b)) (fixed (drop 2 b)) (reloc (handleOf b) (drop 4 b)) ∷ map decodeBlock bs)
+          → Tiled (eqb k 0) (map decodeBlock bs) → Tiled prev (byType k (free (sizeOf b)) (fixed (drop 2 b)) (reloc (handleOf b) (drop 4 b)) ∷ map decodeBlock bs)
       go zero e gb r y u t = (not-true prev (and-left (not prev) _ r), gb .low, gb .four, omega (arith, gb .whole), t)
       go (suc zero) e gb r y u t = (omega (arith, gb .low, gb .four, gb .whole, length-drop 2 b), omega (arith, gb .four, gb .whole, length-drop 2 b, size-used b 0 e), bytes-drop 2 b y, t)
       go (suc (suc zero)) e gb r y u t = (omega (arith, gb .low, gb .four, gb .whole, length-drop 4 b), omega (arith, gb .four, gb .whole, length-drop 4 b, size-used b 1 e), bytes-drop 4 b y, t)

@@ -11,13 +11,15 @@ use lib.ListN.{length, getD, take, drop, length-append, length-take, length-drop
 use lib.Seq.{take-take, take-add, getD-take, drop-drop, drop-cons, take-all}
 use Rattle.bigendian.specs.BigEndian.{fromBE, toBE, slice, Bytes}
 use Rattle.format.proofs.Bool.{and-left, and-right}
-use Rattle.format.specs.WellFormed.{headerOk, lengthField, firstField, mastersField, chainField, typeOf, sizeOf, handleOf, isFree, isReloc, splitBlocks, isMaster, masterAt, links, typeRule, freeRule, relocRule, blockOk, blocksOk, relocs, bodyOk, zoneOf, wellFormed}
+use Rattle.format.specs.WellFormed.{headerOk, lengthField, firstField, mastersField, chainField, typeOf, sizeOf, handleOf, isFree, isReloc, splitBlocks, isMaster, masterAt, relocs, zoneOf, wellFormed}
+use Rattle.format.proofs.OneWalk.{one-walk}
+use Rattle.format.specs.OneWalk.{links, typeRule, freeRule, relocRule, blockOk, blocksOk, bodyOk}
 use Rattle.format.proofs.Walk.{Good, is-good, drop-take}
 use Rattle.format.proofs.Masters.{Master, is-master}
 use Rattle.format.proofs.Header.{Fields, header-facts}
 use Rattle.format.proofs.Count.{one, occurs, All, offsets, one-same, one-other, one-eq}
 use Rattle.format.proofs.Live.{handles, chain, total, Held, is-held, handles-none, Parts, body-parts, owned, length-handles, length-chain}
-use Rattle.structure.specs.Structure.{Block, free, fixed, reloc, Structure, size, encodeBlock, decodeBlock, byKind, sizes, relocCount, count, start, len, headOf, placeOf, nextOf, value, words, join, header, encode, decodeZone, decode}
+use Rattle.structure.specs.Structure.{Block, free, fixed, reloc, Structure, size, encodeBlock, decodeBlock, byType, sizes, relocCount, count, start, len, headOf, placeOf, nextOf, value, words, join, header, encode, decodeZone, decode}
 use Rattle.structure.proofs.Codec.{part-bytes, bytes-drop, bytes-take, tiles-bytes, join-blocks}
 
 -- ---- words
@@ -44,7 +46,7 @@ all-offsets P first k zero f l q u = tt
 all-offsets P first k (suc n) f l q u =
     (f k (record { low = l; fits = omega arith; four = q }), all-offsets P first (k + 4) n f (omega arith) (omega arith) (omega arith))
 
--- ---- splitBlocks, one at a time
+-- ---- blocks, one at a time
 
 module _ (z : List ℕ) (first : ℕ) (prev : Bool) (at : ℕ) (b : List ℕ) (g : blockOk z first prev at b ≡ true) where
   -- by type
@@ -62,20 +64,20 @@ module _ (z : List ℕ) (first : ℕ) (prev : Bool) (at : ℕ) (b : List ℕ) (g
   unfolding decodeBlock
   size-dec =
       let gb = is-good z first prev at b g in
-      by (λ k. size (byKind k (free (sizeOf b)) (fixed (drop 2 b)) (reloc (handleOf b) (drop 4 b))) ≡ length b)
+      by (λ k. size (byType k (free (sizeOf b)) (fixed (drop 2 b)) (reloc (handleOf b) (drop 4 b))) ≡ length b)
       (λ e. gb .whole) (λ e. omega (arith, gb .low, gb .whole, length-drop 2 b)) (λ e. omega (arith, gb .low, gb .whole, length-drop 4 b))
 
   pub count-dec : (bs : List Block) → relocCount (decodeBlock b ∷ bs) ≡ cond (isReloc b) 1 0 + relocCount bs
   unfolding decodeBlock relocCount isReloc
   count-dec bs =
-      by (λ k. relocCount (byKind k (free (sizeOf b)) (fixed (drop 2 b)) (reloc (handleOf b) (drop 4 b)) ∷ bs) ≡ cond (eqb k 2) 1 0 + relocCount bs)
+      by (λ k. relocCount (byType k (free (sizeOf b)) (fixed (drop 2 b)) (reloc (handleOf b) (drop 4 b)) ∷ bs) ≡ cond (eqb k 2) 1 0 + relocCount bs)
       (λ e. omega arith) (λ e. omega arith) (λ e. omega arith)
 
   pub place-dec : (h o : ℕ) (bs : List Block) → placeOf h o (decodeBlock b ∷ bs) ≡ cond (isReloc b && eqb h (handleOf b)) (o + 4) (placeOf h (o + size (decodeBlock b)) bs)
   unfolding decodeBlock placeOf isReloc
   place-dec h o bs =
-      by (λ k. placeOf h o (byKind k (free (sizeOf b)) (fixed (drop 2 b)) (reloc (handleOf b) (drop 4 b)) ∷ bs)
-      ≡ cond (eqb k 2 && eqb h (handleOf b)) (o + 4) (placeOf h (o + size (byKind k (free (sizeOf b)) (fixed (drop 2 b)) (reloc (handleOf b) (drop 4 b)))) bs))
+      by (λ k. placeOf h o (byType k (free (sizeOf b)) (fixed (drop 2 b)) (reloc (handleOf b) (drop 4 b)) ∷ bs)
+      ≡ cond (eqb k 2 && eqb h (handleOf b)) (o + 4) (placeOf h (o + size (byType k (free (sizeOf b)) (fixed (drop 2 b)) (reloc (handleOf b) (drop 4 b)))) bs))
       (λ e. refl) (λ e. refl) (λ e. refl)
 
 module _ (z : List ℕ) (first : ℕ) where
@@ -230,8 +232,8 @@ cut-take : (s : List ℕ) (n k j : ℕ) → k + j ≤ n → slice (take n s) k j
 cut-take s n k j l = rw (drop-take k n s, take-take j (n - k) (drop k s) (omega arith))
 
 pub whole : (s : List ℕ) → Bytes s → wellFormed s ≡ true → Whole (zoneOf s)
-unfolding wellFormed
-whole s y h =
+whole s y w =
+    let h : (headerOk s && bodyOk (zoneOf s) (firstField s) (mastersField s) (chainField s)) ≡ true = sym (one-walk s) ∙ w in
     let f = header-facts s (and-left _ (bodyOk (zoneOf s) (firstField s) (mastersField s) (chainField s)) h) in
     let b = and-right (headerOk s) _ h in
     let l16 : 16 ≤ lengthField s = omega arith in

@@ -8,7 +8,7 @@ use Rattle.bigendian.specs.BigEndian.{Bytes}
 use Rattle.format.proofs.Count.{occurs, offsets}
 use Rattle.structure.specs.Structure.{Block, free, fixed, reloc, Structure, count, len}
 
--- the handles of the splitBlocks
+-- the handles of the blocks
 unfoldable pub handlesOf : List Block → List ℕ
 handlesOf [] = []
 handlesOf (free n ∷ bs) = handlesOf bs

@@ -1,33 +1,39 @@
--- The structure of a zone, the bytes that it stands for, and the structure of some bytes.
--- The length and the number of masters follow from the chain and the splitBlocks.
+-- The structure of a zone: its blocks in address order and the chain of its free masters; the bytes that a structure stands for,
+-- and the structure of some bytes. The length and the number of masters follow from the two.
 use mathlib.Core.List.{List, [], _∷_, _++_, map}
-use mathlib.Core.Bool.{Bool, true, false, cond}
-use Prim.Native.Nat.{ℕ, zero, suc, _+_, _*_, _-_, _/_, _%_}
-use lib.ListN.{length, getD, take, drop, replicate}
+use mathlib.Core.Bool.{cond}
+use Prim.Native.Nat.{ℕ, zero, suc, _+_, _*_, _-_, _/_}
+use lib.ListN.{length, drop, replicate}
 use lib.Dec.{eqb}
-use Rattle.bigendian.specs.BigEndian.{fromBE, toBE, slice}
-use Rattle.format.specs.WellFormed.{lengthField, firstField, mastersField, chainField, typeOf, sizeOf, handleOf, splitBlocks, relocs, zoneOf, offsets, chain}
+use Rattle.bigendian.specs.BigEndian.{toBE}
+use Rattle.block_type.specs.Limits.{fixedCode, relocCode, freeHeader, fixedHeader, relocHeader, zoneHeader, firstBlock}
+use Rattle.format.specs.WellFormed.{firstField, mastersField, chainField, typeOf, sizeOf, handleOf, splitBlocks, relocs, zoneOf, offsets, chain}
 
+-- a free block by its size, a fixed one by its data, a relocatable one by its handle and its data
 pub data Block : Type 0 where
   free : ℕ → Block
   fixed : List ℕ → Block
   reloc : ℕ → List ℕ → Block
 
 pub record Structure : Type 0 where
+  -- the free masters, in the order of the chain
   pub links : List ℕ
   pub blocks : List Block
 
--- ---- bytes of a structure
+-- ---- the bytes of a structure
 
+-- "Sizes include the header"
 abbrev pub size : Block → ℕ
 size (free n) = n
-size (fixed d) = 2 + length d
-size (reloc h d) = 4 + length d
+size (fixed d) = fixedHeader + length d
+size (reloc h d) = relocHeader + length d
 
+-- "Free: a 4-byte size in 2-byte words; all later bytes zero. Fixed: 14-bit size in words, data from byte 2. Relocatable: the same
+-- 14 bits, then the handle (2 bytes), data from byte 4." The type is the first two bits.
 unfoldable pub encodeBlock : Block → List ℕ
-encodeBlock (free n) = toBE 4 (n / 2) ++ replicate (n - 4) 0
-encodeBlock (fixed d) = toBE 2 (16384 + (2 + length d) / 2) ++ d
-encodeBlock (reloc h d) = toBE 2 (32768 + (4 + length d) / 2) ++ (toBE 2 h ++ d)
+encodeBlock (free n) = toBE 4 (n / 2) ++ replicate (n - freeHeader) 0
+encodeBlock (fixed d) = toBE 2 (fixedCode * 16384 + (fixedHeader + length d) / 2) ++ d
+encodeBlock (reloc h d) = toBE 2 (relocCode * 16384 + (relocHeader + length d) / 2) ++ (toBE 2 h ++ d)
 
 unfoldable pub sizes : List Block → ℕ
 sizes [] = 0
@@ -39,32 +45,37 @@ relocCount (free n ∷ bs) = relocCount bs
 relocCount (fixed d ∷ bs) = relocCount bs
 relocCount (reloc h d ∷ bs) = suc (relocCount bs)
 
+-- m: "relocatable blocks plus chain length"
 abbrev pub count : Structure → ℕ
 count s = relocCount (s .blocks) + length (s .links)
 
+-- bkFst
 abbrev pub start : Structure → ℕ
-start s = 16 + 4 * count s
+start s = firstBlock (count s)
 
+-- L: "Blocks fill bkFst to L"
 abbrev pub len : Structure → ℕ
 len s = start s + sizes (s .blocks)
 
+-- "0 for none"
 abbrev pub headOf : List ℕ → ℕ
 headOf [] = 0
 headOf (h ∷ hs) = h
 
--- the data offset of the block with handle h, the first block being at offset at; 0 where there is none
+-- the data offset of the block with handle h, the first block being at offset `at`; 0 where there is none
 unfoldable pub placeOf : ℕ → ℕ → List Block → ℕ
 placeOf h at [] = 0
 placeOf h at (free n ∷ bs) = placeOf h (at + n) bs
-placeOf h at (fixed d ∷ bs) = placeOf h (at + (2 + length d)) bs
-placeOf h at (reloc k d ∷ bs) = cond (eqb h k) (at + 4) (placeOf h (at + (4 + length d)) bs)
+placeOf h at (fixed d ∷ bs) = placeOf h (at + (fixedHeader + length d)) bs
+placeOf h at (reloc k d ∷ bs) = cond (eqb h k) (at + relocHeader) (placeOf h (at + (relocHeader + length d)) bs)
 
 -- what follows h in the chain; 0 where there is nothing
 unfoldable pub nextOf : ℕ → List ℕ → ℕ
 nextOf h [] = 0
 nextOf h (k ∷ ks) = cond (eqb h k) (headOf ks) (nextOf h ks)
 
--- what a master holds: one of the two is 0
+-- "A live master holds the offset of the block's first data byte, a free one the next free master's offset or 0": of the two
+-- numbers one is 0
 abbrev pub value : Structure → ℕ → ℕ
 value s h = placeOf h (start s) (s .blocks) + nextOf h (s .links)
 
@@ -77,21 +88,23 @@ unfoldable pub join : List (List ℕ) → List ℕ
 join [] = []
 join (b ∷ bs) = b ++ join bs
 
+-- "at 0 the length L (4 bytes); at 4 bkFst (4); at 8 m (4); at 12 hFstFree (2); at 14 two zero bytes"
 unfoldable pub header : Structure → List ℕ
 header s = toBE 4 (len s) ++ (toBE 4 (start s) ++ (toBE 4 (count s) ++ (toBE 2 (headOf (s .links)) ++ 0 ∷ 0 ∷ [])))
 
+-- "Masters follow, 4 bytes each, at 16 + 4i for i below m", then the blocks
 unfoldable pub encode : Structure → List ℕ
-encode s = header s ++ (words (value s) (offsets 16 (count s)) ++ join (map encodeBlock (s .blocks)))
+encode s = header s ++ (words (value s) (offsets zoneHeader (count s)) ++ join (map encodeBlock (s .blocks)))
 
 -- ---- the structure of bytes
 
-abbrev pub byKind : ℕ → Block → Block → Block → Block
-byKind zero a b c = a
-byKind (suc zero) a b c = b
-byKind (suc (suc k)) a b c = c
+abbrev pub byType : ℕ → Block → Block → Block → Block
+byType zero a b c = a
+byType (suc zero) a b c = b
+byType (suc (suc k)) a b c = c
 
 unfoldable pub decodeBlock : List ℕ → Block
-decodeBlock b = byKind (typeOf b) (free (sizeOf b)) (fixed (drop 2 b)) (reloc (handleOf b) (drop 4 b))
+decodeBlock b = byType (typeOf b) (free (sizeOf b)) (fixed (drop fixedHeader b)) (reloc (handleOf b) (drop relocHeader b))
 
 -- of the bytes of a zone, with none beyond its length
 unfoldable pub decodeZone : List ℕ → Structure

@@ -13,7 +13,8 @@ use lib.Dec.{eqb}
 use borrow.Author.Tests.{eqb-true}
 use Rattle.zone.proofs.Sound
 use Rattle.zone.proofs.Sound.{Block, Sound, s-nil, gap-sound, put-sound, release-sound, edit-sound, cut-sound, weld-sound, tidy-sound}
-use Rattle.zone.specs.Calls.{Fixed, fixedHeader, fsize, own, card, alterFixed}
+use Rattle.zone.specs.OnBays.{Fixed, fsize, own, card, alterFixed}
+use Rattle.block_type.specs.Limits.{fixedHeader}
 use lib.ListN.{length, take, length-replicate}
 use mathlib.Core.Option.{Option, none, some}
 use Rattle.zone.proofs.BaysLaws.{Both, absent, present}
@@ -25,7 +26,7 @@ pub record Fits (b : List Cell) (c : Room) : Type 0 where
   pub perm : List·Permᴰ (items b) (c .entries)
   pub sound : Sound b
 
--- the same allocate-fixed block, of a sound size
+-- the same fixed block, of a sound size
 pub record Equal (x y : Fixed) : Type 0 where
   pub equal : x ≡ y
   pub block : Block (fsize x)
@@ -64,7 +65,7 @@ reshape-fits h a q b c r t =
 
 -- the zone and the ledger: items and what is read are equal, and so are the calls
 abbrev pub link : Link (List Cell) Room
-link = record { R = Fits; Q = Equal; D = Single; W = λ h x y. x ≡ y; Chosen = λ h. ⊥; Seen = λ t v w. v ≡ w }
+link = record { R = Fits; Q = Equal; D = Single; W = λ h x y. x ≡ y; Seen = λ t v w. v ≡ w }
 
 both-self : {X : Type 0} (a : Option X) → Both (λ (x y : X). x ≡ y) a a
 both-self none = absent
@@ -96,7 +97,6 @@ agree = record {
   new = λ h c. refl;
   new-size = λ h a x y e. ap (resized a) e;
   put = λ h x y e k b c r l. rw (← e) (put-fits x k b c r l);
-  edit-chosen = λ h k. absurd k;
   drop = λ h b c r. record { size = release-size h b ∙ r .size; perm = rw release-items (perm-remove h (r .perm)); sound = release-sound h (r .sound) };
   edit = λ h f q b c r. record { size = edit-size h f q b ∙ r .size; perm = rw edit-items (perm-map (alter h f) (r .perm)); sound = edit-sound h f q (r .sound) };
   owner = own-agree;

@@ -1,4 +1,4 @@
--- A call that changes one bay changes one growHere of the splitBlocks, and of the bytes.
+-- A call that changes one bay changes one growHere of the blocks, and of the bytes.
 use mathlib.Core.Path.{_≡_, refl, ap, ap₂, sym, _∙_}
 use mathlib.Core.Bool.{Bool, true, false, cond}
 use mathlib.Core.Option.{Option, none, some}
@@ -12,7 +12,7 @@ use Rattle.structure.specs.Structure.{Block, free, fixed, reloc, encodeBlock, j
 use Rattle.zone.specs.Bays.{Bays, last, more, over, onLow, maxS}
 use Rattle.zone.specs.Bay.{Item, Cell, free as gapCell, held, baySize, baySum}
 use Rattle.zone.proofs.BayLaws.{Each, nothing, just, each-over, each-cond′}
-use Rattle.zone.specs.Calls.{Fixed}
+use Rattle.zone.specs.OnBays.{Fixed}
 use Rattle.zone.specs.Group.{flatBay, flatten}
 
 flat-append : (cs : List Cell) (a r : List Block) → flatBay cs (a ++ r) ≡ flatBay cs a ++ r
@@ -20,7 +20,7 @@ flat-append [] a r = refl
 flat-append (gapCell n ∷ cs) a r = ap (free n ∷_) (flat-append cs a r)
 flat-append (held e ∷ cs) a r = ap (reloc (e .handle) (e .bytes) ∷_) (flat-append cs a r)
 
--- the splitBlocks before the bay, its cells, and the splitBlocks behind; pre ends in a fixed block or is empty, by how it is made
+-- the blocks before the bay, its cells, and the blocks behind; pre ends in a fixed block or is empty, by how it is made
 pub record AtBay (t : List Cell → Bool) (f : List Cell → List Cell) (s u : Bays (List Cell) Fixed) : Type 0 where
   pub pre : List Block
   pub bay : List Cell

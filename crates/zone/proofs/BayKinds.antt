@@ -2,9 +2,16 @@
 use mathlib.Core.List.{List, [], _∷_, _++_, map}
 use Prim.Native.Nat.{ℕ, _+_, _-_}
 use Rattle.zone.specs.Bay.{Item, total, remove, alter, sized}
-use Rattle.zone.specs.Calls.{BayKind}
+use Rattle.zone.specs.OnBays.{BayKind}
 pub use Rattle.zone.specs.ZoneBays.{zoneBays}
-pub use Rattle.zone.specs.LedgerText.{Room, room}
+
+-- a ledger's bay: its capacity, and its items in no order
+pub record Room : Type 0 where
+  pub cap : ℕ
+  pub entries : List Item
+
+abbrev pub room : ℕ → List Item → Room
+room n es = record { cap = n; entries = es }
 
 abbrev pub ledgerBays : BayKind Room
 ledgerBays = record {

@@ -9,7 +9,8 @@ use lib.ListN.{length, take, drop, replicate}
 use lib.Dec.{leb, ltb, eqb}
 use borrow.Author.Tests.{leb-true, leb-false, eqb-true, eqb-false}
 use Rattle.zone.specs.Bays.{over}
-use Rattle.zone.specs.Bay.{is, Item, header, itemSize, total, remove, alter, get, count, Cell, free, held, baySize, baySum, items, merge, gap, packed, joinBays, compactBay, fit, put, trim, takeHigh, release, edit}
+use Rattle.zone.specs.Bay.{is, Item, itemSize, total, remove, alter, get, count, Cell, free, held, baySize, baySum, items, merge, gap, packed, joinBays, compactBay, fit, put, trim, takeHigh, release, edit}
+use Rattle.block_type.specs.Limits.{relocHeader}
 
 pub bsize-split : (cs : List Cell) → baySize cs ≡ baySum cs + total (items cs)
 bsize-split [] = refl
@@ -139,7 +140,7 @@ edit-items h f (free n ∷ cs) = edit-items h f cs
 edit-items h f (held e ∷ cs) = ap (alter h f e ∷_) (edit-items h f cs)
 
 pub alter-size : (h : ℕ) (f : List ℕ → List ℕ) (e : Item) → ((b : List ℕ) → length (f b) ≡ length b) → itemSize (alter h f e) ≡ itemSize e
-alter-size h f e q = cond-one itemSize (is h e) (ap (header +_) (q (e .bytes))) refl
+alter-size h f e q = cond-one itemSize (is h e) (ap (relocHeader +_) (q (e .bytes))) refl
 
 pub edit-size : (h : ℕ) (f : List ℕ → List ℕ) → ((b : List ℕ) → length (f b) ≡ length b) → (cs : List Cell) → baySize (edit h f cs) ≡ baySize cs
 edit-size h f q [] = refl

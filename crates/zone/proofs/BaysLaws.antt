@@ -1,4 +1,4 @@
--- Two strips whose bays are related by R and whose allocate-fixed blocks are related by Q: each function of Bays keeps that, for ANY R and Q.
+-- Two strips whose bays are related by R and whose fixed blocks are related by Q: each function of Bays keeps that, for ANY R and Q.
 use mathlib.Core.Path.{_≡_, refl, ap, ap₂, sym, _∙_, subst}
 use mathlib.Core.Bool.{Bool, true, false, cond, true≢false, false≢true}
 use mathlib.Core.Option.{Option, none, some}

@@ -7,10 +7,11 @@ use Prim.Native.Nat.{ℕ, zero, suc, _+_, _-_, _*_, _/_, _%_, _^_}
 use lib.ListN.{length, take, drop, replicate}
 use lib.Dec.{leb, ltb, eqb}
 use Rattle.zone.specs.Bays.{Bays, last, more, orElse, sumS}
-use Rattle.zone.specs.Bay.{is, Item, itemSize, Cell, free, held, baySize, items, header}
-use Rattle.zone.specs.Calls.{Fixed, fsize, State, handlesFrom}
+use Rattle.zone.specs.Bay.{is, Item, itemSize, Cell, free, held, baySize, items}
+use Rattle.block_type.specs.Limits.{relocHeader}
+use Rattle.zone.specs.OnBays.{Fixed, fsize, State, handlesFrom}
 use Rattle.zone.proofs.Handles.{Zone}
-use Rattle.zone.proofs.Places.{firstBlock}
+use Rattle.block_type.specs.Limits.{firstBlock}
 
 -- w bytes, high byte first
 abbrev pub big : ℕ → ℕ → List ℕ
@@ -28,7 +29,7 @@ cellBytes [] = []
 cellBytes (free n ∷ cs) = freeBytes n ++ cellBytes cs
 cellBytes (held e ∷ cs) = itemBytes e ++ cellBytes cs
 
--- a allocate-fixed block's header: fixedHeader bytes
+-- a fixed block's header: fixedHeader bytes
 abbrev pub fixedHead : Fixed → List ℕ
 fixedHead x = big 2 (16384 + fsize x / 2)
 
@@ -43,7 +44,7 @@ blockBytes (more b x s) = cellBytes b ++ (fixedBytes x ++ blockBytes s)
 abbrev pub whereIn : ℕ → ℕ → List Cell → Option ℕ
 whereIn h p [] = none
 whereIn h p (free n ∷ cs) = whereIn h (p + n) cs
-whereIn h p (held e ∷ cs) = cond (is h e) (some (p + header)) (whereIn h (p + itemSize e) cs)
+whereIn h p (held e ∷ cs) = cond (is h e) (some (p + relocHeader)) (whereIn h (p + itemSize e) cs)
 
 abbrev pub whereS : ℕ → ℕ → Bays (List Cell) Fixed → Option ℕ
 whereS h p (last b) = whereIn h p b

@@ -15,14 +15,15 @@ use Rattle.zone.proofs.BayLaws.{Each, nothing, just, each-cond, each-ov
 use Rattle.zone.proofs.Sums.{each-orElse, each-weaken}
 use Rattle.zone.proofs.Resize.{length-sized}
 use Rattle.zone.proofs.Own.{own-shaped}
-use Rattle.zone.specs.Calls.{relocLimit, fixedLimit, fixedHeader, Fixed, fsize, pointer, alterFixed, newItem, newFixed, placeLow, placeHigh, joinAt, lookup, own, resizeIn, up4}
+use Rattle.block_type.specs.Limits.{relocLimit, fixedLimit, fixedHeader, up4}
+use Rattle.zone.specs.OnBays.{Fixed, fsize, pointer, alterFixed, newItem, newFixed, placeLow, placeHigh, joinAt, lookup, own, resizeIn}
 use Rattle.zone.proofs.BayKinds.{zoneBays}
 use Rattle.zone.proofs.Sound.{Block}
 use Rattle.zone.proofs.Walk.{Closed, any}
 use lib.Seq.{sets, length-sets}
 use Rattle.zone.proofs.Handles.{Zone}
 
--- ---- of every bay and every allocate-fixed block
+-- ---- of every bay and every fixed block
 
 pub data Every {B F : Type 0} (P : B → Type 0) (Q : F → Type 0) : Bays B F → Type 0 where
   e-last : {b : B} → P b → Every P Q (last b)

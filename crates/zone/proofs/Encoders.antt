@@ -17,13 +17,13 @@ use Rattle.zone.specs.Bay as Bay
 use Rattle.zone.specs.Bay.{Item, is, itemSize, Cell, free as gapCell, held, baySize, items}
 use Rattle.zone.proofs.BayLaws.{Each, nothing, just}
 use Rattle.zone.proofs.Sums.{each-weaken, each-orElse}
-use Rattle.zone.specs.Calls.{Fixed, fsize, handlesFrom}
+use Rattle.zone.specs.OnBays.{Fixed, fsize, handlesFrom}
 use Rattle.zone.proofs.Handles as Handles
 use Rattle.zone.proofs.Handles.{live, occurs-once}
 use Rattle.zone.proofs.Bytes as Old
 use Rattle.zone.proofs.Bytes.{big, cellBytes, blockBytes, whereIn, whereS, headOr0, masterOf, masterBytes, zoneBytes}
 use Rattle.zone.specs.Group.{flatBay, flatten}
-use Rattle.zone.specs.Meaning.{Zone, inLine}
+use Rattle.zone.specs.OnBytes.{Zone, inLine}
 use Rattle.zone.proofs.Keep.{Whole, count-line, len-line, offsets-same}
 
 big-is : (w n : ℕ) → big w n ≡ toBE w n

@@ -7,9 +7,9 @@ use lib.ListN.{length, length-append}
 use Rattle.zone.specs.Bays.{Bays, last, more, AllS}
 use Rattle.zone.specs.Bay.{Item, itemSize, Cell, free, held}
 use Rattle.zone.proofs.Sound.{Block, Sound, s-nil, s-end, s-free, s-held}
-use Rattle.zone.specs.Calls.{Fixed, fsize}
+use Rattle.zone.specs.OnBays.{Fixed, fsize}
 use Rattle.zone.proofs.Handles.{Zone}
-use Rattle.zone.proofs.Places.{firstBlock}
+use Rattle.block_type.specs.Limits.{firstBlock}
 use Rattle.zone.proofs.Bytes.{freeBytes, itemBytes, fixedBytes, cellBytes, blockBytes, zoneBytes}
 use Rattle.zone.proofs.Stands.{Stands, length-free, in-zone}
 

@@ -8,7 +8,7 @@ use lib.ListN.{length}
 use Rattle.structure.specs.Structure.{Block, free, fixed, reloc}
 use Rattle.zone.specs.Bays.{Bays, last, more}
 use Rattle.zone.specs.Bay.{Item, itemSize, Cell, free as gapCell, held, baySize}
-use Rattle.zone.specs.Calls.{Fixed, fsize}
+use Rattle.zone.specs.OnBays.{Fixed, fsize}
 use Rattle.zone.proofs.Places.{Tiled, tile-last, tile-more}
 use Rattle.zone.specs.Group.{inFront, group, flatBay, flatten}
 

@@ -1,4 +1,4 @@
--- From a line of splitBlocks to bays: what holds of a valid structure, grouped.
+-- From a line of blocks to bays: what holds of a valid structure, grouped.
 use mathlib.Core.Path.{_≡_, refl, ap, ap₂, sym, _∙_, subst}
 use mathlib.Core.Bool.{Bool, true, false, cond, false≢true}
 use mathlib.Core.List.{List, [], _∷_, _++_, Permᴰ·refl}
@@ -13,21 +13,22 @@ use Rattle.zone.proofs.BaysLaws.{Like, like-last, like-more}
 use Rattle.zone.specs.Bay.{Item, itemSize, Cell, free as gapCell, held, baySize, items}
 use Rattle.zone.proofs.Sound as Sound
 use Rattle.zone.proofs.Sound.{Sound, s-nil, s-end, s-free, s-held}
-use Rattle.zone.specs.Calls as Calls
-use Rattle.zone.specs.Calls.{Fixed, fsize, Call, Out, step}
+use Rattle.zone.specs.OnBays as OnBays
+use Rattle.zone.specs.OnBays.{Fixed, fsize, Out, step}
+use Rattle.calls.specs.Calls.{Call}
 use Rattle.zone.proofs.BayKinds.{Room, room, zoneBays, ledgerBays}
-use Rattle.zone.proofs.Simulation.{sim, alike, step-same, same-next}
+use Rattle.zone.proofs.Simulation.{sim, step-same, same-next}
 use Rattle.zone.proofs.Agreement.{Fits, Equal, link, agree}
-use Rattle.zone.proofs.Ledger.{Matches}
+use Rattle.zone.proofs.Matching.{Matches}
 use Rattle.zone.proofs.Handles.{Owns, live, masters, owns-closed, single}
 use Rattle.zone.proofs.Places as Places
 use Rattle.zone.proofs.Places.{tile-last, tile-more, Placed, placed-closed}
 use Rattle.zone.proofs.Walk.{left, step-closed, step-kept, Fed}
 use Rattle.zone.proofs.Clean.{Every, e-last, e-more, Items, i-nil, i-cons, ItemOk, FixedOk, BayOk, Data, Clean, Feeds, clean-closed}
-use Rattle.zone.proofs.Trace.{Bounded, bounded-closed, Long, long-closed, sound-of}
+use Rattle.zone.proofs.Bounds.{Bounded, bounded-closed, Long, long-closed, sound-of}
 use Rattle.zone.specs.Group.{inFront, group, flatBay, flatten}
 use Rattle.zone.proofs.GroupLaws.{flatten-group, group-flatten}
-use Rattle.zone.specs.Meaning.{Zone, inBays, inLine}
+use Rattle.zone.specs.OnBytes.{Zone, inBays, inLine}
 use Rattle.zone.proofs.Keep.{Whole, live-strip, occurs-same, masters-same}
 
 pub line-bays : (buf : ℕ) (s : Structure) → inLine (inBays buf s) ≡ s
@@ -113,7 +114,7 @@ shows-self (more b x s) d (e-more i q r) = like-more {x = x} {y = x} (record { s
 
 pub whole-step : (c : Call) (z : Zone) → Fed Feeds c → Whole z → Whole ((step zoneBays c z) .next)
 whole-step c z f w =
-    let r = same-next zoneBays ledgerBays link agree (step-same zoneBays ledgerBays link agree (alike c) (single z (w .owned)) (sim (shows-self (z .bays) (w .sound) (w .clean .clean)))) in
+    let r = same-next zoneBays ledgerBays link agree (step-same zoneBays ledgerBays link agree c (single z (w .owned)) (sim (shows-self (z .bays) (w .sound) (w .clean .clean)))) in
     record {
       owned = left (step-kept zoneBays Owns owns-closed c z (w .owned));
       placed = left (step-kept zoneBays Placed placed-closed c z (w .placed));

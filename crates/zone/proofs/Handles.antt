@@ -16,7 +16,10 @@ use Rattle.zone.proofs.Sums.{each-weaken, each-and, each-orElse, find-e
 use Rattle.zone.proofs.Walk.{Closed, Whatever}
 use Rattle.zone.proofs.Own.{own-shaped}
 use Rattle.zone.proofs.Resize.{Shaped}
-use Rattle.zone.specs.Calls.{alterFixed, up4, Fixed, fixedHeader, fsize, pointer, BayKind, State, Answer, Out, Call, allocate-relocatable, allocate-fixed, free-handle, free-pointer, read, write, size, compact, sums, enlarge, shrink, answers, refusal, refuse, done, orRefuse, onTop, withBays, lookup, own, reaches, newItem, newFixed, placeLow, placeHigh, joinAt, allocate, allocateFixed, freeHandle, freePointer, sizeOf, compactAll, totalsOf, enlargeBy, shrinkBy, step, initial, run, after, handlesFrom}
+use Rattle.zone.specs.OnBays.{alterFixed, Fixed, fsize, pointer, BayKind, State, Out, refuse, done, orRefuse, onTop, withBays, lookup, own, reaches, newItem, newFixed, placeLow, placeHigh, joinAt, allocate, allocateFixed, freeHandle, freePointer, sizeOf, compactAll, enlargeBy, shrinkBy, step, initial, run, after, handlesFrom}
+use Rattle.block_type.specs.Limits.{up4, fixedHeader}
+use Rattle.calls.specs.Calls.{Answer, Call, allocate-relocatable, allocate-fixed, free-handle, free-pointer, read, write, size, compact, sums, enlarge, shrink, answers, refusal}
+use Rattle.zone.specs.OnBays.{sumAll}
 use Rattle.zone.proofs.BayKinds.{zoneBays}
 
 abbrev pub Zone : Type 0

@@ -19,16 +19,16 @@ use Rattle.zone.specs.Bay as Bay
 use Rattle.zone.specs.Bay.{Item, is, itemSize, Cell, free as gapCell, held, baySize, items}
 use Rattle.zone.proofs.Sound as Sound
 use Rattle.zone.proofs.Sound.{Sound, s-nil, s-end, s-free, s-held}
-use Rattle.zone.specs.Calls.{Fixed, fsize, handlesFrom}
+use Rattle.zone.specs.OnBays.{Fixed, fsize, handlesFrom}
 use Rattle.zone.proofs.Handles as Handles
 use Rattle.zone.proofs.Handles.{Owns, live, masters}
 use Rattle.zone.proofs.Places as Places
 use Rattle.zone.proofs.Places.{tile-last, tile-more, Placed}
 use Rattle.zone.proofs.Clean.{Every, e-last, e-more, Items, i-nil, i-cons, ItemOk, FixedOk, BayOk, Data, Clean}
-use Rattle.zone.proofs.Trace.{Bounded}
+use Rattle.zone.proofs.Bounds.{Bounded}
 use Rattle.zone.specs.Group.{group, flatBay, flatten}
 use Rattle.zone.proofs.GroupLaws.{flatten-group, group-flatten}
-use Rattle.zone.specs.Meaning.{Zone, inBays, inLine}
+use Rattle.zone.specs.OnBytes.{Zone, inBays, inLine}
 
 -- ---- sizes
 

@@ -8,7 +8,7 @@ use lib.Dec.{eqb}
 use borrow.Author.Tests.{eqb-true}
 use Rattle.zone.specs.Bay.{Cell, baySum, items, count, get, reshape, roomFor}
 use Rattle.zone.proofs.Resize.{Shaped, reshape-shaped}
-use Rattle.zone.specs.Calls.{own}
+use Rattle.zone.specs.OnBays.{own}
 use Rattle.zone.proofs.BayKinds.{zoneBays}
 
 pub own-shaped : (h a : ℕ) (b : List Cell) → own zoneBays h a b ≡ true → Shaped h a b (reshape h a b)

@@ -1,4 +1,4 @@
--- Compaction of every bay, as one pass over the splitBlocks: what a loop in the code follows.
+-- Compaction of every bay, as one pass over the blocks: what a loop in the code follows.
 use mathlib.Core.Path.{_≡_, refl, ap, ap₂, sym, _∙_}
 use mathlib.Core.List.{List, [], _∷_}
 use Prim.Native.Nat.{ℕ, zero, suc, _+_}
@@ -7,10 +7,11 @@ use lib.ListN.{length}
 use Rattle.structure.specs.Structure.{Structure, Block, free, fixed, reloc, start}
 use Rattle.zone.specs.Bays.{Bays, last, more, mapS}
 use Rattle.zone.specs.Bay.{Item, Cell, free as gapCell, held, baySum, items, gap, packed, compactBay}
-use Rattle.zone.specs.Calls.{Fixed, step, compact}
+use Rattle.zone.specs.OnBays.{Fixed, step}
+use Rattle.calls.specs.Calls.{compact}
 use Rattle.zone.specs.ZoneBays.{zoneBays}
 use Rattle.zone.specs.Group.{inFront, group, flatBay, flatten}
-use Rattle.zone.specs.Meaning.{inBays, inLine}
+use Rattle.zone.specs.OnBytes.{inBays, inLine}
 
 -- a free block of n bytes in front, or none
 abbrev pub hole : ℕ → List Block → List Block
@@ -53,6 +54,6 @@ pack-tidied n p (fixed d ∷ bs) =
     ∙ flat-hole n (fixed d ∷ flatten (mapS compactBay (group (p + (2 + length d)) bs)))
     ∙ ap (λ (r : List Block). hole n (fixed d ∷ r)) (sym (tidied-0 (group (p + (2 + length d)) bs)) ∙ pack-tidied 0 (p + (2 + length d)) bs)
 
--- the structure that compact leaves: the same chain, and the splitBlocks packed
+-- the structure that compact leaves: the same chain, and the blocks packed
 pub compact-line : (buf : ℕ) (s : Structure) → inLine ((step zoneBays compact (inBays buf s)) .next) ≡ record { links = s .links; blocks = pack 0 (s .blocks) }
 compact-line buf s = λ i. record { links = s .links; blocks = (sym (tidied-0 (group (start s) (s .blocks))) ∙ pack-tidied 0 (start s) (s .blocks)) i }

@@ -1,4 +1,4 @@
--- The blocks tile the zone: a allocate-fixed block's place is where it stands, and the last bay ends at the zone's length. Kept by each call.
+-- The blocks tile the zone: a fixed block's place is where it stands, and the last bay ends at the zone's length. Kept by each call.
 use mathlib.Core.Path.{_≡_, refl, ap, ap₂, sym, _∙_, subst}
 use mathlib.Core.Bool.{Bool, true, false, cond}
 use mathlib.Core.Option.{Option, none, some}
@@ -13,7 +13,8 @@ use Rattle.zone.specs.Bay.{Item, itemSize, Cell, baySize, baySum, items,
 use Rattle.zone.proofs.BayLaws.{Each, nothing, just, each-cond, each-over, put-keeps, cut-less, tidy-size, bsize-weld, bsize-gap, release-size, edit-size, cond-one}
 use Rattle.zone.proofs.Sums.{each-orElse, each-weaken}
 use Rattle.zone.proofs.Sound.{Block}
-use Rattle.zone.specs.Calls.{alterFixed, pointer, Fixed, fixedHeader, fsize, State, reaches, newItem, newFixed, placeLow, placeHigh, joinAt, lookup, own, resizeIn}
+use Rattle.zone.specs.OnBays.{alterFixed, pointer, Fixed, fsize, State, reaches, newItem, newFixed, placeLow, placeHigh, joinAt, lookup, own, resizeIn}
+use Rattle.block_type.specs.Limits.{fixedHeader}
 use Rattle.zone.proofs.Own.{own-shaped}
 use Rattle.zone.proofs.BayKinds.{zoneBays}
 use Rattle.zone.proofs.Walk.{Closed, Whatever, any}

@@ -9,7 +9,8 @@ use lib.ListN.{length, take, replicate, length-append, length-take, length-repli
 use lib.Dec.{leb, ltb, eqb}
 use borrow.Author.Tests.{leb-true, leb-false}
 use Rattle.zone.specs.Bays.{over}
-use Rattle.zone.specs.Bay.{is, Item, header, itemSize, total, alter, get, count, Cell, free, held, baySize, baySum, items, gap, packed, sized, resized, growInto, inPlace, growHere, reshape, roomFor}
+use Rattle.zone.specs.Bay.{is, Item, itemSize, total, alter, get, count, Cell, free, held, baySize, baySum, items, gap, packed, sized, resized, growInto, inPlace, growHere, reshape, roomFor}
+use Rattle.block_type.specs.Limits.{relocHeader}
 use Rattle.zone.proofs.BayLaws.{bsize-split, bsize-gap, items-gap, bsize-packed, items-packed, Each, nothing, just, each-over, each-cond, each-cond′, each-getD}
 use Rattle.zone.proofs.Sums.{each-weaken}
 use Rattle.zone.proofs.Sound.{Block, Sound, s-nil, s-end, s-free, s-held, Sizes, z-nil, z-cons, items-sizes, packed-sound, gap-sound, sum-by4}

@@ -1,74 +1,46 @@
--- The starred rows of the rig sheet, computed from bytes to bytes: one table.
-use mathlib.Core.Path.{_≡_, refl}
-use mathlib.Core.List.{List, [], _∷_, map}
-use Prim.Native.Nat.{ℕ}
-use lib.ListN.{replicate, take, drop}
-use Rattle.bigendian.specs.BigEndian.{fromBE, toBE, slice}
+-- The table of the rig sheet holds: each row is computed from bytes to bytes.
+use mathlib.Core.Path.{refl}
+use Rattle.bigendian.specs.BigEndian.{fromBE, toBE}
 use Rattle.memory.specs.Zeros.{allZero}
-use Rattle.format.specs.WellFormed.{headerOk, typeOf, sizeOf, handleOf, isFree, isReloc, splitFrom, isMaster, links, typeRule, freeRule, relocRule, blockOk, blocksOk, relocs, bodyOk, wellFormed, offsets, chain, masterAt}
+use Rattle.format.specs.WellFormed.{wellFormed, headerOk, zoneRules, blockRules, every, typeOk, sizeOk, tileOk, zerosOk, neighboursOk, handlesOk, chainFrom, typeOf, sizeOf, handleOf, isFree, isReloc, splitFrom, isMaster, relocs, chain, offsets}
 use Rattle.structure.specs.Structure.{encodeBlock, sizes, relocCount, placeOf, nextOf, words, join, header, encode, decodeBlock, decodeZone, decode}
-use Rattle.zone.specs.Calls.{Call, Answer, allocate-relocatable, allocate-fixed, free-handle, free-pointer, resize, shrink, size, by-handle, by-pointer}
-use Rattle.zone.specs.Meaning.{initBytes, runBytes, afterBytes}
+use Rattle.zone.specs.RigSheet.{Holds, AllHold, end, row, r1, r2, r3-before, r3, r4, r5, r6, r7, r8, table}
 
--- six bytes beyond the zone
-abbrev fresh : List ℕ
-fresh = (initBytes 64 4 (replicate 70 9)) .bytes
+row-r1 : Holds r1
+unfolding wellFormed headerOk zoneRules blockRules every typeOk sizeOk tileOk zerosOk neighboursOk handlesOk chainFrom typeOf sizeOf handleOf isFree isReloc splitFrom isMaster relocs chain allZero fromBE encode header toBE words join encodeBlock decodeBlock decode decodeZone placeOf nextOf sizes relocCount offsets
+row-r1 = record { told = refl; stands = refl }
 
--- a row: refusal and value of each call, the masters of the handles named, and some bytes afterwards
-abbrev brief : Answer → List ℕ
-brief a = a .number ∷ a .value ∷ []
+row-r2 : Holds r2
+unfolding wellFormed headerOk zoneRules blockRules every typeOk sizeOk tileOk zerosOk neighboursOk handlesOk chainFrom typeOf sizeOf handleOf isFree isReloc splitFrom isMaster relocs chain allZero fromBE encode header toBE words join encodeBlock decodeBlock decode decodeZone placeOf nextOf sizes relocCount offsets
+row-r2 = record { told = refl; stands = refl }
 
-abbrev row : List Call → List ℕ → ℕ → ℕ → List (List ℕ)
-row cs hs at n = slice (afterBytes cs fresh) at n ∷ map (masterAt (afterBytes cs fresh)) hs ∷ map brief (runBytes cs fresh)
+row-r3-before : Holds r3-before
+unfolding wellFormed headerOk zoneRules blockRules every typeOk sizeOk tileOk zerosOk neighboursOk handlesOk chainFrom typeOf sizeOf handleOf isFree isReloc splitFrom isMaster relocs chain allZero fromBE encode header toBE words join encodeBlock decodeBlock decode decodeZone placeOf nextOf sizes relocCount offsets
+row-r3-before = record { told = refl; stands = refl }
 
-abbrev r2 : List Call
-r2 = allocate-relocatable 6 ∷ []
+row-r3 : Holds r3
+unfolding wellFormed headerOk zoneRules blockRules every typeOk sizeOk tileOk zerosOk neighboursOk handlesOk chainFrom typeOf sizeOf handleOf isFree isReloc splitFrom isMaster relocs chain allZero fromBE encode header toBE words join encodeBlock decodeBlock decode decodeZone placeOf nextOf sizes relocCount offsets
+row-r3 = record { told = refl; stands = refl }
 
-abbrev r3 : List Call
-r3 = allocate-relocatable 6 ∷ allocate-relocatable 8 ∷ free-handle 16 ∷ allocate-relocatable 13 ∷ []
+row-r4 : Holds r4
+unfolding wellFormed headerOk zoneRules blockRules every typeOk sizeOk tileOk zerosOk neighboursOk handlesOk chainFrom typeOf sizeOf handleOf isFree isReloc splitFrom isMaster relocs chain allZero fromBE encode header toBE words join encodeBlock decodeBlock decode decodeZone placeOf nextOf sizes relocCount offsets
+row-r4 = record { told = refl; stands = refl }
 
-abbrev r4 : List Call
-r4 = allocate-relocatable 6 ∷ allocate-relocatable 8 ∷ free-handle 16 ∷ allocate-relocatable 13 ∷ allocate-relocatable 0 ∷ resize 20 4 ∷ allocate-relocatable 0 ∷ size (by-handle 24) ∷ []
+row-r5 : Holds r5
+unfolding wellFormed headerOk zoneRules blockRules every typeOk sizeOk tileOk zerosOk neighboursOk handlesOk chainFrom typeOf sizeOf handleOf isFree isReloc splitFrom isMaster relocs chain allZero fromBE encode header toBE words join encodeBlock decodeBlock decode decodeZone placeOf nextOf sizes relocCount offsets
+row-r5 = record { told = refl; stands = refl }
 
-abbrev r5 : List Call
-r5 = allocate-fixed 5 ∷ size (by-pointer 58) ∷ allocate-relocatable 21 ∷ allocate-relocatable 20 ∷ []
+row-r6 : Holds r6
+unfolding wellFormed headerOk zoneRules blockRules every typeOk sizeOk tileOk zerosOk neighboursOk handlesOk chainFrom typeOf sizeOf handleOf isFree isReloc splitFrom isMaster relocs chain allZero fromBE encode header toBE words join encodeBlock decodeBlock decode decodeZone placeOf nextOf sizes relocCount offsets
+row-r6 = record { told = refl; stands = refl }
 
-abbrev r6 : List Call
-r6 = allocate-fixed 0 ∷ allocate-fixed 10 ∷ allocate-fixed 0 ∷ free-pointer 50 ∷ allocate-relocatable 9 ∷ allocate-relocatable 8 ∷ allocate-relocatable 8 ∷ []
+row-r7 : Holds r7
+unfolding wellFormed headerOk zoneRules blockRules every typeOk sizeOk tileOk zerosOk neighboursOk handlesOk chainFrom typeOf sizeOf handleOf isFree isReloc splitFrom isMaster relocs chain allZero fromBE encode header toBE words join encodeBlock decodeBlock decode decodeZone placeOf nextOf sizes relocCount offsets
+row-r7 = record { told = refl; stands = refl }
 
-row-1 : row [] [] 0 70 ≡ ((0 ∷ 0 ∷ 0 ∷ 64 ∷ 0 ∷ 0 ∷ 0 ∷ 32 ∷ 0 ∷ 0 ∷ 0 ∷ 4 ∷ 0 ∷ 16 ∷ 0 ∷ 0 ∷ 0 ∷ 0 ∷ 0 ∷ 20 ∷ 0 ∷ 0 ∷ 0 ∷ 24 ∷ 0 ∷ 0 ∷ 0 ∷ 28 ∷ 0 ∷ 0 ∷ 0 ∷ 0 ∷ 0 ∷ 0 ∷ 0 ∷ 16
-    ∷ 0 ∷ 0 ∷ 0 ∷ 0 ∷ 0 ∷ 0 ∷ 0 ∷ 0 ∷ 0 ∷ 0 ∷ 0 ∷ 0 ∷ 0 ∷ 0 ∷ 0 ∷ 0 ∷ 0 ∷ 0 ∷ 0 ∷ 0 ∷ 0 ∷ 0 ∷ 0 ∷ 0 ∷ 0 ∷ 0 ∷ 0 ∷ 0 ∷ 9 ∷ 9 ∷ 9 ∷ 9 ∷ 9 ∷ 9 ∷ []) ∷ [] ∷ [])
-unfolding wellFormed headerOk bodyOk typeOf sizeOf handleOf isFree isReloc splitFrom isMaster links typeRule freeRule relocRule blockOk blocksOk relocs chain allZero fromBE encode header toBE words join encodeBlock decodeBlock decode decodeZone placeOf nextOf sizes relocCount offsets
-row-1 = refl
+row-r8 : Holds r8
+unfolding wellFormed headerOk zoneRules blockRules every typeOk sizeOk tileOk zerosOk neighboursOk handlesOk chainFrom typeOf sizeOf handleOf isFree isReloc splitFrom isMaster relocs chain allZero fromBE encode header toBE words join encodeBlock decodeBlock decode decodeZone placeOf nextOf sizes relocCount offsets
+row-r8 = record { told = refl; stands = refl }
 
-row-2 : row r2 (16 ∷ []) 32 4 ≡ ((128 ∷ 6 ∷ 0 ∷ 16 ∷ []) ∷ (36 ∷ []) ∷ (0 ∷ 16 ∷ []) ∷ [])
-unfolding wellFormed headerOk bodyOk typeOf sizeOf handleOf isFree isReloc splitFrom isMaster links typeRule freeRule relocRule blockOk blocksOk relocs chain allZero fromBE encode header toBE words join encodeBlock decodeBlock decode decodeZone placeOf nextOf sizes relocCount offsets
-row-2 = refl
-
-row-3 : row (allocate-relocatable 6 ∷ allocate-relocatable 8 ∷ []) (16 ∷ 20 ∷ []) 44 4 ≡ ((128 ∷ 6 ∷ 0 ∷ 20 ∷ []) ∷ (36 ∷ 48 ∷ []) ∷ (0 ∷ 16 ∷ []) ∷ (0 ∷ 20 ∷ []) ∷ [])
-unfolding wellFormed headerOk bodyOk typeOf sizeOf handleOf isFree isReloc splitFrom isMaster links typeRule freeRule relocRule blockOk blocksOk relocs chain allZero fromBE encode header toBE words join encodeBlock decodeBlock decode decodeZone placeOf nextOf sizes relocCount offsets
-row-3 = refl
-
-row-4 : row r3 (20 ∷ 16 ∷ []) 44 4 ≡ ((128 ∷ 10 ∷ 0 ∷ 16 ∷ []) ∷ (36 ∷ 48 ∷ []) ∷ (0 ∷ 16 ∷ []) ∷ (0 ∷ 20 ∷ []) ∷ (0 ∷ 0 ∷ []) ∷ (0 ∷ 16 ∷ []) ∷ [])
-unfolding wellFormed headerOk bodyOk typeOf sizeOf handleOf isFree isReloc splitFrom isMaster links typeRule freeRule relocRule blockOk blocksOk relocs chain allZero fromBE encode header toBE words join encodeBlock decodeBlock decode decodeZone placeOf nextOf sizes relocCount offsets
-row-4 = refl
-
-row-5 : row r4 (24 ∷ []) 64 6 ≡ ((9 ∷ 9 ∷ 9 ∷ 9 ∷ 9 ∷ 9 ∷ []) ∷ (44 ∷ []) ∷ (0 ∷ 16 ∷ []) ∷ (0 ∷ 20 ∷ []) ∷ (0 ∷ 0 ∷ []) ∷ (0 ∷ 16 ∷ []) ∷ (5 ∷ 0 ∷ []) ∷ (0 ∷ 0 ∷ []) ∷ (0 ∷ 24 ∷ []) ∷ (0 ∷ 0 ∷ []) ∷ [])
-unfolding wellFormed headerOk bodyOk typeOf sizeOf handleOf isFree isReloc splitFrom isMaster links typeRule freeRule relocRule blockOk blocksOk relocs chain allZero fromBE encode header toBE words join encodeBlock decodeBlock decode decodeZone placeOf nextOf sizes relocCount offsets
-row-5 = refl
-
-row-6 : row r5 (16 ∷ []) 56 2 ≡ ((64 ∷ 4 ∷ []) ∷ (36 ∷ []) ∷ (0 ∷ 58 ∷ []) ∷ (0 ∷ 6 ∷ []) ∷ (5 ∷ 0 ∷ []) ∷ (0 ∷ 16 ∷ []) ∷ [])
-unfolding wellFormed headerOk bodyOk typeOf sizeOf handleOf isFree isReloc splitFrom isMaster links typeRule freeRule relocRule blockOk blocksOk relocs chain allZero fromBE encode header toBE words join encodeBlock decodeBlock decode decodeZone placeOf nextOf sizes relocCount offsets
-row-6 = refl
-
-row-7 : row r6 (16 ∷ 20 ∷ []) 0 4 ≡ ((0 ∷ 0 ∷ 0 ∷ 64 ∷ []) ∷ (36 ∷ 52 ∷ []) ∷ (0 ∷ 62 ∷ []) ∷ (0 ∷ 50 ∷ []) ∷ (0 ∷ 46 ∷ []) ∷ (0 ∷ 0 ∷ []) ∷ (5 ∷ 0 ∷ []) ∷ (0 ∷ 16 ∷ []) ∷ (0 ∷ 20 ∷ []) ∷ [])
-unfolding wellFormed headerOk bodyOk typeOf sizeOf handleOf isFree isReloc splitFrom isMaster links typeRule freeRule relocRule blockOk blocksOk relocs chain allZero fromBE encode header toBE words join encodeBlock decodeBlock decode decodeZone placeOf nextOf sizes relocCount offsets
-row-7 = refl
-
-row-8 : row (shrink 10 ∷ []) [] 0 4 ≡ ((0 ∷ 0 ∷ 0 ∷ 56 ∷ []) ∷ [] ∷ (0 ∷ 8 ∷ []) ∷ [])
-unfolding wellFormed headerOk bodyOk typeOf sizeOf handleOf isFree isReloc splitFrom isMaster links typeRule freeRule relocRule blockOk blocksOk relocs chain allZero fromBE encode header toBE words join encodeBlock decodeBlock decode decodeZone placeOf nextOf sizes relocCount offsets
-row-8 = refl
-
-row-9 : row (shrink 1000 ∷ []) [] 0 4 ≡ ((0 ∷ 0 ∷ 0 ∷ 32 ∷ []) ∷ [] ∷ (0 ∷ 32 ∷ []) ∷ [])
-unfolding wellFormed headerOk bodyOk typeOf sizeOf handleOf isFree isReloc splitFrom isMaster links typeRule freeRule relocRule blockOk blocksOk relocs chain allZero fromBE encode header toBE words join encodeBlock decodeBlock decode decodeZone placeOf nextOf sizes relocCount offsets
-row-9 = refl
+pub rig-sheet : AllHold table
+rig-sheet = row row-r1 (row row-r2 (row row-r3-before (row row-r3 (row row-r4 (row row-r5 (row row-r6 (row row-r7 (row row-r8 end))))))))

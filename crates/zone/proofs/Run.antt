@@ -1,4 +1,4 @@
--- The calls on bytes are the calls on bays, one after the other on one buffer.
+-- A call on the bytes of a buffer is the call on the bays that they hold.
 use mathlib.Core.Path.{_≡_, refl, ap, ap₂, sym, _∙_, subst}
 use mathlib.Core.Bool.{Bool, true, false, cond}
 use mathlib.Core.List.{List, [], _∷_, _++_}
@@ -13,16 +13,17 @@ use Rattle.structure.proofs.Valid.{Valid}
 use Rattle.structure.proofs.Round.{well-formed, decode-encode, length-is}
 use Rattle.structure.proofs.Sound.{valid}
 use Rattle.structure.proofs.Table.{encode-decode}
-use Rattle.zone.specs.Calls as Calls
-use Rattle.zone.specs.Calls.{Call, Answer, Out, step, run, after}
+use Rattle.zone.specs.OnBays as OnBays
+use Rattle.calls.specs.Calls.{Call, Answer}
+use Rattle.zone.specs.OnBays.{Out, step, run, after}
 use Rattle.zone.proofs.BayKinds.{Room, zoneBays, ledgerBays}
 use Rattle.zone.proofs.Walk.{Fed}
 use Rattle.zone.proofs.Clean.{Feeds}
 use Rattle.zone.proofs.Handles.{single}
-use Rattle.zone.proofs.Simulation.{alike, AnswerLike, Agreed, g-nil, g-cons, step-same, same-answer, same-next}
+use Rattle.zone.proofs.Simulation.{AnswerLike, Agreed, g-nil, g-cons, step-same, same-answer, same-next}
 use Rattle.zone.proofs.Agreement.{link, agree}
-use Rattle.zone.proofs.Ledger.{Matches, Equally}
-use Rattle.zone.specs.Meaning.{Zone, inBays, inLine, Result, replacing, outcome, callBytes, illFormed, runBytes, afterBytes}
+use Rattle.zone.proofs.Matching.{Matches, Equally}
+use Rattle.zone.specs.OnBytes.{Zone, inBays, inLine, Result, replacing, outcome, callBytes, illFormed, runBytes, afterBytes}
 use Rattle.zone.proofs.Keep.{Whole, valid-line, len-line, bays-line}
 use Rattle.zone.proofs.Grouped.{line-bays, whole-bays, whole-step, same-buffer}
 
@@ -57,30 +58,6 @@ stored-after bs z u w v e s =
           ∙ ap₂ _+_ (length-line u v) (length-append (replicate (len (inLine z) - len (inLine u)) 0) (drop (max (len (inLine z)) (len (inLine u))) bs))
           ∙ omega (arith, length-replicate {A = ℕ} (len (inLine z) - len (inLine u)) 0, length-drop (max (len (inLine z)) (len (inLine u))) bs, len-line z w, len-line u v, s .buffer, w .bounded, v .bounded);
     }
-
--- what is asked of the list's own bytes: what is written are bytes
-pub data AllFed : List Call → Type 0 where
-  f-nil : AllFed []
-  f-cons : {c : Call} {cs : List Call} → Fed Feeds c → AllFed cs → AllFed (c ∷ cs)
-
--- what a list of calls on a buffer leaves
-pub record Ran (cs : List Call) (bs : List ℕ) (z : Zone) (l : Calls.State Room) : Type 0 where
-  pub answers : Agreed Equally cs (runBytes cs bs) (run ledgerBays cs l)
-  pub whole : Whole (after zoneBays cs z)
-  pub stored : Stored (afterBytes cs bs) (after zoneBays cs z)
-  pub matches : Matches (after zoneBays cs z) (after ledgerBays cs l)
-
-pub ran : (cs : List Call) (bs : List ℕ) (z : Zone) (l : Calls.State Room) → AllFed cs → Whole z → Stored bs z → Matches z l → Ran cs bs z l
-ran [] bs z l f w s r = record { answers = g-nil; whole = w; stored = s; matches = r }
-ran (c ∷ cs) bs z l (f-cons f fs) w s r =
-    let u : Zone = (step zoneBays c z) .next in
-    let q = step-same zoneBays ledgerBays link agree (alike c) (single z (w .owned)) r in
-    let w′ : Whole u = whole-step c z f w in
-    let k = call-is bs z w s c in
-    let s′ : Stored ((callBytes c bs) .bytes) u = rw k (stored-after bs z u w w′ (same-buffer c z) s) in
-    let like : AnswerLike Equally c ((callBytes c bs) .answer) ((step ledgerBays c l) .answer) = rw k (same-answer zoneBays ledgerBays link agree q) in
-    let n = ran cs ((callBytes c bs) .bytes) u ((step ledgerBays c l) .next) fs w′ s′ (same-next zoneBays ledgerBays link agree q) in
-    record { answers = g-cons like (n .answers); whole = n .whole; stored = n .stored; matches = n .matches }
 
 -- ---- any well-formed buffer, whatever call made it
 

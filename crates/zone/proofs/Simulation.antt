@@ -11,10 +11,14 @@ use lib.Dec.{leb, ltb, eqb}
 use borrow.Author.Tests.{leb-true, eqb-true}
 use Rattle.zone.specs.Bays.{Bays, last, more, over, onLow, onHigh, onJoin, mapS, onFixed, onLast, findS, findF, sumS, maxS, lastS, AllS}
 use Rattle.zone.proofs.BaysLaws.{Both, absent, present, over-both, orElse-both, onFixed-like, findF-like, concatS-like, Like, like-last, like-more, onLow-like, onHigh-like, onJoin-like, mapS-like, onLast-like, lastS-like, sumS-like, maxS-like, findS-like}
-use Rattle.zone.specs.Bay.{Item, header, itemSize, get, resized}
+use Rattle.zone.specs.Bay.{Item, itemSize, get, resized}
+use Rattle.block_type.specs.Limits.{relocHeader}
 use Rattle.zone.proofs.Resize.{resized-block}
 use Rattle.zone.proofs.Sound.{Block}
-use Rattle.zone.specs.Calls.{relocLimit, fixedLimit, up4, Fixed, fixedHeader, fsize, pointer, BayKind, State, Answer, Out, Call, allocate-relocatable, allocate-fixed, free-handle, free-pointer, read, write, size, compact, sums, enlarge, shrink, answers, refusal, refuse, done, orRefuse, onTop, withBays, lookup, own, placeLow, resizeIn, resizeItem, resize, reaches, newItem, newFixed, allocate, allocateFixed, freeHandle, freePointer, Target, by-handle, by-pointer, Card, card, shows, view, roster, check, length-of, alterFixed, orGive, content, rewrite, readBlock, writeBlock, viewBlock, rosterInto, liveCount, cards, sizeOf, compactAll, totalsOf, enlargeBy, shrinkBy, step, initial, run, after}
+use Rattle.block_type.specs.Limits.{relocLimit, fixedLimit, up4, fixedHeader}
+use Rattle.zone.specs.OnBays.{Fixed, fsize, pointer, BayKind, State, Out, refuse, done, orRefuse, onTop, withBays, lookup, own, placeLow, resizeIn, resizeItem, reaches, newItem, newFixed, allocate, allocateFixed, freeHandle, freePointer, card, alterFixed, orGive, content, rewrite, readBlock, writeBlock, viewBlock, rosterInto, liveCount, cards, sizeOf, compactAll, enlargeBy, shrinkBy, step, initial, run, after}
+use Rattle.calls.specs.Calls.{Answer, Call, allocate-relocatable, allocate-fixed, free-handle, free-pointer, read, write, size, compact, sums, enlarge, shrink, answers, refusal, resize, Target, by-handle, by-pointer, Card, shows, view, roster, check, length-of}
+use Rattle.zone.specs.OnBays.{sumAll}
 
 -- the sizes that calls ask for
 newItem-block : (h c : ℕ) → Block (itemSize (newItem h c))
@@ -24,14 +28,12 @@ and-left : (a b : Bool) → a && b ≡ true → a ≡ true
 and-left true b e = refl
 and-left false b e = e
 
--- How two machines are related: their bays, allocate-fixed blocks, items found by a handle (where D holds of the bay), the handles
--- whose written bytes may differ, and the bytes read of an item.
+-- How two kinds of bays are related: bays, fixed blocks, items found by a handle (where D holds of the bay), and the bytes read.
 pub record Link (B C : Type 0) : Type 1 where
   pub R : B → C → Type 0
   pub Q : Fixed → Fixed → Type 0
   pub D : B → Type 0
   pub W : ℕ → Item → Item → Type 0
-  pub Chosen : ℕ → Type 0
   pub Seen : Target → List ℕ → List ℕ → Type 0
 
 -- A size that a call asks for is a multiple of 4 and not 0.
@@ -52,8 +54,6 @@ pub record Agree {B C : Type 0} (o : BayKind B) (p : BayKind C) (L : Link B C) :
   pub put : (h : ℕ) (x y : Item) → L .W h x y → Block (itemSize x) → (b : B) (c : C) → L .R b c → itemSize x ≤ o .sum b → L .R (o .put x b) (p .put y c)
   pub drop : (h : ℕ) (b : B) (c : C) → L .R b c → L .R (o .drop h b) (p .drop h c)
   pub edit : (h : ℕ) (f : List ℕ → List ℕ) → ((l : List ℕ) → length (f l) ≡ length l) → (b : B) (c : C) → L .R b c → L .R (o .edit h f b) (p .edit h f c)
-  pub edit-chosen : (h : ℕ) → L .Chosen h → (f g : List ℕ → List ℕ) → ((l : List ℕ) → length (f l) ≡ length l) → ((l : List ℕ) → length (g l) ≡ length l)
-      → (b : B) (c : C) → L .R b c → L .R (o .edit h f b) (p .edit h g c)
   pub owner : (h a : ℕ) (b : B) (c : C) → L .R b c → own o h a b ≡ own p h a c
   pub reshape : (h a : ℕ) → a % 4 ≡ 0 → (b : B) (c : C) → L .R b c → own o h a b ≡ true → L .R (o .reshape h a b) (p .reshape h a c)
   pub takeHigh : (n : ℕ) → n % 4 ≡ 0 → (b : B) (c : C) → L .R b c → n ≤ o .sum b → L .R (o .takeHigh n b) (p .takeHigh n c)
@@ -62,11 +62,6 @@ pub record Agree {B C : Type 0} (o : BayKind B) (p : BayKind C) (L : Link B C) :
   pub grow : (n : ℕ) → n % 4 ≡ 0 → (b : B) (c : C) → L .R b c → L .R (o .grow n b) (p .grow n c)
   pub made : (n : ℕ) → Block n → (end : ℕ) → L .Q (newFixed n end) (newFixed n end)
   pub place : (x y : Fixed) → L .Q x y → x .place ≡ y .place
-
--- two calls that may differ in the bytes written to a chosen handle
-pub data CallLike (K : ℕ → Type 0) : Call → Call → Type 0 where
-  alike : (c : Call) → CallLike K c c
-  written : (h i n : ℕ) (v w : List ℕ) → K h → length v ≡ length w → CallLike K (write (by-handle h) i n v) (write (by-handle h) i n w)
 
 -- how the answers to a call are compared: what is read or viewed by a relation, a roster's records as a set, all else by equality
 pub data AnswerLike (S : Target → List ℕ → List ℕ → Type 0) : Call → Answer → Answer → Type 0 where
@@ -135,7 +130,7 @@ module _ {B C : Type 0} (o : BayKind B) (p : BayKind C) (L : Link B C) (agree : 
 
   low-same : (h : ℕ) (x y : Item) → L .W h x y → Block (itemSize x) → {s : Bays B Fixed} {t : Bays C Fixed} → Like R Q s t → Both (Like R Q) (placeLow o x s) (placeLow p y t)
   low-same h x y w k l =
-      onLow-like R Q (reaches o (itemSize x)) (reaches p (itemSize y)) (λ b c r. reaches-like (itemSize x) b c r ∙ ap (λ (n : ℕ). reaches p (header + n) c) (agree .long h x y w))
+      onLow-like R Q (reaches o (itemSize x)) (reaches p (itemSize y)) (λ b c r. reaches-like (itemSize x) b c r ∙ ap (λ (n : ℕ). reaches p (relocHeader + n) c) (agree .long h x y w))
       (o .put x) (p .put y) (λ b d r q. agree .put h x y w k b d r (leb-true (itemSize x) (o .sum b) q)) l
 
   resizeIn-same : (h a : ℕ) (x y : Item) → L .W h x y → a % 4 ≡ 0 → {s : Bays B Fixed} {t : Bays C Fixed} → Like R Q s t → Both (Like R Q) (resizeIn o h a x s) (resizeIn p h a y t)
@@ -203,13 +198,12 @@ module _ {B C : Type 0} (o : BayKind B) (p : BayKind C) (L : Link B C) (agree : 
   rewrite-same (by-handle h) f q l = mapS-like R Q _ _ (agree .edit h f q) l
   rewrite-same (by-pointer a) f q l = onFixed-like R Q _ _ (agree .rewritten a f q) l
 
-  write-same : (t : Target) (i n : ℕ) (v w : List ℕ) → length v ≡ length w → {s : State B} {u : State C} → AllS D (s .bays) → Sim s u
-      → Like R Q (rewrite o t (λ (m : List ℕ). sets m i (take n v)) (s .bays)) (rewrite p t (λ (m : List ℕ). sets m i (take n w)) (u .bays))
-      → Same (write t i n v) (writeBlock o t i n v s) (writeBlock p t i n w u)
-  write-same t i n v w q d (sim l) f =
+  write-same : (t : Target) (i n : ℕ) (v : List ℕ) {s : State B} {u : State C} → AllS D (s .bays) → Sim s u → Same (write t i n v) (writeBlock o t i n v s) (writeBlock p t i n v u)
+  write-same t i n v d (sim l) =
       give-same (same refl (sim l)) (content-same t d l) (λ x y k.
       cond-same′ (leb (i + n) (length x)) (leb (i + n) (length y)) (ap (leb (i + n)) (k .long))
-      (cond-same′ (leb n (length v)) (leb n (length w)) (ap (leb n) q) (same refl (sim f)) (same refl (sim l))) (same refl (sim l)))
+      (cond-same (leb n (length v)) (λ e. same refl (sim (rewrite-same t (λ (m : List ℕ). sets m i (take n v)) (λ m. length-sets m i (take n v)) l))) (same refl (sim l)))
+      (same refl (sim l)))
 
   count-same : {s : Bays B Fixed} {u : Bays C Fixed} → Like R Q s u → sumS (λ (b : B). length (o .all b)) s ≡ sumS (λ (c : C). length (p .all c)) u
   count-same l = sumS-like R Q _ _ (agree .many) l
@@ -227,7 +221,7 @@ module _ {B C : Type 0} (o : BayKind B) (p : BayKind C) (L : Link B C) (agree : 
   compact-same : {s : State B} {t : State C} → Sim s t → Same (compact) (compactAll o s) (compactAll p t)
   compact-same (sim l) = same (ap answers (maxS-like R Q (o .sum) (p .sum) (agree .sum) l)) (sim (mapS-like R Q (o .compactBay) (p .compactBay) (agree .compactBay) l))
 
-  totals-same : {s : State B} {t : State C} → Sim s t → Same (sums) (totalsOf o s) (totalsOf p t)
+  totals-same : {s : State B} {t : State C} → Sim s t → Same (sums) (sumAll o s) (sumAll p t)
   totals-same (sim l) = same (ap₂ (λ (a b : ℕ). record { number = 0; value = a; second = b; bytes = []; records = [] }) (sumS-like R Q (o .sum) (p .sum) (agree .sum) l) (maxS-like R Q (o .sum) (p .sum) (agree .sum) l)) (sim l)
 
   enlarge-same : (k : ℕ) {s : State B} {t : State C} → Sim s t → Same (enlarge k) (enlargeBy o k s) (enlargeBy p k t)
@@ -245,29 +239,23 @@ module _ {B C : Type 0} (o : BayKind B) (p : BayKind C) (L : Link B C) (agree : 
       n : ℕ
       n = min (k / 4 * 4) (o .sum (lastS s))
 
-  one-same : (c : Call) {s : State B} {t : State C} → AllS D (s .bays) → Sim s t → Same c (step o c s) (step p c t)
-  one-same (allocate-relocatable c) d r = allocate-same c r
-  one-same (allocate-fixed c) d r = fixed-same c r
-  one-same (free-handle h) d r = free-same h d r
-  one-same (free-pointer q) d r = freePointer-same q r
-  one-same (read t i n buf) d r = read-same t i n buf d r
-  one-same (write t i n buf) d (sim l) = write-same t i n buf buf refl d (sim l) (rewrite-same t (λ (m : List ℕ). sets m i (take n buf)) (λ m. length-sets m i (take n buf)) l)
-  one-same (view t i n) d r = view-same t i n d r
-  one-same (size t) d r = size-same t d r
-  one-same (roster buf) d r = roster-same buf r
-  one-same check d r = check-same r
-  one-same length-of d r = length-same r
-  one-same (resize h c) d r = resize-same h c d r
-  one-same compact d r = compact-same r
-  one-same sums d r = totals-same r
-  one-same (enlarge k) d r = enlarge-same k r
-  one-same (shrink k) d r = shrink-same k r
-
-  pub step-same : {c c′ : Call} → CallLike (L .Chosen) c c′ → {s : State B} {t : State C} → AllS (L .D) (s .bays) → Sim s t → Same c (step o c s) (step p c′ t)
-  step-same (alike c) d r = one-same c d r
-  step-same (written h i n v w k q) d (sim l) =
-      write-same (by-handle h) i n v w q d (sim l)
-      (mapS-like R Q _ _ (agree .edit-chosen h k (λ (m : List ℕ). sets m i (take n v)) (λ (m : List ℕ). sets m i (take n w)) (λ m. length-sets m i (take n v)) (λ m. length-sets m i (take n w))) l)
+  pub step-same : (c : Call) {s : State B} {t : State C} → AllS (L .D) (s .bays) → Sim s t → Same c (step o c s) (step p c t)
+  step-same (allocate-relocatable c) d r = allocate-same c r
+  step-same (allocate-fixed c) d r = fixed-same c r
+  step-same (free-handle h) d r = free-same h d r
+  step-same (free-pointer q) d r = freePointer-same q r
+  step-same (read t i n buf) d r = read-same t i n buf d r
+  step-same (write t i n buf) d r = write-same t i n buf d r
+  step-same (view t i n) d r = view-same t i n d r
+  step-same (size t) d r = size-same t d r
+  step-same (roster buf) d r = roster-same buf r
+  step-same check d r = check-same r
+  step-same length-of d r = length-same r
+  step-same (resize h c) d r = resize-same h c d r
+  step-same compact d r = compact-same r
+  step-same sums d r = totals-same r
+  step-same (enlarge k) d r = enlarge-same k r
+  step-same (shrink k) d r = shrink-same k r
 
   pub same-answer : {c : Call} {x : Out B} {y : Out C} → Same c x y → AnswerLike (L .Seen) c (x .answer) (y .answer)
   same-answer (made e r) = e

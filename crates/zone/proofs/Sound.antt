@@ -9,7 +9,8 @@ use lib.ListN.{length}
 use lib.Dec.{leb, ltb, eqb}
 use borrow.Author.Tests.{leb-true}
 use Rattle.zone.specs.Bays.{over}
-use Rattle.zone.specs.Bay.{is, Item, header, itemSize, total, remove, alter, Cell, free, held, baySize, baySum, items, merge, gap, packed, joinBays, compactBay, fit, put, trim, takeHigh, release, edit}
+use Rattle.zone.specs.Bay.{is, Item, itemSize, total, remove, alter, Cell, free, held, baySize, baySum, items, merge, gap, packed, joinBays, compactBay, fit, put, trim, takeHigh, release, edit}
+use Rattle.block_type.specs.Limits.{relocHeader}
 use Rattle.zone.proofs.BayLaws.{Each, nothing, just, each-over, each-cond, each-getD, alter-size}
 
 pub record Block (n : ℕ) : Type 0 where

@@ -9,7 +9,8 @@ use lib.Dec.{leb}
 use borrow.Author.Tests.{leb-true, leb-false, le-leb, lt-leb}
 use Rattle.zone.specs.Bays.{Bays, last, more, over, orElse, onLow, onHigh, maxS}
 use Rattle.zone.specs.Bay.{Item, itemSize}
-use Rattle.zone.specs.Calls.{relocLimit, fixedLimit, up4, Fixed, fixedHeader, BayKind, State, Out, refuse, orRefuse, placeLow, placeHigh, newItem, allocate, allocateFixed}
+use Rattle.block_type.specs.Limits.{relocLimit, fixedLimit, up4, fixedHeader}
+use Rattle.zone.specs.OnBays.{Fixed, BayKind, State, Out, refuse, orRefuse, placeLow, placeHigh, newItem, allocate, allocateFixed}
 
 -- whether something is there
 pub data Shown {A : Type 0} : Bool → Option A → Type 0 where

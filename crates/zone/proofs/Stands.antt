@@ -1,4 +1,4 @@
--- Where bytes stand in the zone: each live handle's from the offset in its master, each allocate-fixed block's from its pointer.
+-- Where bytes stand in the zone: each live handle's from the offset in its master, each fixed block's from its pointer.
 use mathlib.Core.Path.{_≡_, refl, ap, ap₂, sym, _∙_, subst}
 use mathlib.Core.Bool.{Bool, true, false, cond}
 use mathlib.Core.Option.{Option, none, some, Option·getD}
@@ -14,9 +14,11 @@ use Rattle.zone.proofs.BaysLaws.{Both, absent, present, cond-both, orEl
 use Rattle.zone.proofs.BayLaws.{Each, nothing, just}
 use Rattle.zone.specs.Bay.{is, Item, itemSize, get, Cell, free, held, baySize, items}
 use Rattle.zone.proofs.Sound.{Block, Sound, s-nil, s-end, s-free, s-held}
-use Rattle.zone.specs.Calls.{Fixed, fixedHeader, fsize, pointer, State, handlesFrom}
+use Rattle.zone.specs.OnBays.{Fixed, fsize, pointer, State, handlesFrom}
+use Rattle.block_type.specs.Limits.{fixedHeader}
 use Rattle.zone.proofs.Handles.{Zone}
-use Rattle.zone.proofs.Places.{Tiled, tile-last, tile-more, Placed, firstBlock}
+use Rattle.zone.proofs.Places.{Tiled, tile-last, tile-more, Placed}
+use Rattle.block_type.specs.Limits.{firstBlock}
 use Rattle.zone.proofs.Bytes.{big, freeBytes, itemBytes, cellBytes, fixedHead, fixedBytes, blockBytes, whereIn, whereS, nextOf, masterOf, masterBytes, headerBytes, zoneBytes}
 
 pub record Stands (bs : List ℕ) (at : ℕ) (v : List ℕ) : Type 0 where
@@ -114,7 +116,7 @@ master-stands z i l = stands-after (headerBytes z) 16 refl (stands-before (block
     nth h (suc n) zero k l e = let q : k ≡ h = omega arith in rw q (stands-here (big 4 (masterOf z h)) (masterBytes z (handlesFrom (h + 4) n)))
     nth h (suc n) (suc i) k l e = let q : 4 * suc i ≡ 4 + 4 * i = omega arith in rw q (stands-after (big 4 (masterOf z h)) 4 refl (nth (h + 4) n i k (omega arith) (omega arith)))
 
--- what holds of each allocate-fixed block
+-- what holds of each fixed block
 abbrev pub AllF : (Fixed → Type 0) → Bays (List Cell) Fixed → Type 0
 AllF D (last b) = Unit {0}
 AllF D (more b x s) = D x × AllF D s
@@ -144,7 +146,7 @@ fixed-at d (tile-more {p = p} {b = b} {x = x} {s = s} e t) = (
       s (fixed-at (d .1) t),
 )
 
--- each allocate-fixed block's bytes stand in the zone, from its pointer
+-- each fixed block's bytes stand in the zone, from its pointer
 pub pointers-stand : (z : Zone) → AllS Sound (z .bays) → Placed z → AllF (λ (x : Fixed). Stands (zoneBytes z) (pointer x) (x .bytes)) (z .bays)
 pointers-stand z d g = all-map (FixedAt (blockBytes (z .bays)) (firstBlock (z .m))) _ (λ x a. rw (a .found) (in-zone z (a .stands))) (z .bays) (fixed-at d (g .tiled))
 

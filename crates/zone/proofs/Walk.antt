@@ -13,7 +13,9 @@ use Rattle.zone.specs.Bays.{Bays, last, more, mapS, onFixed, onLast, las
 use Rattle.zone.specs.Bay.{Item, itemSize}
 use Rattle.zone.proofs.BayLaws.{Each, nothing, just}
 use Rattle.zone.proofs.Sound.{Block}
-use Rattle.zone.specs.Calls.{relocLimit, fixedLimit, up4, Fixed, fixedHeader, fsize, pointer, BayKind, State, Answer, Out, Call, allocate-relocatable, allocate-fixed, free-handle, free-pointer, read, write, size, compact, sums, enlarge, shrink, refuse, done, orRefuse, onTop, withBays, orGive, Target, by-handle, by-pointer, view, roster, check, length-of, alterFixed, content, rewrite, liveCount, lookup, newItem, newFixed, placeLow, placeHigh, joinAt, resizeIn, resize, step}
+use Rattle.block_type.specs.Limits.{relocLimit, fixedLimit, up4, fixedHeader}
+use Rattle.zone.specs.OnBays.{Fixed, fsize, pointer, BayKind, State, Out, refuse, done, orRefuse, onTop, withBays, orGive, alterFixed, content, rewrite, liveCount, lookup, newItem, newFixed, placeLow, placeHigh, joinAt, resizeIn, step}
+use Rattle.calls.specs.Calls.{Answer, Call, allocate-relocatable, allocate-fixed, free-handle, free-pointer, read, write, size, compact, sums, enlarge, shrink, Target, by-handle, by-pointer, view, roster, check, length-of, resize}
 
 -- what an outcome leaves: a DATA type, so that a proof of it shows its arguments
 pub data Leaves {B : Type 0} (P : State B → Type 0) : Out B → Type 0 where

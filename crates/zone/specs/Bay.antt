@@ -1,11 +1,14 @@
--- One bay: its blocks in address order, and what each call does to it.
-use mathlib.Core.Bool.{Bool, true, false, cond, not}
+-- One bay of a zone: its blocks in address order, and what each call does to it.
+use mathlib.Core.Bool.{Bool, true, false, cond}
 use mathlib.Core.Option.{Option, none, some, Option·getD}
 use mathlib.Core.List.{List, [], _∷_, _++_, map}
-use Prim.Native.Nat.{ℕ, zero, suc, _+_, _-_, _*_, _/_, _≤_, max}
-use lib.ListN.{length, take, drop, replicate}
-use lib.Dec.{leb, ltb, eqb}
+use Prim.Native.Nat.{ℕ, zero, suc, _+_, _-_}
+use lib.ListN.{length, take, replicate}
+use lib.Dec.{leb, eqb}
+use Rattle.block_type.specs.Limits.{relocHeader}
 use Rattle.zone.specs.Bays.{over}
+
+-- ---- relocatable blocks
 
 -- what a relocatable block holds
 pub record Item : Type 0 where
@@ -16,11 +19,9 @@ pub record Item : Type 0 where
 abbrev pub is : ℕ → Item → Bool
 is h e = eqb h (e .handle)
 
-abbrev pub header : ℕ
-header = 4
-
+-- the size of its block
 abbrev pub itemSize : Item → ℕ
-itemSize e = header + length (e .bytes)
+itemSize e = relocHeader + length (e .bytes)
 
 abbrev pub total : List Item → ℕ
 total [] = 0
@@ -31,6 +32,7 @@ abbrev pub remove : ℕ → List Item → List Item
 remove h [] = []
 remove h (e ∷ es) = cond (is h e) (remove h es) (e ∷ remove h es)
 
+-- the item with its bytes changed by f, where it has the handle h
 abbrev pub alter : ℕ → (List ℕ → List ℕ) → Item → Item
 alter h f e = cond (is h e) (record { handle = e .handle; bytes = f (e .bytes) }) e
 
@@ -38,11 +40,13 @@ abbrev pub get : ℕ → List Item → Option Item
 get h [] = none
 get h (e ∷ es) = cond (is h e) (some e) (get h es)
 
+-- how many items have the handle
 abbrev pub count : ℕ → List Item → ℕ
 count h [] = 0
 count h (e ∷ es) = cond (is h e) (suc (count h es)) (count h es)
 
--- a block of a bay
+-- ---- a bay's blocks: free ones by their size, relocatable ones by what they hold
+
 pub data Cell : Type 0 where
   free : ℕ → Cell
   held : Item → Cell
@@ -52,7 +56,7 @@ baySize [] = 0
 baySize (free n ∷ cs) = n + baySize cs
 baySize (held e ∷ cs) = itemSize e + baySize cs
 
--- the bay's sum
+-- "Its sum is the total size of its free blocks"
 abbrev pub baySum : List Cell → ℕ
 baySum [] = 0
 baySum (free n ∷ cs) = n + baySum cs
@@ -63,16 +67,17 @@ items [] = []
 items (free n ∷ cs) = items cs
 items (held e ∷ cs) = e ∷ items cs
 
--- n free bytes in front, merged with a free block that follows; none for 0
 abbrev pub merge : ℕ → List Cell → List Cell
 merge n [] = free n ∷ []
 merge n (free k ∷ cs) = free (n + k) ∷ cs
 merge n (held e ∷ cs) = free n ∷ held e ∷ cs
 
+-- n free bytes in front, merged with a free block that follows; nothing for 0
 abbrev pub gap : ℕ → List Cell → List Cell
 gap zero cs = cs
 gap (suc n) cs = merge (suc n) cs
 
+-- relocatable blocks one after the other, then the cells t
 abbrev pub packed : List Item → List Cell → List Cell
 packed [] t = t
 packed (e ∷ es) t = held e ∷ packed es t
@@ -83,51 +88,63 @@ joinBays [] t = t
 joinBays (free n ∷ cs) t = gap n (joinBays cs t)
 joinBays (held e ∷ cs) t = held e ∷ joinBays cs t
 
+-- "its relocatable blocks go to its start in old order, one free block holds the rest (none for 0)"
 abbrev pub compactBay : List Cell → List Cell
 compactBay cs = packed (items cs) (gap (baySum cs) [])
 
--- the lowest free block that is big enough, from its low end
+-- ---- allocation
+
+-- "the lowest free block that is big enough, from its low end"
 abbrev pub fit : Item → List Cell → Option (List Cell)
 fit e [] = none
 fit e (free k ∷ cs) = cond (leb (itemSize e) k) (some (held e ∷ gap (k - itemSize e) cs)) (over (free k ∷_) (fit e cs))
 fit e (held d ∷ cs) = over (held d ∷_) (fit e cs)
 
+-- "if none is, the bay is compacted first"
 abbrev pub put : Item → List Cell → List Cell
 put e cs = Option·getD (fit e cs) (packed (items cs) (held e ∷ gap (baySum cs - itemSize e) []))
 
--- the last block, if it is free and big enough, less n bytes at its high end
+-- "If its last block is free and big enough, the high end of that": the bay without those n bytes
 abbrev pub trim : ℕ → List Cell → Option (List Cell)
 trim n [] = none
 trim n (free k ∷ []) = cond (leb n k) (some (gap (k - n) [])) none
 trim n (free k ∷ (c ∷ cs)) = over (free k ∷_) (trim n (c ∷ cs))
 trim n (held e ∷ cs) = over (held e ∷_) (trim n cs)
 
+-- "else after compacting"
 abbrev pub takeHigh : ℕ → List Cell → List Cell
 takeHigh n cs = Option·getD (trim n cs) (packed (items cs) (gap (baySum cs - n) []))
 
+-- ---- freeing, writing
+
+-- "the block becomes free, merged with free neighbours"
 abbrev pub release : ℕ → List Cell → List Cell
 release h [] = []
 release h (free n ∷ cs) = gap n (release h cs)
 release h (held e ∷ cs) = cond (is h e) (gap (itemSize e) (release h cs)) (held e ∷ release h cs)
 
+-- the bytes of handle h changed by f
 abbrev pub edit : ℕ → (List ℕ → List ℕ) → List Cell → List Cell
 edit h f [] = []
 edit h f (free n ∷ cs) = free n ∷ edit h f cs
 edit h f (held e ∷ cs) = held (alter h f e) ∷ edit h f cs
 
--- a bytes: the first ones of l, and zeros
+-- ---- resize: "new data size a = up4(c), old b"
+
+-- "the common first bytes stay, added bytes are zero"
 abbrev pub sized : ℕ → List ℕ → List ℕ
 sized a l = take a l ++ replicate (a - length l) 0
 
 abbrev pub resized : ℕ → Item → Item
 resized a e = record { handle = e .handle; bytes = sized a (e .bytes) }
 
--- an item grown by n bytes into the free block right after it
+-- "into the free block right after it if that has at least a − b bytes"; n is a − b
 abbrev pub growInto : Item → ℕ → List Cell → Option (List Cell)
 growInto d n [] = none
 growInto d n (free k ∷ cs) = cond (leb n k) (some (held d ∷ gap (k - n) cs)) none
 growInto d n (held e ∷ cs) = none
 
+-- "For a ≤ b the tail is freed and merged", else it grows into the cells cs after it
 abbrev pub inPlace : Item → ℕ → List Cell → Option (List Cell)
 inPlace e a cs =
     cond (leb a (length (e .bytes)))
@@ -139,10 +156,14 @@ growHere h a [] = none
 growHere h a (free k ∷ cs) = over (free k ∷_) (growHere h a cs)
 growHere h a (held e ∷ cs) = cond (is h e) (inPlace e a cs) (over (held e ∷_) (growHere h a cs))
 
+-- "or, failing that, the bay is laid out as compacted with this block at its new size"
 abbrev pub reshape : ℕ → ℕ → List Cell → List Cell
-reshape h a cs = Option·getD (growHere h a cs) (packed (map (alter h (sized a)) (items cs)) (gap (baySize cs - total (map (alter h (sized a)) (items cs))) []))
+reshape h a cs =
+    Option·getD
+    (growHere h a cs)
+    (packed (map (alter h (sized a)) (items cs)) (gap (baySize cs - total (map (alter h (sized a)) (items cs))) []))
 
--- whether an item can have a bytes where n more are free
+-- "its own bay's sum reaches a − b"; n is that sum
 abbrev pub roomFor : ℕ → ℕ → Option Item → Bool
 roomFor a n none = false
 roomFor a n (some e) = leb (a - length (e .bytes)) n

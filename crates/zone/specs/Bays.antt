@@ -1,19 +1,21 @@
--- BayKind and allocate-fixed blocks in address order: a bay, then any number of times a allocate-fixed block and a bay.
--- Every function here is used at the bays of a zone and at the bays of a ledger.
-use mathlib.Core.Path.{_≡_, refl, ap, sym, _∙_}
+-- Document 01: "A bay is the stretch between two neighbouring fixed blocks, or between such a block and bkFst or L, or with no
+-- fixed block all from bkFst to L; it may be empty." Bays and fixed blocks in address order: a bay, then any number of times a
+-- fixed block and a bay. B is what is kept of a bay, F of a fixed block.
 use mathlib.Core.Bool.{Bool, true, false, cond}
 use mathlib.Core.Option.{Option, none, some}
 use mathlib.Core.List.{List, [], _∷_, _++_}
-use Prim.Native.Nat.{ℕ, zero, suc, _+_, _≤_, max}
+use Prim.Native.Nat.{ℕ, _+_, max}
 
 pub data Bays (B F : Type 0) : Type 0 where
   last : B → Bays B F
   more : B → F → Bays B F → Bays B F
 
+-- f of what is there
 abbrev pub over : {A B : Type 0} → (A → B) → Option A → Option B
 over f none = none
 over f (some a) = some (f a)
 
+-- the second where there is no first
 abbrev pub orElse : {A : Type 0} → Option A → Option A → Option A
 orElse none b = b
 orElse (some a) b = some a
@@ -24,30 +26,34 @@ module _ {B F : Type 0} where
   onLow t f (last b) = cond (t b) (some (last (f b))) none
   onLow t f (more b x s) = cond (t b) (some (more (f b) x s)) (over (more b x) (onLow t f s))
 
-  -- the highest bay that passes the test is split by a new allocate-fixed block at its end; `end` is where the strip ends
+  -- the highest bay that passes the test is split by a new fixed block at its end; `end` is where the last bay ends
   abbrev pub onHigh : (B → Bool) → (B → B) → (ℕ → F) → B → (F → ℕ) → ℕ → Bays B F → Option (F × Bays B F)
   onHigh t f mk e at end (last b) = cond (t b) (some (mk end, more (f b) (mk end) (last e))) none
   onHigh t f mk e at end (more b x s) =
       orElse (over (λ (r : F × Bays B F). (r .0, more b x (r .1))) (onHigh t f mk e at end s))
       (cond (t b) (some (mk (at x), more (f b) (mk (at x)) (more e x s))) none)
 
+  -- the first bay after x joined with the bay b before x
   abbrev pub glue : (B → F → B → B) → B → F → Bays B F → Bays B F
   glue j b x (last c) = last (j b x c)
   glue j b x (more c y s) = more (j b x c) y s
 
-  -- the first allocate-fixed block that passes the test goes, and the bays beside it are joined
+  -- the first fixed block that passes the test goes, and the bays beside it are joined
   abbrev pub onJoin : (F → Bool) → (B → F → B → B) → Bays B F → Option (Bays B F)
   onJoin p j (last b) = none
   onJoin p j (more b x s) = cond (p x) (some (glue j b x s)) (over (more b x) (onJoin p j s))
 
+  -- every bay changed
   abbrev pub mapS : (B → B) → Bays B F → Bays B F
   mapS f (last b) = last (f b)
   mapS f (more b x s) = more (f b) x (mapS f s)
 
+  -- every fixed block changed
   abbrev pub onFixed : (F → F) → Bays B F → Bays B F
   onFixed f (last b) = last b
   onFixed f (more b x s) = more b (f x) (onFixed f s)
 
+  -- the last bay changed
   abbrev pub onLast : (B → B) → Bays B F → Bays B F
   onLast f (last b) = last (f b)
   onLast f (more b x s) = more b x (onLast f s)
@@ -62,10 +68,12 @@ module _ {B F : Type 0} where
   AllS D (last b) = D b
   AllS D (more b x s) = D b × AllS D s
 
+  -- the first fixed block that passes the test
   abbrev pub findF : (F → Bool) → Bays B F → Option F
   findF p (last b) = none
   findF p (more b x s) = cond (p x) (some x) (findF p s)
 
+  -- over all bays: the sum, the list, the maximum; the last bay
   abbrev pub sumS : (B → ℕ) → Bays B F → ℕ
   sumS μ (last b) = μ b
   sumS μ (more b x s) = μ b + sumS μ s

@@ -1,76 +1,112 @@
--- THE CLAIM about every list of calls: what it says, and no more.
+-- Demand 3: THE CLAIM about every list of calls. Calls that keep their promises, one after the other on one buffer, answer as the
+-- ledger does, and the zone holds what the ledger holds.
 use mathlib.Core.Path.{_≡_}
-use mathlib.Core.Bool.{Bool, true, false}
-use mathlib.Core.List.{List, [], _∷_, List·Permᴰ}
+use mathlib.Core.Bool.{Bool, true, false, cond}
+use mathlib.Core.List.{List, [], _∷_, _++_}
 use mathlib.Core.Option.{Option, none, some}
-use Prim.Native.Nat.{ℕ, _+_}
-use lib.ListN.{length}
+use Prim.Native.Nat.{ℕ, _+_, _<_}
+use lib.ListN.{length, drop}
 use lib.Dec.{eqb}
 use Rattle.bigendian.specs.BigEndian.{Bytes, slice}
-use Rattle.format.specs.WellFormed.{lengthField, masterAt, wellFormed}
-use Rattle.zone.specs.Bays.{findF}
-use Rattle.zone.specs.Bay.{Item}
-use Rattle.zone.specs.Calls.{Call, read, write, roster, allocate-relocatable, allocate-fixed, free-handle, free-pointer, view, size, check, length-of, resize, compact, sums, enlarge, shrink, Answer, Fixed}
-use Rattle.zone.specs.LedgerText.{Ledger, entry, runL, afterL, initialL}
-use Rattle.zone.specs.Meaning.{accepts, initBytes, runBytes, afterBytes}
+use Rattle.block_type.specs.Limits.{fixedCode}
+use Rattle.format.specs.WellFormed.{lengthField, firstField, typeOf, sizeOf, splitBlocks, masterAt, zoneOf, wellFormed}
+use Rattle.calls.specs.Calls.{Call, allocate-relocatable, allocate-fixed, free-handle, free-pointer, resize, size, read, write, view, compact, sums, check, length-of, enlarge, shrink, roster, Answer}
+use Rattle.ledger.specs.Ledger.{Ledger, Entry, Fixed, Line, entryOf, fixedOf, run, after, initial}
+use Rattle.ledger.specs.Space.{Spot, spot, fixedSpots, asksSpace, earlier, fits}
+use Rattle.zone.specs.OnBytes.{callBytes, afterBytes}
+use Rattle.zone.specs.Promise.{Alike, Promise, InitPromise}
 
--- what a call brings to fromBE written
+-- ---- the list
+
+-- calls made one after the other, "where each gets the zone as the last one left it and nobody else writes to it": from the buffer
+-- bs, the calls cs, their answers, and the buffer at the end
+pub data Chain : List ℕ → List Call → List Answer → List ℕ → Type 0 where
+  stop : {bs : List ℕ} → Chain bs [] [] bs
+  then : {bs mid end : List ℕ} {c : Call} {cs : List Call} {a : Answer} {as′ : List Answer}
+      → Promise c bs a mid → Chain mid cs as′ end → Chain bs (c ∷ cs) (a ∷ as′) end
+
+-- what a call brings to be written
 abbrev pub brought : Call → List ℕ
-brought (write t i n buf) = buf
+brought (write t i n second) = second
 brought (allocate-relocatable c) = []
 brought (allocate-fixed c) = []
 brought (free-handle h) = []
 brought (free-pointer p) = []
-brought (read t i n buf) = []
-brought (view t i n) = []
-brought (size t) = []
-brought (roster buf) = []
-brought check = []
-brought length-of = []
 brought (resize h c) = []
+brought (size t) = []
+brought (read t i n second) = []
+brought (view t i n) = []
 brought compact = []
 brought sums = []
+brought check = []
+brought length-of = []
 brought (enlarge k) = []
 brought (shrink k) = []
+brought (roster second) = []
 
+-- what is written are bytes
 pub data OfBytes : List Call → Type 0 where
   no-call : OfBytes []
   a-call : {c : Call} {cs : List Call} → Bytes (brought c) → OfBytes cs → OfBytes (c ∷ cs)
 
--- the same answer; a roster's records in any order
-pub record Alike (a b : Answer) : Type 0 where
-  pub number : a .number ≡ b .number
-  pub value : a .value ≡ b .value
-  pub second : a .second ≡ b .second
-  pub bytes : a .bytes ≡ b .bytes
-  pub records : List·Permᴰ (a .records) (b .records)
+-- ---- the answers
 
 pub data AllAlike : List Answer → List Answer → Type 0 where
   none-left : AllAlike [] []
   one-more : {a b : Answer} {u v : List Answer} → Alike a b → AllAlike u v → AllAlike (a ∷ u) (b ∷ v)
 
--- no answer is the number n
+-- no answer has the refusal number n
 pub data Never (n : ℕ) : List Answer → Type 0 where
   never-nil : Never n []
   never-cons : {a : Answer} {u : List Answer} → (a .number ≡ n → ⊥) → Never n u → Never n (a ∷ u)
+
+-- ---- the zone
+
+-- the fixed blocks that a walk through the bytes meets, the first block being at offset `at`
+unfoldable pub fixedMet : ℕ → List (List ℕ) → List Spot
+fixedMet at [] = []
+fixedMet at (b ∷ bs) =
+    cond (eqb (typeOf b) fixedCode) (spot at (sizeOf b) ∷ fixedMet (at + sizeOf b) bs) (fixedMet (at + sizeOf b) bs)
+
+-- from bkFst to L
+abbrev pub fixedIn : List ℕ → List Spot
+fixedIn bs = fixedMet (firstField bs) (splitBlocks (drop (firstField bs) (zoneOf bs)))
 
 -- where something is found, P holds of it
 pub data Where {A : Type 0} (P : A → Type 0) : Option A → Type 0 where
   nowhere : Where P none
   here : {a : A} → P a → Where P (some a)
 
--- what the ledger holds stands in the buffer: a live handle's bytes from the offset in its master, a allocate-fixed block's from its pointer
+-- what the ledger holds stands in the buffer
 pub record Stands (bs : List ℕ) (l : Ledger) : Type 0 where
-  pub live : (h : ℕ) → Where (λ (e : Item). slice bs (masterAt bs h) (length (e .bytes)) ≡ e .bytes) (entry h (l .bays))
-  pub still : (p : ℕ) → Where (λ (x : Fixed). slice bs p (length (x .bytes)) ≡ x .bytes) (findF (λ (x : Fixed). eqb p (x .place + 2)) (l .bays))
+  -- "each live handle's from the offset in its master"
+  pub live : (h : ℕ) → Where (λ (e : Entry). slice bs (masterAt bs h) (length (e .bytes)) ≡ e .bytes) (entryOf h (l .line))
+  -- "each fixed block's from its pointer"
+  pub still : (p : ℕ) → Where (λ (x : Fixed). slice bs p (length (x .bytes)) ≡ x .bytes) (fixedOf p (l .line))
+  -- a walk meets a fixed block of the ledger's size at each place where the ledger has one, and no other fixed block
+  pub places : fixedIn bs ≡ fixedSpots (l .line)
   pub long : lengthField bs ≡ l .len
   pub buffer : length bs ≡ l .buf
   pub well : wellFormed bs ≡ true
 
-pub record Claim (bs : List ℕ) (n m : ℕ) (cs : List Call) : Type 0 where
-  pub answers : AllAlike (runBytes cs ((initBytes n m bs) .bytes)) (runL cs (initialL (length bs) n m))
-  pub never-1 : Never 1 (runBytes cs ((initBytes n m bs) .bytes))
-  pub stands : Stands (afterBytes cs ((initBytes n m bs) .bytes)) (afterL cs (initialL (length bs) n m))
+-- ---- the claim
 
+-- of a buffer of length buf, initialized with (n, m) to b₀, and a list of calls from there
+pub record Claim (buf n m : ℕ) (b₀ : List ℕ) (cs : List Call) (as′ : List Answer) (end : List ℕ) : Type 0 where
+  -- "every answer is that of document 01's ledger"
+  pub answers : AllAlike as′ (run cs (initial buf n m))
+  -- "1 never comes"
+  pub never-1 : Never 1 as′
+  -- the buffer at the end is what the definitions make of the list
+  pub bytes : end ≡ afterBytes cs b₀
+  -- after the list, and after every prefix p of it, the zone holds what the ledger holds, and no fixed block has moved
+  pub stands : (p q : List Call) → p ++ q ≡ cs → Stands (afterBytes p b₀) (after p (initial buf n m))
+  -- "Where nothing earlier in the order refuses an allocation or a resize, it gets "no space" exactly when no bay's sum reaches what
+  -- the ledger needs of that bay"
+  pub space : (p q : List Call) (c : Call) → p ++ (c ∷ q) ≡ cs → asksSpace c ≡ true → earlier c (after p (initial buf n m)) ≡ 0
+      → (callBytes c (afterBytes p b₀)) .answer .number ≡ cond (fits c (after p (initial buf n m) .line)) 0 5
+
+-- Its only premise is an accepted initialization of any buffer.
 abbrev pub TheList : Type 0
-TheList = (bs : List ℕ) (n m : ℕ) → accepts (length bs) n m ≡ true → (cs : List Call) → OfBytes cs → Claim bs n m cs
+TheList = (bs b₀ end : List ℕ) (n m : ℕ) (a : Answer) (cs : List Call) (as′ : List Answer)
+    → InitPromise n m bs a b₀ → a .number ≡ 0 → OfBytes cs → Chain b₀ cs as′ end → Claim (length bs) n m b₀ cs as′ end

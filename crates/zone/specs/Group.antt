@@ -1,11 +1,12 @@
--- The splitBlocks in address order, grouped into bays and fixed splitBlocks, and flat again.
+-- The blocks of a zone grouped into bays and fixed blocks, and flat again.
 use mathlib.Core.List.{List, [], _∷_}
 use Prim.Native.Nat.{ℕ, _+_}
 use lib.ListN.{length}
+use Rattle.block_type.specs.Limits.{fixedHeader, relocHeader}
 use Rattle.structure.specs.Structure.{Block, free, fixed, reloc}
 use Rattle.zone.specs.Bays.{Bays, last, more}
 use Rattle.zone.specs.Bay.{Item, Cell, free as gapCell, held}
-use Rattle.zone.specs.Calls.{Fixed}
+use Rattle.zone.specs.OnBays.{Fixed}
 
 -- a block in front of the first bay
 abbrev pub inFront : Cell → Bays (List Cell) Fixed → Bays (List Cell) Fixed
@@ -16,8 +17,8 @@ inFront c (more b x s) = more (c ∷ b) x s
 abbrev pub group : ℕ → List Block → Bays (List Cell) Fixed
 group p [] = last []
 group p (free n ∷ bs) = inFront (gapCell n) (group (p + n) bs)
-group p (reloc h d ∷ bs) = inFront (held (record { handle = h; bytes = d })) (group (p + (4 + length d)) bs)
-group p (fixed d ∷ bs) = more [] (record { place = p; bytes = d }) (group (p + (2 + length d)) bs)
+group p (reloc h d ∷ bs) = inFront (held (record { handle = h; bytes = d })) (group (p + (relocHeader + length d)) bs)
+group p (fixed d ∷ bs) = more [] (record { place = p; bytes = d }) (group (p + (fixedHeader + length d)) bs)
 
 abbrev pub flatBay : List Cell → List Block → List Block
 flatBay [] r = r

@@ -1,8 +1,12 @@
 pub mod Bay
 pub mod Bays
-pub mod Calls
+pub mod Census
 pub mod Claim
 pub mod Group
-pub mod Meaning
+pub mod OnBays
+pub mod OnBytes
+pub mod Promise
+pub mod RigSheet
+pub mod Roster
+pub mod Walker
 pub mod ZoneBays
-pub mod LedgerText

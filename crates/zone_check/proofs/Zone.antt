@@ -11,7 +11,9 @@ use Rattle.bigendian.specs.BigEndian.{fromBE, slice}
 use Rattle.format.proofs.Bool.{and-left, and-right, is-false, passed}
 use Rattle.format.proofs.Header.{Fields, header-facts}
 use Rattle.zone_check.specs.Body.{Body}
-use Rattle.format.specs.WellFormed.{headerOk, lengthField, firstField, mastersField, chainField, links, splitBlocks, blocksOk, relocs, bodyOk, zoneOf, wellFormed, countOf}
+use Rattle.format.specs.WellFormed.{headerOk, lengthField, firstField, mastersField, chainField, splitBlocks, relocs, zoneOf, wellFormed, countOf}
+use Rattle.format.proofs.OneWalk.{one-walk}
+use Rattle.format.specs.OneWalk.{links, blocksOk, bodyOk}
 
 pub header-long : (s : List ℕ) → headerOk s ≡ true → 16 ≤ length s
 header-long s h = header-facts s h .long
@@ -52,8 +54,7 @@ module _ (z : List ℕ) (first m head : ℕ) where
 -- ---- the two together
 
 pub form-no : (s : List ℕ) (t : Bool) → t ≡ headerOk s → not t ≡ true → false ≡ wellFormed s
-unfolding wellFormed
-form-no s t e q = rw (← e, not-true t q)
+form-no s t e q = rw (one-walk s, ← e, not-true t q)
 
 pub count-no : (s : List ℕ) (t : Bool) → t ≡ headerOk s → not t ≡ true → _≡_ {A = ℕ} 0 (countOf s)
 unfolding countOf
@@ -61,8 +62,7 @@ count-no s t e q = rw (← form-no s t e q)
 
 module _ (s z : List ℕ) (l first m head count : ℕ) (t ok : Bool) where
   pub form-body : t ≡ headerOk s → not t ≡ false → Fields s l first m head → z ≡ take l s → Body z first m head ok count → ok ≡ wellFormed s
-  unfolding wellFormed
-  form-body e q f ez b = rw (← e, not-false t q, ← f .is-len, ← f .is-first, ← f .is-masters, ← f .is-chain, ← ez) (b .is-ok)
+  form-body e q f ez b = rw (one-walk s, ← e, not-false t q, ← f .is-len, ← f .is-first, ← f .is-masters, ← f .is-chain, ← ez) (b .is-ok)
 
   pub count-body : t ≡ headerOk s → not t ≡ false → Fields s l first m head → z ≡ take l s → Body z first m head ok count → count ≡ countOf s
   unfolding countOf

@@ -4,7 +4,8 @@ use mathlib.Core.List.{List}
 use mathlib.Core.Bool.{Bool, cond}
 use Prim.Native.Nat.{ℕ}
 use lib.ListN.{drop}
-use Rattle.format.specs.WellFormed.{bodyOk, relocs, splitBlocks}
+use Rattle.format.specs.OneWalk.{bodyOk}
+use Rattle.format.specs.WellFormed.{relocs, splitBlocks}
 
 -- what the test of the body answers
 pub record Body (z : List ℕ) (first m head : ℕ) (ok : Bool) (count : ℕ) : Type 0 where

@@ -3,7 +3,8 @@ ghost use mathlib.Core.Path.{_≡_};
 ghost use mathlib.Core.Bool.{true, false, cond};
 ghost use Prim.Native.Nat.{_+_, _-_, _*_, _%_, _<_, _≤_};
 ghost use lib.ListN.{length, take, drop};
-ghost use Rattle.format.specs.WellFormed.{headerOk, typeOf, sizeOf, handleOf, isFree, isReloc, splitBlocks, isMaster, links, freeRule, relocRule, blockOk, blocksOk, relocs, wellFormed, countOf};
+ghost use Rattle.format.specs.WellFormed.{headerOk, typeOf, sizeOf, handleOf, isFree, isReloc, splitBlocks, isMaster, relocs, wellFormed, countOf};
+ghost use Rattle.format.specs.OneWalk.{links, freeRule, relocRule, blockOk, blocksOk};
 ghost use Rattle.format.specs.Steps.{Turn, Fields};
 ghost use Rattle.zone_check.specs.Body.{Body};
 
@@ -226,7 +227,7 @@ fn body(z: &[u8], first: usize, m: usize, head: usize) -> Checked
     }
 }
 
-// Whether the zone in the buffer is well-formed, and the number of its relocatable splitBlocks; 0 where it is not.
+// Whether the zone in the buffer is well-formed, and the number of its relocatable blocks; 0 where it is not.
 pub fn check(zone: &[u8]) -> Checked
     ensures { λ r. ⌜ (r .ok ≡ wellFormed (now (zone .entry))) × (r .count ≡ countOf (now (zone .entry))) ⌝ }
 {

@@ -9,7 +9,8 @@ use native.Mathlib.Nat.{zero-add}
 use borrow.Author.Needs.{needs}
 use native.Mathlib.Omega.{arith}
 use lib.ListN.{length, drop}
-use Rattle.format.specs.WellFormed.{blocksOk, relocs, splitBlocks}
+use Rattle.format.specs.OneWalk.{blocksOk}
+use Rattle.format.specs.WellFormed.{relocs, splitBlocks}
 use Rattle.zone_check.proofs.Leaves.{tiles-stop, tiles-step, tiles-count, tiles-end, tiles-end-count}
 use Rattle.zone_check.proofs.blocks_ok.Statement.{statement}
 use Rattle.zone_check.proofs.blocks_ok.Tie as tie

@@ -1,4 +1,4 @@
--- THE LEDGER: for every list of calls from an accepted initialization, the zone answers as the ledger does, and holds what it holds.
+-- When a zone and a ledger match, what follows for the zone's bytes, and that they match after an accepted initialization.
 use mathlib.Core.Path.{_≡_, refl, ap, ap₂, sym, _∙_, subst}
 use mathlib.Core.List.{List, [], _∷_}
 use Prim.Native.Nat.{ℕ, _+_, _-_, _*_, _%_, _≤_, _<_}
@@ -14,9 +14,10 @@ use Rattle.zone.proofs.Sums.{each-weaken}
 use Rattle.zone.proofs.Sound.{Sound}
 use borrow.Author.Tests.{eqb-true}
 use mathlib.Core.Bool.{Bool, true, false}
-use Rattle.zone.specs.Calls.{Target, Fixed, pointer, lookup, State, Call, Answer, Out, step, initial, run, after, handlesFrom}
+use Rattle.calls.specs.Calls.{Target, Call, Answer}
+use Rattle.zone.specs.OnBays.{Fixed, pointer, lookup, State, Out, step, initial, run, after, handlesFrom}
 use Rattle.zone.proofs.BayKinds.{Room, zoneBays, ledgerBays}
-use Rattle.zone.proofs.Simulation.{Sim, sim, alike, Agreed, g-nil, g-cons, step-same, lookup-same, same-answer, same-next}
+use Rattle.zone.proofs.Simulation.{Sim, sim, Agreed, g-nil, g-cons, step-same, lookup-same, same-answer, same-next}
 use Rattle.zone.proofs.Agreement.{Fits, Equal, Single, link, agree, fresh-fits}
 use Rattle.zone.proofs.Handles.{Zone, Owns, single, owns-closed}
 use Rattle.zone.proofs.Places.{Placed, tile-last, placed-closed}
@@ -30,24 +31,6 @@ Matches z l = Sim zoneBays ledgerBays link agree z l
 -- what is read is equal
 abbrev pub Equally : Target → List ℕ → List ℕ → Type 0
 Equally t v w = v ≡ w
-
--- what a list of calls leaves
-pub record Kept (cs : List Call) (z : Zone) (l : State Room) : Type 0 where
-  pub same-answers : Agreed Equally cs (run zoneBays cs z) (run ledgerBays cs l)
-  pub matches : Matches (after zoneBays cs z) (after ledgerBays cs l)
-  pub handles : Owns (after zoneBays cs z)
-  pub places : Placed (after zoneBays cs z)
-
-run-kept : (cs : List Call) (z : Zone) (l : State Room) → Owns z → Placed z → Matches z l → Kept cs z l
-run-kept [] z l g p r = record { same-answers = g-nil; matches = r; handles = g; places = p }
-run-kept (c ∷ cs) z l g p r =
-    let q = step-same zoneBays ledgerBays link agree (alike c) (single z g) r in
-    let k : Kept cs ((step zoneBays c z) .next) ((step ledgerBays c l) .next) =
-    run-kept cs _ _
-    (left (step-kept zoneBays Owns owns-closed c z g))
-    (left (step-kept zoneBays Placed placed-closed c z p))
-    (same-next zoneBays ledgerBays link agree q) in
-    record { same-answers = g-cons (same-answer zoneBays ledgerBays link agree q) (k .same-answers); matches = k .matches; handles = k .handles; places = k .places }
 
 -- what initialize accepts
 pub record Accepted (buf n m : ℕ) : Type 0 where
@@ -66,20 +49,12 @@ initial-placed buf n m a = record { tiled = tile-last {p = 16 + 4 * m} {end = n}
 pub initial-matches : (buf n m : ℕ) → Accepted buf n m → Matches (initial zoneBays buf n m) (initial ledgerBays buf n m)
 initial-matches buf n m a = sim (like-last (fresh-fits (n - (16 + 4 * m)) (omega (arith, a))))
 
-initial-kept : (buf n m : ℕ) → Accepted buf n m → (cs : List Call) → Kept cs (initial zoneBays buf n m) (initial ledgerBays buf n m)
-initial-kept buf n m a cs =
-    run-kept cs _ _ (initial-owns buf n m) (initial-placed buf n m a) (initial-matches buf n m a)
-
 -- what the ledger holds stands in the zone
 pub record Stood (z : Zone) (l : State Room) : Type 0 where
   pub live-bytes : (h : ℕ) → Each (λ (e : Item). Stands (zoneBytes z) (masterOf z h) (e .bytes)) (lookup ledgerBays h l)
   pub master-bytes : (i : ℕ) → i < z .m → Stands (zoneBytes z) (16 + 4 * i) (big 4 (masterOf z (16 + 4 * i)))
   pub fixed-bytes : (p : ℕ) → Each (λ (x : Fixed). Stands (zoneBytes z) p (x .bytes)) (findF (λ (x : Fixed). eqb p (pointer x)) (l .bays))
   pub as-long : length (zoneBytes z) ≡ l .len
-
-pub record Ledger (cs : List Call) (z : Zone) (l : State Room) : Type 0 where
-  pub answers : Agreed Equally cs (run zoneBays cs z) (run ledgerBays cs l)
-  pub stood : Stood (after zoneBays cs z) (after ledgerBays cs l)
 
 pub both-eq-each : {A : Type 0} {a b : Option A} {P : A → Type 0} → Both (λ (x y : A). x ≡ y) a b → Each P a → Each P b
 both-eq-each absent nothing = nothing
@@ -101,6 +76,3 @@ stood z l g p (sim {len = len} {s = s} {t = t} k) = record {
   where
     sound : AllS Sound s
     sound = all-like Fits Equal Sound (λ b c r. r .sound) k
-
-pub ledger : (buf n m : ℕ) → Accepted buf n m → (cs : List Call) → Ledger cs (initial zoneBays buf n m) (initial ledgerBays buf n m)
-ledger buf n m a cs = let k = initial-kept buf n m a cs in record { answers = k .same-answers; stood = stood _ _ (k .handles) (k .places) (k .matches) }

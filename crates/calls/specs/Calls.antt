@@ -1,0 +1,73 @@
+-- The ledger's calls with their arguments, and what a call answers. Neither a zone nor a ledger is named here.
+use mathlib.Core.List.{List, []}
+use Prim.Native.Nat.{ℕ}
+
+-- "a stretch names its block, by handle or by pointer"
+pub data Target : Type 0 where
+  by-handle : ℕ → Target
+  by-pointer : ℕ → Target
+
+-- the sixteen calls of a ledger's list
+pub data Call : Type 0 where
+  -- c
+  allocate-relocatable : ℕ → Call
+  allocate-fixed : ℕ → Call
+  free-handle : ℕ → Call
+  free-pointer : ℕ → Call
+  -- handle, c
+  resize : ℕ → ℕ → Call
+  size : Target → Call
+  -- block, offset, count, and the second buffer as it is given
+  read : Target → ℕ → ℕ → List ℕ → Call
+  write : Target → ℕ → ℕ → List ℕ → Call
+  view : Target → ℕ → ℕ → Call
+  compact : Call
+  sums : Call
+  check : Call
+  length-of : Call
+  -- k
+  enlarge : ℕ → Call
+  shrink : ℕ → Call
+  -- the second buffer as it is given
+  roster : List ℕ → Call
+
+-- "8 bytes a live handle (handle, data size; 4 bytes each)"
+pub record Card : Type 0 where
+  pub handle : ℕ
+  pub amount : ℕ
+
+pub record Answer : Type 0 where
+  -- the refusal number, 0 if the call is done
+  pub number : ℕ
+  -- the values: "A call for which no answer is named answers 0", "A call with several answers gives 0 for each when refused"
+  pub value : ℕ
+  pub second : ℕ
+  -- the second buffer after the call (a roster's from behind its records on), or what a view shows
+  pub bytes : List ℕ
+  -- a roster's records
+  pub records : List Card
+
+-- done, with one value
+abbrev pub answers : ℕ → Answer
+answers v = record { number = 0; value = v; second = 0; bytes = []; records = [] }
+
+-- done, with two values
+abbrev pub answersTwo : ℕ → ℕ → Answer
+answersTwo v w = record { number = 0; value = v; second = w; bytes = []; records = [] }
+
+-- refused with number n
+abbrev pub refusal : ℕ → Answer
+refusal n = record { number = n; value = 0; second = 0; bytes = []; records = [] }
+
+-- done (n is 0) or refused, with these bytes in the second buffer, or in the view
+abbrev pub shows : ℕ → List ℕ → Answer
+shows n bs = record { number = n; value = 0; second = 0; bytes = bs; records = [] }
+
+-- a roster: how many, the records, and the later bytes of the second buffer
+abbrev pub lists : ℕ → List Card → List ℕ → Answer
+lists n cs bs = record { number = 0; value = n; second = 0; bytes = bs; records = cs }
+
+-- the refusal where no block is so named: "handle not live" 6, "pointer not that of a fixed block" 7
+abbrev pub absentNumber : Target → ℕ
+absentNumber (by-handle h) = 6
+absentNumber (by-pointer p) = 7

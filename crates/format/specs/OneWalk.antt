@@ -1,0 +1,45 @@
+-- The rules of WellFormed in the order in which one walk through the bytes meets them. Contracts inside the library cite these;
+-- the law `one-walk` says that they are the rules.
+use Prim.Native.Nat.{ℕ, zero, suc, _+_, _-_, _%_}
+use mathlib.Core.List.{List, [], _∷_}
+use mathlib.Core.Bool.{Bool, true, false, not, _&&_}
+use lib.ListN.{length, drop}
+use lib.Dec.{eqb, leb}
+use Rattle.memory.specs.Zeros.{allZero}
+use Rattle.block_type.specs.Limits.{freeHeader, relocHeader}
+use Rattle.format.specs.WellFormed.{typeOf, sizeOf, handleOf, isFree, isMaster, masterAt, splitBlocks, relocs}
+
+-- n masters are visited from h on, and the last holds 0
+unfoldable pub links : List ℕ → ℕ → ℕ → ℕ → Bool
+links z first zero h = eqb h 0
+links z first (suc n) h = isMaster first h && links z first n (masterAt z h)
+
+-- by type: a free block's rule, nothing more for a fixed one, a relocatable one's rule; there is no type 3
+unfoldable pub typeRule : ℕ → Bool → Bool → Bool
+typeRule zero free reloc = free
+typeRule (suc zero) free reloc = true
+typeRule (suc (suc zero)) free reloc = reloc
+typeRule (suc (suc (suc k))) free reloc = false
+
+-- prev: the block before is free
+unfoldable pub freeRule : Bool → List ℕ → Bool
+freeRule prev b = not prev && allZero (drop freeHeader b)
+
+unfoldable pub relocRule : List ℕ → ℕ → ℕ → ℕ → Bool
+relocRule z first at h = isMaster first h && eqb (masterAt z h) (at + relocHeader)
+
+-- the block b at offset `at`
+unfoldable pub blockOk : List ℕ → ℕ → Bool → ℕ → List ℕ → Bool
+blockOk z first prev at b =
+    leb 4 (sizeOf b)
+    && (eqb (sizeOf b % 4) 0
+    && (eqb (sizeOf b) (length b) && typeRule (typeOf b) (freeRule prev b) (relocRule z first at (handleOf b))))
+
+unfoldable pub blocksOk : List ℕ → ℕ → Bool → ℕ → List (List ℕ) → Bool
+blocksOk z first prev at [] = true
+blocksOk z first prev at (b ∷ bs) = blockOk z first prev at b && blocksOk z first (isFree b) (at + length b) bs
+
+unfoldable pub bodyOk : List ℕ → ℕ → ℕ → ℕ → Bool
+bodyOk z first m head =
+    blocksOk z first false first (splitBlocks (drop first z))
+    && (leb (relocs (splitBlocks (drop first z))) m && links z first (m - relocs (splitBlocks (drop first z))) head)

@@ -1,0 +1,1 @@
+// The ledger of document 01: definitions alone.
