@@ -47,6 +47,10 @@ pub record Answer : Type 0 where
   -- a roster's records
   pub records : List Card
 
+-- a refusal number (0 for done) and a value
+abbrev pub told : ℕ → ℕ → Answer
+told n v = record { number = n; value = v; second = 0; bytes = []; records = [] }
+
 -- done, with one value
 abbrev pub answers : ℕ → Answer
 answers v = record { number = 0; value = v; second = 0; bytes = []; records = [] }

@@ -38,15 +38,15 @@ pub record Enc (b : Block) : Type 0 where
   pub same : sizeOf (encodeBlock b) ≡ size b
   pub back : decodeBlock (encodeBlock b) ≡ b
 
-kind-free : (n : ℕ) → n ≤ 1048576 → typeOf (encodeBlock (free n)) ≡ 0
+pub kind-free : (n : ℕ) → n ≤ 1048576 → typeOf (encodeBlock (free n)) ≡ 0
 unfolding typeOf encodeBlock toBE
 kind-free n l = omega arith
 
-kind-fixed : (d : List ℕ) → length d ≤ 32762 → typeOf (encodeBlock (fixed d)) ≡ 1
+pub kind-fixed : (d : List ℕ) → length d ≤ 32762 → typeOf (encodeBlock (fixed d)) ≡ 1
 unfolding typeOf encodeBlock toBE
 kind-fixed d l = omega arith
 
-kind-reloc : (h : ℕ) (d : List ℕ) → length d ≤ 32760 → typeOf (encodeBlock (reloc h d)) ≡ 2
+pub kind-reloc : (h : ℕ) (d : List ℕ) → length d ≤ 32760 → typeOf (encodeBlock (reloc h d)) ≡ 2
 unfolding typeOf encodeBlock toBE
 kind-reloc h d l = omega arith
 
@@ -62,7 +62,7 @@ dec-reloc : (e d : List ℕ) (h : ℕ) → typeOf e ≡ 2 → handleOf e ≡ h �
 unfolding decodeBlock
 dec-reloc e d h k p s = rw (k, p, s)
 
-enc-free : (n : ℕ) → 4 ≤ n → n % 4 ≡ 0 → n ≤ 1048576 → Enc (free n)
+pub enc-free : (n : ℕ) → 4 ≤ n → n % 4 ≡ 0 → n ≤ 1048576 → Enc (free n)
 unfolding encodeBlock
 enc-free n l q u =
     let k = kind-free n u in
@@ -82,7 +82,7 @@ low₂ w l = omega arith
 half : (n : ℕ) → n % 4 ≡ 0 → n / 2 * 2 ≡ n
 half n q = omega arith
 
-enc-fixed : (d : List ℕ) → (2 + length d) % 4 ≡ 0 → length d ≤ 32762 → Enc (fixed d)
+pub enc-fixed : (d : List ℕ) → (2 + length d) % 4 ≡ 0 → length d ≤ 32762 → Enc (fixed d)
 unfolding encodeBlock
 enc-fixed d q u =
     let k = kind-fixed d u in

@@ -30,6 +30,9 @@ pub record Result : Type 0 where
   pub answer : Answer
   pub bytes : List ℕ
 
+abbrev pub result : Answer → List ℕ → Result
+result a bs = record { answer = a; bytes = bs }
+
 -- "zone not well-formed (all calls but initialize and check)": 1; a view carries no number, check says no, a second buffer stays
 abbrev pub illFormed : Call → Answer
 illFormed (read t i n buf) = shows 1 buf

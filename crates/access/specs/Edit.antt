@@ -1,0 +1,40 @@
+-- One block's data, read and replaced, in the structure. Both go to the first block with the handle, so no law asks that it is the only one.
+use mathlib.Core.List.{List, [], _∷_, _++_}
+use mathlib.Core.Bool.{Bool, true, false, cond}
+use Prim.Native.Nat.{ℕ, _+_}
+use lib.ListN.{length}
+use lib.Dec.{eqb}
+use Rattle.bigendian.specs.BigEndian.{overwrite}
+use Rattle.structure.proofs.Table.{Whole}
+use Rattle.structure.specs.Structure.{Block, free, fixed, reloc, Structure, start, placeOf, decodeZone}
+
+-- the data of handle h
+unfoldable pub dataOf : ℕ → List Block → List ℕ
+dataOf h [] = []
+dataOf h (free n ∷ bs) = dataOf h bs
+dataOf h (fixed d ∷ bs) = dataOf h bs
+dataOf h (reloc k d ∷ bs) = cond (eqb h k) d (dataOf h bs)
+
+-- the splitBlocks with src at offset off of the data of handle h
+unfoldable pub edit : ℕ → ℕ → List ℕ → List Block → List Block
+edit h off src [] = []
+edit h off src (free n ∷ bs) = free n ∷ edit h off src bs
+edit h off src (fixed d ∷ bs) = fixed d ∷ edit h off src bs
+edit h off src (reloc k d ∷ bs) = cond (eqb h k) (reloc k (overwrite d off src) ∷ bs) (reloc k d ∷ edit h off src bs)
+
+unfoldable pub store : ℕ → ℕ → List ℕ → Structure → Structure
+store h off src s = record { links = s .links; blocks = edit h off src (s .blocks) }
+
+-- where the data of handle h lies in the zone z, 0 where h is not live, and the data
+unfoldable pub placeIn : List ℕ → ℕ → ℕ
+placeIn z h = placeOf h (start (decodeZone z)) (decodeZone z .blocks)
+
+unfoldable pub dataIn : List ℕ → ℕ → List ℕ
+dataIn z h = dataOf h (decodeZone z .blocks)
+
+-- z is the bytes of a well-formed zone. A data type, so that a search does not go into the facts
+pub data IsZone (z : List ℕ) : Type 0 where
+  is-zone : Whole z → IsZone z
+
+pub whole-of : (z : List ℕ) → IsZone z → Whole z
+whole-of z (is-zone w) = w

@@ -1,0 +1,154 @@
+-- What compaction keeps.
+use mathlib.Core.Path.{_≡_, refl, sym, ap, ap₂, _∙_, subst}
+use mathlib.Core.List.{List, [], _∷_, _++_, map, append-assoc, append-nil}
+use mathlib.Core.Bool.{Bool, true, false, cond}
+use Prim.Native.Nat.{ℕ, zero, suc, _+_, _-_, _/_, _%_, _<_, _≤_}
+use native.Mathlib.Omega.{arith}
+use lib.Dec.{eqb}
+use borrow.Author.Tests.{eqb-true, eqb-false}
+use lib.ListN.{length, take, drop, length-append, length-take, length-drop, drop-of-length-le}
+use lib.Seq.{drop-drop, take-at, drop-at, length-take-le}
+use Rattle.bigendian.specs.BigEndian.{fromBE, toBE, slice, overwrite}
+use Rattle.format.proofs.Walk.{drop-take}
+use Rattle.structure.specs.Structure.{Block, free, fixed, reloc, size, sizes, encodeBlock, join}
+use Rattle.structure.proofs.Valid.{handlesOf}
+use Rattle.row.specs.Row.{blocksOf, bytesOf, kindB, freeB, Row, row, Sound, Sound1}
+use Rattle.row.proofs.Laws.{tiles-join, row-bytes, row-sound, bytes-long, sound-append}
+use Rattle.find_bay.specs.Spots.{freeTotal, used, gapOf, squeeze}
+use Rattle.find_bay.proofs.Numbers.{sizes-append}
+use Rattle.compact_bay.specs.Tidy.{Low, IsLow, is-low, setAll, tidied}
+
+-- ---- the used splitBlocks and the free bytes
+
+pub used-sizes : (bs : List Block) → sizes (used bs) + freeTotal bs ≡ sizes bs
+unfolding used sizes freeTotal
+used-sizes [] = refl
+used-sizes (free n ∷ bs) = omega (arith, used-sizes bs)
+used-sizes (fixed d ∷ bs) = omega (arith, used-sizes bs)
+used-sizes (reloc h d ∷ bs) = omega (arith, used-sizes bs)
+
+pub used-sound : (bs : List Block) → Sound bs → Sound (used bs)
+unfolding used
+used-sound [] s = tt
+used-sound (free n ∷ bs) s = used-sound bs (s .1)
+used-sound (fixed d ∷ bs) s = (s .0, used-sound bs (s .1))
+used-sound (reloc h d ∷ bs) s = (s .0, used-sound bs (s .1))
+
+pub free-four : (bs : List Block) → Sound bs → freeTotal bs % 4 ≡ 0
+unfolding freeTotal
+free-four [] s = refl
+free-four (free n ∷ bs) s = omega (arith, s .0 .1, free-four bs (s .1))
+free-four (fixed d ∷ bs) s = omega (arith, free-four bs (s .1))
+free-four (reloc h d ∷ bs) s = omega (arith, free-four bs (s .1))
+
+pub gap-sound : (n : ℕ) → n % 4 ≡ 0 → n ≤ 1048576 → Sound (gapOf n)
+gap-sound n q l = go (eqb n 0) refl
+  where
+    go : (t : Bool) → eqb n 0 ≡ t → Sound (cond t [] (free n ∷ []))
+    go true e = tt
+    go false e = ((let ne = eqb-false n 0 e in omega arith, q, l), tt)
+
+pub gap-sizes : (n : ℕ) → sizes (gapOf n) ≡ n
+unfolding sizes
+gap-sizes n = go (eqb n 0) refl
+  where
+    go : (t : Bool) → eqb n 0 ≡ t → sizes (cond t [] (free n ∷ [])) ≡ n
+    go true e = sym (eqb-true n 0 e)
+    go false e = omega arith
+
+pub squeeze-sizes : (bs : List Block) → sizes (squeeze bs) ≡ sizes bs
+unfolding squeeze
+squeeze-sizes bs = omega (arith, sizes-append (used bs) (gapOf (freeTotal bs)), gap-sizes (freeTotal bs), used-sizes bs)
+
+pub squeeze-sound : (bs : List Block) → Sound bs → sizes bs ≤ 1048576 → Sound (squeeze bs)
+unfolding squeeze
+squeeze-sound bs s l = sound-append (used bs) (gapOf (freeTotal bs)) (used-sound bs s) (gap-sound (freeTotal bs) (free-four bs s) (omega (arith, used-sizes bs)))
+
+-- ---- handles
+
+pub handles-append : (a b : List Block) → handlesOf (a ++ b) ≡ handlesOf a ++ handlesOf b
+unfolding handlesOf
+handles-append [] b = refl
+handles-append (free n ∷ a) b = handles-append a b
+handles-append (fixed d ∷ a) b = handles-append a b
+handles-append (reloc h d ∷ a) b = ap (λ (t : List ℕ). h ∷ t) (handles-append a b)
+
+used-handles : (bs : List Block) → handlesOf (used bs) ≡ handlesOf bs
+unfolding used handlesOf
+used-handles [] = refl
+used-handles (free n ∷ bs) = used-handles bs
+used-handles (fixed d ∷ bs) = used-handles bs
+used-handles (reloc h d ∷ bs) = ap (λ (t : List ℕ). h ∷ t) (used-handles bs)
+
+pub gap-handles : (n : ℕ) → handlesOf (gapOf n) ≡ []
+unfolding handlesOf
+gap-handles n = go (eqb n 0)
+  where
+    go : (t : Bool) → handlesOf (cond t [] (free n ∷ [])) ≡ []
+    go true = refl
+    go false = refl
+
+pub squeeze-handles : (bs : List Block) → handlesOf (squeeze bs) ≡ handlesOf bs
+unfolding squeeze
+squeeze-handles bs = rw (handles-append (used bs) (gapOf (freeTotal bs)), gap-handles (freeTotal bs), append-nil, used-handles bs)
+
+low-squeeze : (lim : ℕ) (bs : List Block) → Low lim bs → Low lim (squeeze bs)
+unfolding squeeze used
+low-squeeze lim bs x = app (used bs) (gapOf (freeTotal bs)) (us bs x) (gp (freeTotal bs))
+  where
+    app : (a b : List Block) → Low lim a → Low lim b → Low lim (a ++ b)
+    app [] b x y = y
+    app (free n ∷ a) b x y = app a b x y
+    app (fixed d ∷ a) b x y = app a b x y
+    app (reloc h d ∷ a) b x y = (x .0, x .1, app a b (x .2) y)
+
+    us : (bs : List Block) → Low lim bs → Low lim (used bs)
+    us [] x = tt
+    us (free n ∷ bs) x = us bs x
+    us (fixed d ∷ bs) x = us bs x
+    us (reloc h d ∷ bs) x = (x .0, x .1, us bs (x .2))
+
+    gp : (n : ℕ) → Low lim (gapOf n)
+    gp n = gp′ (eqb n 0)
+      where
+        gp′ : (t : Bool) → Low lim (cond t [] (free n ∷ []))
+        gp′ true = tt
+        gp′ false = tt
+
+-- ---- the bay is back, and its masters are to fromBE set
+
+module _ (z y : List ℕ) (a e : ℕ) (le : a ≤ e) (k : e ≤ length z) (lim : length z ≤ 1048576) (r : Row (slice z a (e - a))) (lo : IsLow a (blocksOf (slice z a (e - a))))
+    (ly : length y ≡ length (slice z a (e - a))) (ey : y ≡ bytesOf (squeeze (blocksOf (slice z a (e - a))))) where
+  abbrev ts : List Block
+  ts = blocksOf (slice z a (e - a))
+
+  abbrev z₁ : List ℕ
+  z₁ = take a z ++ (y ++ drop (e - a) (drop a z))
+
+  long-y : length y ≡ e - a
+  long-y = ly ∙ simp (length-take, length-drop) (omega arith)
+
+  part : drop a (take e z₁) ≡ y
+  part =
+      let la = length-take-le a z (omega arith) in
+      rw (drop-take a e z₁, drop-at (take a z) (y ++ drop (e - a) (drop a z)) a la, take-at y (drop (e - a) (drop a z)) (e - a) long-y)
+
+  sound : Sound (squeeze ts)
+  sound = squeeze-sound ts (row-sound _ r) (omega (arith, sym (bytes-long ts (row-sound _ r)) ∙ ap length (row-bytes _ r), length-take (e - a) (drop a z), length-drop a z))
+
+  tiles-y : blocksOf y ≡ squeeze ts
+  tiles-y = rw ey (tiles-join (squeeze ts) sound)
+
+  pub bay-row : Row (drop a (take e z₁))
+  bay-row = rw part (row (squeeze ts) sound ey)
+
+  pub bay-low : IsLow a (blocksOf (drop a (take e z₁)))
+  bay-low = rw (part, tiles-y) (go lo)
+    where
+      go : IsLow a ts → IsLow a (squeeze ts)
+      go (is-low x) = is-low (low-squeeze a ts x)
+
+  pub bay-done : (z₂ : List ℕ) → z₂ ≡ setAll a (blocksOf (drop a (take e z₁))) z₁ → z₂ ≡ tidied z a (e - a)
+  bay-done z₂ q =
+      let w : z₁ ≡ overwrite z a (bytesOf (squeeze ts)) = rw (← ey, long-y, drop-drop (e - a) a z, append-assoc (take a z) y (drop (a + (e - a)) z)) in
+      q ∙ (rw (part, tiles-y, w))

@@ -1,0 +1,53 @@
+use borrow.Author.Needs.{needs}
+use mathlib.Core.Path.{_≡_, refl}
+use mathlib.Core.List.{_++_}
+use mathlib.Core.Bool.{true}
+use Prim.Native.Nat.{_+_, _-_, _%_, _≤_}
+use native.Mathlib.Omega.{arith}
+use lib.ListN.{length, take, drop, length-take}
+use Rattle.row.specs.Row.{Row, blocksOf, bytesOf}
+use Rattle.compact_bay.specs.Tidy.{IsLow, setAll}
+use Rattle.compact_bay.proofs.Pass.{masters-done, masters-step}
+use Rattle.compact_bay.proofs.set_masters.Statement.{statement}
+use Rattle.compact_bay.proofs.set_masters.Tie as tie
+
+abbrev Inv-loop : tie.InvT-loop
+Inv-loop z₀ from to at₀ z at = (from ≤ at) × (at ≤ to) × (to ≤ length z) × (length z ≤ 1048576) × (length z ≡ length z₀) × Row (drop at (take to z)) × IsLow at (blocksOf (drop at (take to z))) × (setAll at (blocksOf (drop at (take to z))) z ≡ setAll from (blocksOf (drop from (take to z₀))) z₀)
+
+abbrev μ-loop : tie.MeasureT-loop
+μ-loop z₀ from to at₀ z at = to - at
+
+loop-holds : tie.Need-loop-holds Inv-loop μ-loop
+loop-holds c = (omega arith, omega arith, omega arith, omega arith, refl, search needs, search needs, refl)
+
+turn-requires : tie.Need-turn-requires Inv-loop μ-loop
+turn-requires c κs = search needs
+
+add-at : tie.Need-add-at Inv-loop μ-loop
+add-at c = search needs
+
+loop-less : tie.Need-loop-less Inv-loop μ-loop
+loop-less c = search needs
+
+loop-again : tie.Need-loop-again Inv-loop μ-loop
+loop-again c = (omega arith, omega arith, omega arith, omega arith, omega arith, search needs, search needs, search masters-step)
+
+same-length : tie.Need-same-length Inv-loop μ-loop
+same-length c = search needs
+
+returns : tie.Need-returns Inv-loop μ-loop
+returns c = search masters-done
+
+pub set-masters-spec : {M : Type 1} → statement M
+set-masters-spec =
+    tie.close
+    (tie.spec
+    Inv-loop
+    μ-loop
+    loop-holds
+    turn-requires
+    add-at
+    loop-less
+    loop-again
+    same-length
+    returns)

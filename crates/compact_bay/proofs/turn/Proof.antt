@@ -1,0 +1,38 @@
+use mathlib.Core.Path.{_≡_, refl}
+use native.Mathlib.Omega.{arith}
+use lib.ListN.{length, take, drop, length-take}
+use Rattle.compact_bay.proofs.Pass.{put-in, turned-other, turned-reloc}
+use borrow.Author.Needs.{needs}
+use Rattle.compact_bay.proofs.turn.Statement.{statement}
+use Rattle.compact_bay.proofs.turn.Tie as tie
+
+slice-aggregate-step : tie.Need-slice-aggregate-step
+slice-aggregate-step c = simp length-take (omega arith)
+
+step-requires : tie.Need-step-requires
+step-requires c κs = (search needs, simp length-take (omega arith))
+
+returns : tie.Need-returns
+returns c = search turned-other
+
+put4-requires : tie.Need-put4-requires
+put4-requires c κs = search put-in
+
+returns-2 : tie.Need-returns-2
+returns-2 c = search turned-reloc
+
+pub turn-spec : {M : Type 1} → statement M
+turn-spec =
+    tie.close
+    (tie.spec
+    (λ c. search needs)
+    slice-aggregate-step
+    step-requires
+    (λ c κs. search needs)
+    (λ c. search needs)
+    returns
+    (λ c. search needs)
+    (λ c. search needs)
+    put4-requires
+    (λ c. search needs)
+    returns-2)

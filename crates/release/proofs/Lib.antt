@@ -1,0 +1,5 @@
+pub mod Act
+pub mod Find
+pub mod Freed
+pub mod ZoneLayout
+pub mod Reach

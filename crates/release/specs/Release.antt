@@ -1,0 +1,44 @@
+-- Freeing a block, in the structure.
+use mathlib.Core.Path.{_≡_}
+use mathlib.Core.List.{List, [], _∷_, _++_}
+use mathlib.Core.Bool.{Bool, true, false, cond}
+use Prim.Native.Nat.{ℕ, _+_}
+use lib.ListN.{length}
+use lib.Dec.{eqb}
+use Rattle.structure.specs.Structure.{Block, free, fixed, reloc, Structure, sizes, start, decodeZone}
+use Rattle.structure.proofs.Valid.{handlesOf}
+
+-- n free bytes in front, merged with a free block that follows
+unfoldable pub gap : ℕ → List Block → List Block
+gap n [] = free n ∷ []
+gap n (free k ∷ bs) = free (n + k) ∷ bs
+gap n (fixed d ∷ bs) = free n ∷ fixed d ∷ bs
+gap n (reloc h d ∷ bs) = free n ∷ reloc h d ∷ bs
+
+-- the block of handle h is free, and merged with its free neighbours
+unfoldable pub release : ℕ → List Block → List Block
+release h [] = []
+release h (free n ∷ bs) = gap n (release h bs)
+release h (fixed d ∷ bs) = fixed d ∷ release h bs
+release h (reloc k d ∷ bs) = cond (eqb h k) (gap (4 + length d) bs) (reloc k d ∷ release h bs)
+
+unfoldable pub freed : ℕ → Structure → Structure
+freed h s = record { links = h ∷ s .links; blocks = release h (s .blocks) }
+
+-- the splitBlocks that become one, from one offset up to another, where the first block is at offset at
+pub record Span (h at : ℕ) (bs : List Block) (from to : ℕ) : Type 0 where
+  pub pre : List Block
+  pub mid : List Block
+  pub post : List Block
+  pub parts : bs ≡ pre ++ (mid ++ post)
+  pub result : release h bs ≡ pre ++ free (sizes mid) ∷ post
+  pub only : handlesOf mid ≡ h ∷ []
+  pub is-from : from ≡ at + sizes pre
+  pub is-to : to ≡ from + sizes mid
+
+-- the same in the bytes of a zone
+pub data SpanIn (z : List ℕ) (h from to : ℕ) : Type 0 where
+  span-in : Span h (start (decodeZone z)) (decodeZone z .blocks) from to → SpanIn z h from to
+
+pub span-of : (z : List ℕ) (h from to : ℕ) → SpanIn z h from to → Span h (start (decodeZone z)) (decodeZone z .blocks) from to
+span-of z h from to (span-in p) = p

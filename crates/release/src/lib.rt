@@ -1,0 +1,58 @@
+// Frees a block: the writes.
+ghost use mathlib.Core.Path.{_≡_};
+ghost use Prim.Native.Nat.{_+_, _-_, _<_, _≤_};
+ghost use lib.ListN.{length};
+ghost use Rattle.bigendian.specs.BigEndian.{fromBE, slice, toBE, overwrite};
+ghost use Rattle.structure.specs.Structure.{encodeBlock, free, encode, decodeZone};
+ghost use Rattle.access.specs.Edit.{IsZone, placeIn, dataIn};
+ghost use Rattle.format.specs.WellFormed.{firstField};
+ghost use Rattle.release.specs.Release.{freed, SpanIn};
+
+// One free block from `from` up to `to`.
+pub fn blank(z: &mut [u8], from: usize, to: usize)
+    requires { ⌜ (from + 4 ≤ to) × (to ≤ length (now z)) × (length (now z) ≤ 1048576) ⌝ }
+    ensures { λ _. ⌜ now (z .exit) ≡ overwrite (now (z .entry)) from (encodeBlock (free (to - from))) ⌝ }
+{
+    bigendian::put4(z, from, ((to - from) / 2) as u32);
+    memory::fill_zero(z, from + 4, to);
+}
+
+// Master h becomes the chain's head, with `head` behind it.
+fn link(z: &mut [u8], h: usize, head: u32)
+    requires { ⌜ (14 ≤ length (now z)) × (h + 4 ≤ length (now z)) × (length (now z) ≤ 1048576) ⌝ }
+    ensures { λ _. ⌜ now (z .exit) ≡ overwrite (overwrite (now (z .entry)) 12 (toBE 2 h)) h (toBE 4 head) ⌝ }
+{
+    bigendian::put2(z, 12, h as u32);
+    bigendian::put4(z, h, head);
+}
+
+// Frees handle h, whose block and free neighbours lie from `from` up to `to`; `head` is the chain's head.
+pub fn release(z: &mut [u8], h: usize, head: u32, from: usize, to: usize)
+    requires { ⌜ (IsZone (now z)) × (SpanIn (now z) h from to) × (head ≡ fromBE (slice (now z) 12 2)) × (h + 4 ≤ length (now z)) × (14 ≤ length (now z)) ⌝ }
+    ensures { λ _. ⌜ now (z .exit) ≡ encode (freed h (decodeZone (now (z .entry)))) ⌝ }
+{
+    link(z, h, head);
+    blank(z, from, to);
+}
+
+pub struct Extent {
+    pub from: usize,
+    pub to: usize,
+}
+
+// Where the block of the live handle h and its free neighbours lie; `at` is where its data lies.
+pub fn find_extent(z: &[u8], h: usize, first: usize, at: usize, n: usize) -> Extent
+    requires { ⌜ (IsZone (now z)) × (first ≡ firstField (now z)) × (at ≡ placeIn (now z) h) × (at ≡ 0 → ⊥) × (n ≡ length (dataIn (now z) h)) ⌝ }
+    ensures { λ r. ⌜ SpanIn (now (z .entry)) h (r .from) (r .to) ⌝ }
+{
+    let from = walk::low(z, first, at - 4);
+    let end = at + n;
+    if z.len() <= end {
+        return Extent { from, to: end };
+    }
+    let k = walk::step(z, first, end);
+    if zone_check::is_free(z, end) {
+        return Extent { from, to: end + k };
+    }
+    Extent { from, to: end }
+}

@@ -1,0 +1,58 @@
+-- A stretch of splitBlocks: bytes that splitBlocks tile, whatever the masters hold.
+use mathlib.Core.Path.{_≡_}
+use mathlib.Core.List.{List, [], _∷_, _++_, map}
+use mathlib.Core.Bool.{Bool, true, false, cond}
+use Prim.Native.Nat.{ℕ, _+_, _%_, _<_, _≤_}
+use lib.ListN.{length, take, drop}
+use lib.Dec.{eqb}
+use Rattle.bigendian.specs.BigEndian.{slice}
+use Rattle.format.specs.WellFormed.{sizeOf, typeOf, splitBlocks}
+use Rattle.structure.specs.Structure.{Block, free, fixed, reloc, size, encodeBlock, decodeBlock, join}
+
+-- the splitBlocks of a stretch
+unfoldable pub blocksOf : List ℕ → List Block
+blocksOf r = map decodeBlock (splitBlocks r)
+
+-- the bytes of splitBlocks
+abbrev pub bytesOf : List Block → List ℕ
+bytesOf bs = join (map encodeBlock bs)
+
+-- the type of a block
+abbrev pub kindB : Block → ℕ
+kindB (free n) = 0
+kindB (fixed d) = 1
+kindB (reloc h d) = 2
+
+abbrev pub freeB : Block → Bool
+freeB b = eqb (kindB b) 0
+
+abbrev pub fixedB : Block → Bool
+fixedB b = eqb (kindB b) 1
+
+-- the sizes that the format has
+abbrev pub Sound1 : Block → Type 0
+Sound1 (free n) = (4 ≤ n) × (n % 4 ≡ 0) × (n ≤ 1048576)
+Sound1 (fixed d) = ((2 + length d) % 4 ≡ 0) × (length d ≤ 32762)
+Sound1 (reloc h d) = (length d % 4 ≡ 0) × (length d ≤ 32760) × (h < 65536)
+
+abbrev pub Sound : List Block → Type 0
+Sound [] = Unit {0}
+Sound (b ∷ bs) = Sound1 b × Sound bs
+
+pub data Row (r : List ℕ) : Type 0 where
+  row : (bs : List Block) → Sound bs → r ≡ bytesOf bs → Row r
+
+abbrev pub blockAt : List ℕ → ℕ → Block
+blockAt s p = decodeBlock (take (sizeOf (drop p s)) (drop p s))
+
+-- a step over a block of n bytes
+pub record Stepped (s : List ℕ) (p n : ℕ) : Type 0 where
+  pub size-is : sizeOf (drop p s) ≡ n
+  pub low : 4 ≤ n
+  pub four : n % 4 ≡ 0
+  pub fits : p + n ≤ length s
+  pub next : Row (drop (p + n) s)
+  pub blocks : blocksOf (drop p s) ≡ blockAt s p ∷ blocksOf (drop (p + n) s)
+  pub bytes : size (blockAt s p) ≡ n
+  pub kind : kindB (blockAt s p) ≡ typeOf (drop p s)
+  pub image : encodeBlock (blockAt s p) ≡ slice s p n

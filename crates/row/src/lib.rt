@@ -1,0 +1,13 @@
+// A stretch of splitBlocks: a list of bytes that splitBlocks tile.
+ghost use mathlib.Core.Path.{_≡_};
+ghost use Prim.Native.Nat.{_<_};
+ghost use lib.ListN.{length, drop};
+ghost use Rattle.row.specs.Row.{Row, Stepped};
+
+// The size of the block at p, with what a walk relies on.
+pub fn step(s: &[u8], p: usize) -> usize
+    requires { ⌜ Row (drop p (now s)) × (p < length (now s)) ⌝ }
+    ensures { λ r. ⌜ Stepped (now (s .entry)) p r ⌝ }
+{
+    zone_check::size_at(s, p)
+}

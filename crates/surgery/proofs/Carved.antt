@@ -1,0 +1,163 @@
+-- A block carved out of a free block, in a zone.
+use mathlib.Core.Path.{_≡_, refl, sym, ap, ap₂, _∙_, subst}
+use mathlib.Core.List.{List, [], _∷_, _++_, map}
+use mathlib.Core.Bool.{Bool, true, false, cond}
+use Prim.Native.Nat.{ℕ, zero, suc, _+_, _*_, _-_, _/_, _%_, _<_, _≤_}
+use native.Mathlib.Nat.{zero-add, add-zero}
+use native.Mathlib.Omega.{arith}
+use native.Mathlib.Decide.{ℕ-discrete}
+use lib.Dec.{eqb}
+use borrow.Author.Tests.{eqb-true, eqb-false, eq-eqb, ne-eqb}
+use lib.ListN.{length, getD, take, drop, length-append, replicate, length-replicate}
+use lib.Seq.{drop-drop, drop-at, take-at}
+use Rattle.bigendian.specs.BigEndian.{toBE, slice, overwrite, Bytes}
+use Rattle.format.proofs.Count.{one, occurs, offsets, one-same, one-other}
+use Rattle.structure.specs.Structure.{Block, free, fixed, reloc, Structure, size, sizes, encodeBlock, count, start, len, headOf, placeOf, nextOf, value, join, encode}
+use Rattle.structure.proofs.Valid.{handlesOf, Tiled, Valid}
+use Rattle.structure.proofs.Round.{next-none, offset-is, rest-is}
+use Rattle.row.specs.Row.{bytesOf, Sound}
+use Rattle.row.proofs.Laws.{bytes-append, bytes-long, sound-left, sound-right}
+use Rattle.find_bay.specs.Spots.{gapOf}
+use Rattle.compact_bay.proofs.Squeeze.{gap-sound, gap-sizes}
+use Rattle.surgery.proofs.Image.{img, encode-img, upd, img-chain, img-master, img-rest}
+use Rattle.surgery.proofs.Sound.{handle-in, handle-once, valid-sound, lastFree, tiled-left, tiled-right, tiled-join, tiled-false}
+use Rattle.surgery.proofs.Replace.{replaced, replaced-valid, place-same, place-mid}
+
+-- the splitBlocks that take the place of a free block of n bytes
+abbrev pub carvedFrom : ℕ → ℕ → ℕ → List Block
+carvedFrom need h n = reloc h (replicate (need - 4) 0) ∷ gapOf (n - need)
+
+-- the writes: the splitBlocks, the chain's head, the master
+abbrev pub carvedBytes : List ℕ → ℕ → ℕ → ℕ → ℕ → ℕ → List ℕ
+carvedBytes z need h next at n = overwrite (overwrite (overwrite z at (bytesOf (carvedFrom need h n))) 12 (toBE 2 next)) h (toBE 4 (at + 4))
+
+-- the bytes of a stretch of a zone
+pub part-bytes : (s : Structure) → Valid s → (pre mid post : List Block) → s .blocks ≡ pre ++ (mid ++ post) → slice (encode s) (start s + sizes pre) (sizes mid) ≡ bytesOf mid
+part-bytes s v pre mid post e =
+    let so : Sound (pre ++ (mid ++ post)) = subst Sound e (valid-sound s v) in
+    let j : bytesOf (s .blocks) ≡ bytesOf pre ++ (bytesOf mid ++ bytesOf post) =
+    ap (λ (b : List Block). bytesOf b) e ∙ bytes-append pre (mid ++ post) ∙ ap (λ (x : List ℕ). bytesOf pre ++ x) (bytes-append mid post) in
+    let d : drop (start s + sizes pre) (encode s) ≡ bytesOf mid ++ bytesOf post =
+    sym (drop-drop (sizes pre) (start s) (encode s)) ∙ ap (drop (sizes pre)) (rest-is s v ∙ j) ∙ drop-at (bytesOf pre) _ (sizes pre) (bytes-long pre (sound-left pre (mid ++ post) so)) in
+    ap (take (sizes mid)) d ∙ take-at (bytesOf mid) (bytesOf post) (sizes mid) (bytes-long mid (sound-left mid post (sound-right pre (mid ++ post) so)))
+
+zeros-bytes : (n : ℕ) → Bytes (replicate n 0)
+zeros-bytes zero i = omega arith
+zeros-bytes (suc n) zero = omega arith
+zeros-bytes (suc n) (suc i) = zeros-bytes n i
+
+gap-tiled : (n : ℕ) (post : List Block) → n % 4 ≡ 0 → n ≤ 1048576 → Tiled true post → Tiled false (gapOf n ++ post)
+gap-tiled n post q l t = go (eqb n 0) refl
+  where
+    go : (x : Bool) → eqb n 0 ≡ x → Tiled false (cond x [] (free n ∷ []) ++ post)
+    go true e = tiled-false true post t
+    go false e = (refl, (let ne = eqb-false n 0 e in omega arith), q, l, t)
+
+gap-none : (n k : ℕ) → occurs k (handlesOf (gapOf n)) ≡ 0
+unfolding handlesOf occurs
+gap-none n k = go (eqb n 0)
+  where
+    go : (t : Bool) → occurs k (handlesOf (cond t [] (free n ∷ []))) ≡ 0
+    go true = refl
+    go false = refl
+
+gap-length : (n : ℕ) → length (handlesOf (gapOf n)) ≡ 0
+unfolding handlesOf
+gap-length n = go (eqb n 0)
+  where
+    go : (t : Bool) → length (handlesOf (cond t [] (free n ∷ []))) ≡ 0
+    go true = refl
+    go false = refl
+
+module _ (s : Structure) (v : Valid s) (pre post : List Block) (need h n : ℕ) (ks : List ℕ) (e : s .blocks ≡ pre ++ ((free n ∷ []) ++ post)) (el : s .links ≡ h ∷ ks)
+    (low : 4 ≤ need) (fit : need ≤ n) (four : need % 4 ≡ 0) (high : need ≤ 32764) where
+  abbrev new : List Block
+  new = carvedFrom need h n
+
+  abbrev o : ℕ
+  o = start s + sizes pre
+
+  abbrev s′ : Structure
+  s′ = record { links = ks; blocks = pre ++ (new ++ post) }
+
+  here : Tiled (lastFree false pre) (free n ∷ post)
+  here = tiled-right false pre (free n ∷ post) (subst (Tiled false) e (v .tiled))
+
+  in-chain : occurs h (s .links) ≡ suc (occurs h ks)
+  unfolding occurs
+  in-chain = ap (occurs h) el ∙ omega (arith, one-same h h refl)
+
+  pub is-master : 0 < occurs h (offsets 16 (count s))
+  is-master = omega (arith, v .owned h, in-chain)
+
+  long-new : length (replicate {A = ℕ} (need - 4) 0) ≡ need - 4
+  long-new = length-replicate {A = ℕ} (need - 4) 0
+
+  so : Sound new
+  so = ((omega (arith, long-new), omega (arith, long-new), (let q = offset-is h 16 (count s) is-master in omega (arith, q .1, v .few))), gap-sound (n - need) (omega (arith, here .2)) (omega (arith, here .3)))
+
+  sz : sizes new ≡ sizes (free n ∷ [])
+  unfolding sizes
+  sz = omega (arith, long-new, gap-sizes (n - need))
+
+  ct : length (handlesOf new) + length ks ≡ length (handlesOf (free n ∷ [])) + length (s .links)
+  unfolding handlesOf
+  ct = omega (arith, gap-length (n - need), ap length el)
+
+  old-none : (k : ℕ) → occurs k (handlesOf (free n ∷ [])) ≡ 0
+  unfolding handlesOf occurs
+  old-none k = refl
+
+  new-is : (k : ℕ) → occurs k (handlesOf new) ≡ one k h
+  unfolding handlesOf occurs
+  new-is k = omega (arith, gap-none (n - need) k)
+
+  place-new : placeOf h o new ≡ o + 4
+  unfolding placeOf
+  place-new = rw (eq-eqb h h refl)
+
+  next-other : (k : ℕ) → (k ≡ h → ⊥) → nextOf k (s .links) ≡ nextOf k ks
+  unfolding nextOf
+  next-other k ne = ap (nextOf k) el ∙ (rw (ne-eqb k h ne))
+
+  once-pre : occurs h (handlesOf pre) ≡ 0
+  unfolding handlesOf occurs
+  once-pre = omega (arith, handle-once s v h, in-chain, ap (λ (b : List Block). occurs h (handlesOf b)) e, occ pre)
+    where
+      occ : (a : List Block) → occurs h (handlesOf a) ≤ occurs h (handlesOf (a ++ (free n ∷ post)))
+      occ [] = omega arith
+      occ (free k ∷ a) = occ a
+      occ (fixed d ∷ a) = occ a
+      occ (reloc k d ∷ a) = omega (arith, occ a)
+
+  holds : (k : ℕ) → upd (value s) h (o + 4) k ≡ value s′ k
+  holds k = go (ℕ-discrete k h)
+    where
+      go : Dec (k ≡ h) → upd (value s) h (o + 4) k ≡ value s′ k
+      go (yes p) =
+          let a : value s′ h ≡ o + 4 =
+          ap₂ (λ (a b : ℕ). a + b) (place-mid s v pre (free n ∷ []) new post ks e sz so ct h once-pre (omega (arith, new-is h, one-same h h refl)) ∙ place-new)
+          (next-none h ks (omega (arith, handle-once s v h, in-chain))) ∙ add-zero (o + 4) in
+          rw (eq-eqb k h p) (sym a ∙ ap (value s′) (sym p))
+      go (no p) =
+          rw (ne-eqb k h p)
+          (ap₂ (λ (a b : ℕ). a + b) (sym (place-same s v pre (free n ∷ []) new post ks e sz so ct k (old-none k) (new-is k ∙ one-other k h p))) (next-other k p))
+
+  pub carved : carvedBytes (encode s) need h (headOf ks) o n ≡ encode s′
+  carved =
+      let l = len s in let f = start s in let m = count s in let c = headOf (s .links) in
+      let r = bytesOf (s .blocks) in
+      let r′ = overwrite r (sizes pre) (bytesOf new) in
+      ap (λ (x : List ℕ). overwrite (overwrite (overwrite x o (bytesOf new)) 12 (toBE 2 (headOf ks))) h (toBE 4 (o + 4))) (encode-img s)
+      ∙ ap (λ (x : List ℕ). overwrite (overwrite x 12 (toBE 2 (headOf ks))) h (toBE 4 (o + 4))) (img-rest l f m c (sizes pre) o (value s) r (bytesOf new) refl)
+      ∙ ap (λ (x : List ℕ). overwrite x h (toBE 4 (o + 4))) (img-chain l f m c (headOf ks) (value s) r′)
+      ∙ img-master l f m (headOf ks) h (o + 4) (value s) r′ is-master
+      ∙ replaced s v pre (free n ∷ []) new post ks e sz so ct (upd (value s) h (o + 4)) (λ k p. holds k)
+
+  pub carved-valid : Valid s′
+  unfolding occurs
+  carved-valid =
+      replaced-valid s v pre (free n ∷ []) new post ks e sz so ct
+      (tiled-join false pre (new ++ post) (tiled-left false pre (free n ∷ post) (subst (Tiled false) e (v .tiled)))
+      (omega (arith, long-new), omega (arith, long-new), zeros-bytes (need - 4), gap-tiled (n - need) post (omega (arith, here .2)) (omega (arith, here .3)) (here .4)))
+      (λ k. omega (arith, new-is k, old-none k, ap (occurs k) el))

@@ -1,0 +1,71 @@
+-- Two more uses of the replacement law: splitBlocks without masters, and a block that has grown in a compacted bay.
+use mathlib.Core.Path.{_≡_, refl, sym, ap, ap₂, _∙_, subst}
+use mathlib.Core.List.{List, [], _∷_, _++_, append-nil}
+use mathlib.Core.Bool.{Bool, true, false, cond}
+use Prim.Native.Nat.{ℕ, zero, suc, _+_, _*_, _-_, _%_, _<_, _≤_}
+use native.Mathlib.Omega.{arith}
+use lib.ListN.{length, replicate, length-replicate, length-append}
+use Rattle.bigendian.specs.BigEndian.{toBE, overwrite}
+use Rattle.format.proofs.Count.{occurs, offsets}
+use Rattle.structure.specs.Structure.{Block, free, fixed, reloc, Structure, size, sizes, count, start, len, headOf, placeOf, nextOf, value, encode}
+use Rattle.structure.proofs.Valid.{handlesOf, Tiled, Valid}
+use Rattle.row.specs.Row.{bytesOf, Sound}
+use Rattle.row.proofs.Laws.{sound-append, sound-left, sound-right}
+use Rattle.find_bay.specs.Spots.{gapOf}
+use Rattle.find_bay.proofs.Numbers.{sizes-append}
+use Rattle.compact_bay.specs.Tidy.{setAll}
+use Rattle.compact_bay.proofs.Squeeze.{handles-append, gap-sizes, gap-sound, gap-handles}
+use Rattle.surgery.proofs.Image.{img, encode-img, img-rest}
+use Rattle.surgery.proofs.Replace.{replaced, replaced-valid, place-same, moved}
+
+-- splitBlocks without masters in the place of such: one overwrite, and nothing else changes
+module _ (s : Structure) (v : Valid s) (pre mid mid′ post : List Block) (e : s .blocks ≡ pre ++ (mid ++ post)) (sz : sizes mid′ ≡ sizes mid) (so : Sound mid′)
+    (h : handlesOf mid ≡ []) (h′ : handlesOf mid′ ≡ []) where
+  abbrev s′ : Structure
+  s′ = record { links = s .links; blocks = pre ++ (mid′ ++ post) }
+
+  ct : length (handlesOf mid′) + length (s .links) ≡ length (handlesOf mid) + length (s .links)
+  ct = rw (h, h′)
+
+  none : (k : ℕ) (b : List Block) → handlesOf b ≡ [] → occurs k (handlesOf b) ≡ 0
+  unfolding occurs
+  none k b x = rw x
+
+  pub plain : overwrite (encode s) (start s + sizes pre) (bytesOf mid′) ≡ encode s′
+  plain =
+      ap (λ (x : List ℕ). overwrite x (start s + sizes pre) (bytesOf mid′)) (encode-img s)
+      ∙ img-rest (len s) (start s) (count s) (headOf (s .links)) (sizes pre) (start s + sizes pre) (value s) (bytesOf (s .blocks)) (bytesOf mid′) refl
+      ∙ replaced s v pre mid mid′ post (s .links) e sz so ct (value s)
+      (λ k p. ap (λ (x : ℕ). x + nextOf k (s .links)) (sym (place-same s v pre mid mid′ post (s .links) e sz so ct k (none k mid h) (none k mid′ h′))))
+
+  pub plain-valid : Tiled false (pre ++ (mid′ ++ post)) → Valid s′
+  plain-valid t = replaced-valid s v pre mid mid′ post (s .links) e sz so ct t (λ k. rw (h, h′))
+
+-- a fixed block of need bytes at the high end of a free block of n
+pub fixed-placed : (s : Structure) → Valid s → (pre post : List Block) (n need : ℕ) → s .blocks ≡ pre ++ ((free n ∷ []) ++ post) → need ≤ n → 4 ≤ need → need % 4 ≡ 0 → n % 4 ≡ 0 → n ≤ 1048576 → need ≤ 32764
+    → overwrite (encode s) (start s + sizes pre) (bytesOf (gapOf (n - need) ++ fixed (replicate (need - 2) 0) ∷ [])) ≡ encode (record { links = s .links; blocks = pre ++ ((gapOf (n - need) ++ fixed (replicate (need - 2) 0) ∷ []) ++ post) })
+unfolding sizes handlesOf
+fixed-placed s v pre post n need e fit low four fn lim high =
+    let l = length-replicate {A = ℕ} (need - 2) 0 in
+    plain s v pre (free n ∷ []) (gapOf (n - need) ++ fixed (replicate (need - 2) 0) ∷ []) post e
+    (omega (arith, sizes-append (gapOf (n - need)) (fixed (replicate (need - 2) 0) ∷ []), gap-sizes (n - need)))
+    (sound-append (gapOf (n - need)) (fixed (replicate (need - 2) 0) ∷ []) (gap-sound (n - need) (omega arith) (omega arith)) ((omega arith, omega arith), tt))
+    refl
+    (handles-append (gapOf (n - need)) (fixed (replicate (need - 2) 0) ∷ []) ∙ ap (λ (x : List ℕ). x ++ []) (gap-handles (n - need)))
+
+-- in a compacted bay, the block of handle h with `more` zero bytes at its end, what stands behind it slid up, the rest free
+pub grown : (s : Structure) → Valid s → (pre a b post : List Block) (h n more : ℕ) (d : List ℕ) → s .blocks ≡ pre ++ ((a ++ (reloc h d ∷ (b ++ gapOf n))) ++ post)
+    → more ≤ n → Sound (a ++ (reloc h (d ++ replicate more 0) ∷ (b ++ gapOf (n - more))))
+    → setAll (start s + sizes pre) (a ++ (reloc h (d ++ replicate more 0) ∷ (b ++ gapOf (n - more)))) (overwrite (encode s) (start s + sizes pre) (bytesOf (a ++ (reloc h (d ++ replicate more 0) ∷ (b ++ gapOf (n - more))))))
+    ≡ encode (record { links = s .links; blocks = pre ++ ((a ++ (reloc h (d ++ replicate more 0) ∷ (b ++ gapOf (n - more)))) ++ post) })
+unfolding sizes handlesOf
+grown s v pre a b post h n more d e fit so =
+    let old = a ++ (reloc h d ∷ (b ++ gapOf n)) in
+    let new = a ++ (reloc h (d ++ replicate more 0) ∷ (b ++ gapOf (n - more))) in
+    let ld : length (d ++ replicate more 0) ≡ length d + more = length-append d (replicate more 0) ∙ ap (λ (x : ℕ). length d + x) (length-replicate {A = ℕ} more 0) in
+    let sz : sizes new ≡ sizes old =
+    omega (arith, ld, sizes-append a (reloc h (d ++ replicate more 0) ∷ (b ++ gapOf (n - more))), sizes-append a (reloc h d ∷ (b ++ gapOf n)), sizes-append b (gapOf n), sizes-append b (gapOf (n - more)), gap-sizes n, gap-sizes (n - more)) in
+    let hb : (k : ℕ) → handlesOf (b ++ gapOf k) ≡ handlesOf b = λ k. handles-append b (gapOf k) ∙ ap (λ (x : List ℕ). handlesOf b ++ x) (gap-handles k) ∙ append-nil (handlesOf b) in
+    let hs : handlesOf new ≡ handlesOf old =
+    handles-append a (reloc h (d ++ replicate more 0) ∷ (b ++ gapOf (n - more))) ∙ ap (λ (x : List ℕ). handlesOf a ++ h ∷ x) (hb (n - more) ∙ sym (hb n)) ∙ sym (handles-append a (reloc h d ∷ (b ++ gapOf n))) in
+    moved s v pre old new post (s .links) e sz so hs refl

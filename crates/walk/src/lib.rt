@@ -1,0 +1,57 @@
+// Walks from block to block of a well-formed zone, with answers about its structure.
+ghost use mathlib.Core.Path.{_≡_};
+ghost use Prim.Native.Nat.{_+_, _<_, _≤_};
+ghost use lib.ListN.{length};
+ghost use Rattle.walk.specs.Walker.{blocksAt, Edge, Seen, lowOf, freeAt, freeTotal};
+
+// The size of the block at p, with what a walk relies on.
+pub fn step(z: &[u8], first: usize, p: usize) -> usize
+    requires { ⌜ (Edge (now z) first p) × (p < length (now z)) ⌝ }
+    ensures { λ r. ⌜ Seen (now (z .entry)) first p r ⌝ }
+{
+    zone_check::size_at(z, p)
+}
+
+// The start of the free block that ends at t, or t where the block that ends there is not free or there is none.
+pub fn low(z: &[u8], first: usize, t: usize) -> usize
+    requires { ⌜ (Edge (now z) first first) × (first ≤ length (now z)) ⌝ }
+    ensures { λ r. ⌜ r ≡ lowOf t first (blocksAt (now (z .entry)) first) ⌝ }
+{
+    let mut p = first;
+    while p < z.len() {
+        let n = step(z, first, p);
+        if p + n == t {
+            if zone_check::is_free(z, p) {
+                return p;
+            }
+            return t;
+        }
+        p += n;
+    }
+    t
+}
+
+fn free_size(z: &[u8], p: usize, n: usize) -> usize
+    requires { ⌜ p < length (now z) ⌝ }
+    ensures { λ r. ⌜ (r ≡ freeAt (now (z .entry)) p n) × (r ≤ n) ⌝ }
+{
+    if zone_check::is_free(z, p) {
+        return n;
+    }
+    0
+}
+
+// The total size of the free splitBlocks.
+pub fn free_total(z: &[u8], first: usize) -> usize
+    requires { ⌜ (Edge (now z) first first) × (first ≤ length (now z)) ⌝ }
+    ensures { λ r. ⌜ r ≡ freeTotal (blocksAt (now (z .entry)) first) ⌝ }
+{
+    let mut p = first;
+    let mut acc = 0;
+    while p < z.len() {
+        let n = step(z, first, p);
+        acc += free_size(z, p, n);
+        p += n;
+    }
+    acc
+}
