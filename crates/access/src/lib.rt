@@ -12,7 +12,7 @@ pub fn place(z: &[u8], h: usize) -> usize
     ensures { λ r. ⌜ r ≡ placeIn (now (z .entry)) h ⌝ }
 {
     let first = bigendian::get4(z, 4) as usize;
-    if zone_check::is_master(first, h) {
+    if block_check::is_master(first, h) {
         let v = bigendian::get4(z, h) as usize;
         if first <= v {
             return v;
@@ -40,5 +40,5 @@ pub fn data_size(z: &[u8], h: usize) -> usize
     if at == 0 {
         return 0;
     }
-    zone_check::size_at(z, at - 4) - 4
+    block_check::size_at(z, at - 4) - 4
 }

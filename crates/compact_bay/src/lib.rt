@@ -13,7 +13,7 @@ fn keep(s: &mut [u8], to: usize, at: usize, n: usize) -> usize
     requires { ⌜ (at < length (now s)) × (to ≤ at) × (to % 4 ≡ 0) × Row (drop at (now s)) × Stepped (now s) at n ⌝ }
     ensures { λ r. ⌜ Kept (now (s .entry)) to at n (now (s .exit)) r ⌝ }
 {
-    if zone_check::type_at(s, at) == 0 {
+    if block_check::type_at(s, at) == 0 {
         return to;
     }
     memory::slide_down(s, to, at, n);
@@ -60,7 +60,7 @@ fn handle_at(z: &[u8], to: usize, at: usize, n: usize) -> usize
     requires { ⌜ (at < to) × (to ≤ length (now z)) × IsLow at (blocksOf (drop at (take to (now z)))) × Stepped (take to (now z)) at n ⌝ }
     ensures { λ r. ⌜ Owner (now (z .entry)) to at n r ⌝ }
 {
-    if zone_check::type_at(z, at) == 2 {
+    if block_check::type_at(z, at) == 2 {
         return bigendian::get2(z, at + 2) as usize;
     }
     0

@@ -34,7 +34,7 @@ pub fn find_bay(z: &[u8], first: usize, need: usize) -> Bay
     let mut sum = 0;
     while at < z.len() {
         let n = row::step(z, at);
-        let k = zone_check::type_at(z, at);
+        let k = block_check::type_at(z, at);
         let f = free_part(k, n);
         if k == 1 {
             if need <= sum {
@@ -82,7 +82,7 @@ pub fn find_hole(s: &[u8], need: usize) -> Hole
     let mut at = 0;
     while at < s.len() {
         let n = row::step(s, at);
-        let k = zone_check::type_at(s, at);
+        let k = block_check::type_at(s, at);
         if (k == 0) & (need <= n) {
             return Hole {
                 found: true,

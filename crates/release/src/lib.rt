@@ -51,7 +51,7 @@ pub fn find_extent(z: &[u8], h: usize, first: usize, at: usize, n: usize) -> Ext
         return Extent { from, to: end };
     }
     let k = walk::step(z, first, end);
-    if zone_check::is_free(z, end) {
+    if block_check::is_free(z, end) {
         return Extent { from, to: end + k };
     }
     Extent { from, to: end }

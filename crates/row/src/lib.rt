@@ -9,5 +9,5 @@ pub fn step(s: &[u8], p: usize) -> usize
     requires { ⌜ Row (drop p (now s)) × (p < length (now s)) ⌝ }
     ensures { λ r. ⌜ Stepped (now (s .entry)) p r ⌝ }
 {
-    zone_check::size_at(s, p)
+    block_check::size_at(s, p)
 }

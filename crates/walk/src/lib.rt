@@ -9,7 +9,7 @@ pub fn step(z: &[u8], first: usize, p: usize) -> usize
     requires { ⌜ (Edge (now z) first p) × (p < length (now z)) ⌝ }
     ensures { λ r. ⌜ Seen (now (z .entry)) first p r ⌝ }
 {
-    zone_check::size_at(z, p)
+    block_check::size_at(z, p)
 }
 
 // The start of the free block that ends at t, or t where the block that ends there is not free or there is none.
@@ -21,7 +21,7 @@ pub fn low(z: &[u8], first: usize, t: usize) -> usize
     while p < z.len() {
         let n = step(z, first, p);
         if p + n == t {
-            if zone_check::is_free(z, p) {
+            if block_check::is_free(z, p) {
                 return p;
             }
             return t;
@@ -35,7 +35,7 @@ fn free_size(z: &[u8], p: usize, n: usize) -> usize
     requires { ⌜ p < length (now z) ⌝ }
     ensures { λ r. ⌜ (r ≡ freeAt (now (z .entry)) p n) × (r ≤ n) ⌝ }
 {
-    if zone_check::is_free(z, p) {
+    if block_check::is_free(z, p) {
         return n;
     }
     0

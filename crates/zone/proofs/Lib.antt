@@ -9,13 +9,13 @@ pub mod Bytes
 pub mod Clean
 pub mod Encoders
 pub mod FixedWalk
-pub mod Flat
 pub mod GroupLaws
 pub mod Grouped
 pub mod Handles
 pub mod InBuffer
 pub mod Keep
 pub mod Matching
+pub mod Outcomes
 pub mod Own
 pub mod Pack
 pub mod Places
@@ -26,8 +26,8 @@ pub mod Rig
 pub mod Run
 pub mod Simulation
 pub mod Sound
-pub mod Space
 pub mod Stands
 pub mod Sums
 pub mod Theorem
 pub mod Walk
+pub mod Shown

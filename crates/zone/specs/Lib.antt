@@ -10,3 +10,4 @@ pub mod RigSheet
 pub mod Roster
 pub mod Walker
 pub mod ZoneBays
+pub mod ReelB

@@ -8,107 +8,6 @@ ghost use Rattle.format.specs.OneWalk.{links, freeRule, relocRule, blockOk, blo
 ghost use Rattle.format.specs.Steps.{Turn, Fields};
 ghost use Rattle.zone_check.specs.Body.{Body};
 
-pub fn is_master(first: usize, h: usize) -> bool
-    requires { ⌜ h < 4294967296 ⌝ }
-    ensures { λ r. ⌜ r ≡ isMaster first h ⌝ }
-{
-    (16 <= h) & (h + 4 <= first) & (h % 4 == 0)
-}
-
-// The type of the block at `at`.
-pub fn type_at(z: &[u8], at: usize) -> u8
-    requires { ⌜ at < length (now z) ⌝ }
-    ensures { λ r. ⌜ r ≡ typeOf (drop at (now (z .entry))) ⌝ }
-{
-    z[at] / 64
-}
-
-// The size of the block at `at`, in bytes.
-pub fn size_at(z: &[u8], at: usize) -> usize
-    requires { ⌜ at + 4 ≤ length (now z) ⌝ }
-    ensures { λ r. ⌜ r ≡ sizeOf (drop at (now (z .entry))) ⌝ }
-{
-    if type_at(z, at) == 0 {
-        return bigendian::get4(z, at) as usize * 2;
-    }
-    (bigendian::get2(z, at) % 16384) as usize * 2
-}
-
-// 1 for a relocatable block, else 0.
-fn reloc_one(z: &[u8], at: usize) -> usize
-    requires { ⌜ at < length (now z) ⌝ }
-    ensures { λ r. ⌜ (r ≡ cond (isReloc (drop at (now (z .entry)))) 1 0) × (r ≤ 1) ⌝ }
-{
-    if type_at(z, at) == 2 {
-        return 1;
-    }
-    0
-}
-
-pub fn is_free(z: &[u8], at: usize) -> bool
-    requires { ⌜ at < length (now z) ⌝ }
-    ensures { λ r. ⌜ r ≡ isFree (drop at (now (z .entry))) ⌝ }
-{
-    type_at(z, at) == 0
-}
-
-fn free_ok(z: &[u8], at: usize, n: usize, prev: bool) -> bool
-    requires { ⌜ (4 ≤ n) × (at + n ≤ length (now z)) × (length (now z) ≤ 1048576) ⌝ }
-    ensures { λ r. ⌜ r ≡ freeRule prev (take n (drop at (now (z .entry)))) ⌝ }
-{
-    if prev {
-        return false;
-    }
-    memory::all_zero(z, at + 4, at + n)
-}
-
-fn reloc_ok(z: &[u8], first: usize, at: usize) -> bool
-    requires { ⌜ (at + 4 ≤ length (now z)) × (first ≤ length (now z)) × (length (now z) ≤ 1048576) ⌝ }
-    ensures { λ r. ⌜ r ≡ relocRule (now (z .entry)) first at (handleOf (drop at (now (z .entry)))) ⌝ }
-{
-    let h = bigendian::get2(z, at + 2) as usize;
-    if is_master(first, h) {
-        return bigendian::get4(z, h) as usize == at + 4;
-    }
-    false
-}
-
-// Whether the block at `at` obeys the rules.
-fn block_ok(z: &[u8], first: usize, prev: bool, at: usize) -> bool
-    requires { ⌜ (at + 4 ≤ length (now z)) × (first ≤ length (now z)) × (length (now z) ≤ 1048576) ⌝ }
-    ensures { λ r. ⌜ r ≡ blockOk (now (z .entry)) first prev at (take (sizeOf (drop at (now (z .entry)))) (drop at (now (z .entry)))) ⌝ }
-{
-    let n = size_at(z, at);
-    if n < 4 {
-        return false;
-    }
-    if n % 4 != 0 {
-        return false;
-    }
-    if z.len() - at < n {
-        return false;
-    }
-    let k = type_at(z, at);
-    if k == 0 {
-        return free_ok(z, at, n, prev);
-    }
-    if k == 1 {
-        return true;
-    }
-    if k == 2 {
-        return reloc_ok(z, first, at);
-    }
-    false
-}
-
-// The size of a block that obeys the rules, with what a walk relies on.
-fn step(z: &[u8], first: usize, prev: bool, at: usize) -> usize
-    requires { ⌜ (at + 4 ≤ length (now z)) × (blockOk (now z) first prev at (take (sizeOf (drop at (now z))) (drop at (now z))) ≡ true) ⌝ }
-    ensures { λ r. ⌜ Turn (now (z .entry)) first prev at r ⌝ }
-{
-    size_at(z, at)
-}
-
 pub struct Tally {
     pub ok: bool,
     pub count: usize,
@@ -123,15 +22,15 @@ fn blocks_ok(z: &[u8], first: usize) -> Tally
     let mut prev = false;
     let mut count = 0;
     while at < z.len() {
-        if !block_ok(z, first, prev, at) {
+        if !block_check::block_ok(z, first, prev, at) {
             return Tally {
                 ok: false,
                 count: 0,
             };
         }
-        let n = step(z, first, prev, at);
-        prev = is_free(z, at);
-        count += reloc_one(z, at);
+        let n = block_check::step(z, first, prev, at);
+        prev = block_check::is_free(z, at);
+        count += block_check::reloc_one(z, at);
         at += n;
     }
     Tally { ok: true, count }
@@ -145,7 +44,7 @@ fn chain_ok(z: &[u8], first: usize, n: usize, head: usize) -> bool
     let mut h = head;
     let mut left = n;
     while 0 < left {
-        if !is_master(first, h) {
+        if !block_check::is_master(first, h) {
             return false;
         }
         h = bigendian::get4(z, h) as usize;

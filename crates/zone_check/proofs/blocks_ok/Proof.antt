@@ -11,7 +11,7 @@ use native.Mathlib.Omega.{arith}
 use lib.ListN.{length, drop}
 use Rattle.format.specs.OneWalk.{blocksOk}
 use Rattle.format.specs.WellFormed.{relocs, splitBlocks}
-use Rattle.zone_check.proofs.Leaves.{tiles-stop, tiles-step, tiles-count, tiles-end, tiles-end-count}
+use Rattle.block_check.proofs.Leaves.{tiles-stop, tiles-step, tiles-count, tiles-end, tiles-end-count}
 use Rattle.zone_check.proofs.blocks_ok.Statement.{statement}
 use Rattle.zone_check.proofs.blocks_ok.Tie as tie
 

@@ -4,7 +4,7 @@ use Prim.Native.Nat.{_+_, _-_, _<_, _≤_}
 use borrow.Author.Needs.{needs}
 use native.Mathlib.Omega.{arith}
 use Rattle.format.specs.OneWalk.{links}
-use Rattle.zone_check.proofs.Leaves.{master-fits, links-step, links-no, links-done}
+use Rattle.block_check.proofs.Leaves.{master-fits, links-step, links-no, links-done}
 use Rattle.zone_check.proofs.chain_ok.Statement.{statement}
 use Rattle.zone_check.proofs.chain_ok.Tie as tie
 

@@ -1,0 +1,27 @@
+-- What calls leave, in their own terms: laws of the definitions beside the equations.
+use mathlib.Core.Path.{_≡_, ap₂, sym, _∙_}
+use mathlib.Core.List.{List, []}
+use Prim.Native.Nat.{ℕ, _+_}
+use native.Mathlib.Omega.{arith}
+use Rattle.calls.specs.Calls.{compact}
+use Rattle.zone.specs.Bays.{Bays, last, more, AllS, mapS}
+use Rattle.zone.specs.Bay.{Item, Cell, total, items, baySize, baySum, gap, packed, compactBay}
+use Rattle.zone.specs.OnBays.{Fixed, step}
+use Rattle.zone.specs.OnBytes.{Zone}
+use Rattle.zone.proofs.BayKinds.{zoneBays}
+use Rattle.zone.proofs.BayLaws.{bsize-split, tidy-size, tidy-items}
+
+-- ---- compact: in every bay the relocatable blocks stand at the start, and one free block, or none, holds the rest
+
+compact-sum : (cs : List Cell) → baySum (compactBay cs) ≡ baySum cs
+compact-sum cs = omega (arith, bsize-split (compactBay cs), bsize-split cs, tidy-size cs, mathlib.Core.Path.ap total (tidy-items cs))
+
+compact-twice : (cs : List Cell) → compactBay (compactBay cs) ≡ compactBay cs
+compact-twice cs = ap₂ (λ (es : List Item) (n : ℕ). packed es (gap n [])) (tidy-items cs) (compact-sum cs)
+
+all-compact : (s : Bays (List Cell) Fixed) → AllS (λ (b : List Cell). compactBay b ≡ b) (mapS compactBay s)
+all-compact (last b) = compact-twice b
+all-compact (more b x s) = (compact-twice b, all-compact s)
+
+pub compact-packs : (z : Zone) → AllS (λ (b : List Cell). compactBay b ≡ b) ((step zoneBays compact z) .next .bays)
+compact-packs z = all-compact (z .bays)
