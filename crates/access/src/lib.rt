@@ -1,4 +1,5 @@
 // Reads and writes of a block's data, over the bytes of a well-formed zone with none beyond its length.
+use block_type::BlockType;
 ghost use mathlib.Core.Path.{_≡_};
 ghost use mathlib.Core.Bool.{true};
 ghost use Prim.Native.Nat.{_+_, _<_, _≤_};
@@ -40,5 +41,5 @@ pub fn data_size(z: &[u8], h: usize) -> usize
     if at == 0 {
         return 0;
     }
-    block_check::size_at(z, at - 4) - 4
+    block_check::size_at(z, at - BlockType::RELOCATABLE_HEADER) - BlockType::RELOCATABLE_HEADER
 }

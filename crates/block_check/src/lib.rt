@@ -1,4 +1,5 @@
 // One block of a zone: its type, its size, and whether it obeys the rules.
+use block_type::BlockType;
 ghost use mathlib.Core.Path.{_≡_};
 ghost use mathlib.Core.Bool.{true, cond};
 ghost use Prim.Native.Nat.{_+_, _<_, _≤_};
@@ -27,7 +28,7 @@ pub fn size_at(z: &[u8], at: usize) -> usize
     requires { ⌜ at + 4 ≤ length (now z) ⌝ }
     ensures { λ r. ⌜ r ≡ sizeOf (drop at (now (z .entry))) ⌝ }
 {
-    if type_at(z, at) == 0 {
+    if type_at(z, at) == BlockType::FREE_CODE {
         return bigendian::get4(z, at) as usize * 2;
     }
     (bigendian::get2(z, at) % 16384) as usize * 2
@@ -38,7 +39,7 @@ pub fn reloc_one(z: &[u8], at: usize) -> usize
     requires { ⌜ at < length (now z) ⌝ }
     ensures { λ r. ⌜ (r ≡ cond (isReloc (drop at (now (z .entry)))) 1 0) × (r ≤ 1) ⌝ }
 {
-    if type_at(z, at) == 2 {
+    if type_at(z, at) == BlockType::RELOCATABLE_CODE {
         return 1;
     }
     0
@@ -48,7 +49,7 @@ pub fn is_free(z: &[u8], at: usize) -> bool
     requires { ⌜ at < length (now z) ⌝ }
     ensures { λ r. ⌜ r ≡ isFree (drop at (now (z .entry))) ⌝ }
 {
-    type_at(z, at) == 0
+    type_at(z, at) == BlockType::FREE_CODE
 }
 
 fn free_ok(z: &[u8], at: usize, n: usize, prev: bool) -> bool
@@ -58,7 +59,7 @@ fn free_ok(z: &[u8], at: usize, n: usize, prev: bool) -> bool
     if prev {
         return false;
     }
-    memory::all_zero(z, at + 4, at + n)
+    memory::all_zero(z, at + BlockType::FREE_HEADER, at + n)
 }
 
 fn reloc_ok(z: &[u8], first: usize, at: usize) -> bool
@@ -67,7 +68,7 @@ fn reloc_ok(z: &[u8], first: usize, at: usize) -> bool
 {
     let h = bigendian::get2(z, at + 2) as usize;
     if is_master(first, h) {
-        return bigendian::get4(z, h) as usize == at + 4;
+        return bigendian::get4(z, h) as usize == at + BlockType::RELOCATABLE_HEADER;
     }
     false
 }
@@ -88,13 +89,13 @@ pub fn block_ok(z: &[u8], first: usize, prev: bool, at: usize) -> bool
         return false;
     }
     let k = type_at(z, at);
-    if k == 0 {
+    if k == BlockType::FREE_CODE {
         return free_ok(z, at, n, prev);
     }
-    if k == 1 {
+    if k == BlockType::FIXED_CODE {
         return true;
     }
-    if k == 2 {
+    if k == BlockType::RELOCATABLE_CODE {
         return reloc_ok(z, first, at);
     }
     false

@@ -1,4 +1,5 @@
 // Compacts a bay: its used splitBlocks go to its start in old order, one free block holds the rest, masters follow.
+use block_type::BlockType;
 ghost use mathlib.Core.Path.{_≡_};
 ghost use mathlib.Core.List.{_++_};
 ghost use Prim.Native.Nat.{_+_, _-_, _%_, _<_, _≤_};
@@ -13,7 +14,7 @@ fn keep(s: &mut [u8], to: usize, at: usize, n: usize) -> usize
     requires { ⌜ (at < length (now s)) × (to ≤ at) × (to % 4 ≡ 0) × Row (drop at (now s)) × Stepped (now s) at n ⌝ }
     ensures { λ r. ⌜ Kept (now (s .entry)) to at n (now (s .exit)) r ⌝ }
 {
-    if block_check::type_at(s, at) == 0 {
+    if block_check::type_at(s, at) == BlockType::FREE_CODE {
         return to;
     }
     memory::slide_down(s, to, at, n);
@@ -60,7 +61,7 @@ fn handle_at(z: &[u8], to: usize, at: usize, n: usize) -> usize
     requires { ⌜ (at < to) × (to ≤ length (now z)) × IsLow at (blocksOf (drop at (take to (now z)))) × Stepped (take to (now z)) at n ⌝ }
     ensures { λ r. ⌜ Owner (now (z .entry)) to at n r ⌝ }
 {
-    if block_check::type_at(z, at) == 2 {
+    if block_check::type_at(z, at) == BlockType::RELOCATABLE_CODE {
         return bigendian::get2(z, at + 2) as usize;
     }
     0
@@ -76,7 +77,7 @@ fn turn(z: &mut [u8], to: usize, at: usize) -> usize
     if h == 0 {
         return n;
     }
-    bigendian::put4(z, h, (at + 4) as u32);
+    bigendian::put4(z, h, (at + BlockType::RELOCATABLE_HEADER) as u32);
     n
 }
 

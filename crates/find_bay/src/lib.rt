@@ -1,4 +1,5 @@
 // Finds a bay, and a hole in it.
+use block_type::BlockType;
 ghost use mathlib.Core.Path.{_≡_};
 ghost use mathlib.Core.Bool.{cond};
 ghost use Prim.Native.Nat.{_≤_};
@@ -18,7 +19,7 @@ pub struct Bay {
 pub fn free_part(k: u8, n: usize) -> usize
     ensures { λ r. ⌜ (r ≡ cond (eqb k 0) n 0) × (r ≤ n) ⌝ }
 {
-    if k == 0 {
+    if k == BlockType::FREE_CODE {
         return n;
     }
     0
@@ -36,7 +37,7 @@ pub fn find_bay(z: &[u8], first: usize, need: usize) -> Bay
         let n = row::step(z, at);
         let k = block_check::type_at(z, at);
         let f = free_part(k, n);
-        if k == 1 {
+        if k == BlockType::FIXED_CODE {
             if need <= sum {
                 return Bay {
                     found: true,
@@ -83,7 +84,7 @@ pub fn find_hole(s: &[u8], need: usize) -> Hole
     while at < s.len() {
         let n = row::step(s, at);
         let k = block_check::type_at(s, at);
-        if (k == 0) & (need <= n) {
+        if (k == BlockType::FREE_CODE) & (need <= n) {
             return Hole {
                 found: true,
                 at,

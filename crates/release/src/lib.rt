@@ -1,4 +1,5 @@
 // Frees a block: the writes.
+use block_type::BlockType;
 ghost use mathlib.Core.Path.{_≡_};
 ghost use Prim.Native.Nat.{_+_, _-_, _<_, _≤_};
 ghost use lib.ListN.{length};
@@ -14,7 +15,7 @@ pub fn blank(z: &mut [u8], from: usize, to: usize)
     ensures { λ _. ⌜ now (z .exit) ≡ overwrite (now (z .entry)) from (encodeBlock (free (to - from))) ⌝ }
 {
     bigendian::put4(z, from, ((to - from) / 2) as u32);
-    memory::fill_zero(z, from + 4, to);
+    memory::fill_zero(z, from + BlockType::FREE_HEADER, to);
 }
 
 // Master h becomes the chain's head, with `head` behind it.
@@ -45,7 +46,7 @@ pub fn find_extent(z: &[u8], h: usize, first: usize, at: usize, n: usize) -> Ext
     requires { ⌜ (IsZone (now z)) × (first ≡ firstField (now z)) × (at ≡ placeIn (now z) h) × (at ≡ 0 → ⊥) × (n ≡ length (dataIn (now z) h)) ⌝ }
     ensures { λ r. ⌜ SpanIn (now (z .entry)) h (r .from) (r .to) ⌝ }
 {
-    let from = walk::low(z, first, at - 4);
+    let from = walk::low(z, first, at - BlockType::RELOCATABLE_HEADER);
     let end = at + n;
     if z.len() <= end {
         return Extent { from, to: end };

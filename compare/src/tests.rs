@@ -1,0 +1,881 @@
+//! Tests of the zone: the rig sheet to the byte, zone-run's example, every
+//! state that small zones reach, long random lists, zones built at random and
+//! broken buffers. Two models answer beside it: the structured one (`model`)
+//! for every byte, and the ledger (`ledger`) for every answer of a list.
+
+#![allow(dead_code)]
+
+mod calls;
+mod ledger;
+mod lines;
+mod model;
+mod random;
+mod records;
+mod rules;
+mod zone;
+
+use calls::{ask_zone, Call, Reply};
+use ledger::Ledger;
+use model::{ask_model, Item, Picture};
+use random::Random;
+use std::collections::HashSet;
+use zone::{Name, Stretch};
+
+// ---------------------------------------------------------------- rig sheet
+
+fn fresh() -> Vec<u8> {
+    let mut zone = vec![0xEE; 64];
+    assert_eq!(zone::initialize(&mut zone, 64, 4), Ok(()));
+    zone
+}
+
+/// Bytes from hexadecimal text, filled up with zeros.
+fn bytes(text: &str, length: usize) -> Vec<u8> {
+    let digits: Vec<u8> =
+        text.chars().filter(|c| !c.is_whitespace()).map(|c| c.to_digit(16).unwrap() as u8).collect();
+    let mut all: Vec<u8> = digits.chunks(2).map(|pair| pair[0] << 4 | pair[1]).collect();
+    all.resize(length, 0);
+    all
+}
+
+fn write_all(zone: &mut [u8], block: Name, data: &[u8]) {
+    let stretch = Stretch { block, offset: 0, count: data.len() as u32 };
+    assert_eq!(zone::write(zone, stretch, data), Ok(()));
+}
+
+fn master(zone: &[u8], handle: usize) -> u32 {
+    u32::from_be_bytes(zone[handle..handle + 4].try_into().unwrap())
+}
+
+fn refusal<T: Default>(answer: zone::Answer<T>) -> u32 {
+    zone::numbers(answer).0
+}
+
+const R1: &str = "00000040 00000020 00000004 00100000 00000014 00000018 0000001C 00000000 00000010";
+
+#[test]
+fn r1_fresh() {
+    assert_eq!(fresh(), bytes(R1, 64));
+}
+
+fn after_r2() -> Vec<u8> {
+    let mut zone = fresh();
+    assert_eq!(zone::allocate_relocatable(&mut zone, 6), Ok(16));
+    zone
+}
+
+#[test]
+fn r2_relocatable() {
+    let zone = after_r2();
+    assert_eq!(master(&zone, 16), 36);
+    assert_eq!(zone::size(&zone, Name::Handle(16)), Ok(8));
+    let expected = "00000040 00000020 00000004 00140000 00000024 00000018 0000001C 00000000
+        80060010 00000000 00000000 0000000A";
+    assert_eq!(zone, bytes(expected, 64));
+}
+
+/// Up to the third allocation of R3, with bytes in handle 20.
+fn after_r3() -> Vec<u8> {
+    let mut zone = after_r2();
+    write_all(&mut zone, Name::Handle(16), b"shortone");
+    assert_eq!(zone::allocate_relocatable(&mut zone, 8), Ok(20));
+    assert_eq!(master(&zone, 20), 48);
+    write_all(&mut zone, Name::Handle(20), b"basisrec");
+    assert_eq!(zone::free_handle(&mut zone, 16), Ok(()));
+    assert_eq!(zone::sum(&zone), Ok((20, 20)));
+    let census = zone::census(&zone).unwrap();
+    assert_eq!((census[2], census.iter().sum()), (2, 2u32), "pieces of 12 and 8 bytes");
+    assert_eq!(zone::allocate_relocatable(&mut zone, 13), Ok(16));
+    zone
+}
+
+#[test]
+fn r3_slide() {
+    let zone = after_r3();
+    let expected = "00000040 00000020 00000004 00180000 00000030 00000024 0000001C 00000000
+        80060014 62617369 73726563 800A0010";
+    assert_eq!(zone, bytes(expected, 64));
+    assert_eq!(zone::size(&zone, Name::Handle(16)), Ok(16));
+}
+
+#[test]
+fn r4_no_space_then_resize() {
+    let mut zone = after_r3();
+    let before = zone.clone();
+    assert_eq!(refusal(zone::allocate_relocatable(&mut zone, 0)), 5);
+    assert_eq!(zone, before);
+    assert_eq!(zone::resize(&mut zone, 20, 4), Ok(()));
+    assert_eq!(zone::allocate_relocatable(&mut zone, 0), Ok(24));
+    assert_eq!(zone::size(&zone, Name::Handle(24)), Ok(0));
+    let expected = "00000040 00000020 00000004 001C0000 00000030 00000024 0000002C 00000000
+        80040014 62617369 80020018 800A0010";
+    assert_eq!(zone, bytes(expected, 64));
+}
+
+#[test]
+fn r5_fixed() {
+    let mut zone = fresh();
+    assert_eq!(zone::allocate_fixed(&mut zone, 5), Ok(58));
+    assert_eq!(zone::size(&zone, Name::Pointer(58)), Ok(6));
+    let fixed = "40040000 00000000";
+    assert_eq!(zone[56..], bytes(fixed, 8));
+    let before = zone.clone();
+    assert_eq!(refusal(zone::allocate_relocatable(&mut zone, 21)), 5);
+    assert_eq!(zone, before);
+    assert_eq!(zone::allocate_relocatable(&mut zone, 20), Ok(16));
+    let mut expected = bytes(
+        "00000040 00000020 00000004 00140000 00000024 00000018 0000001C 00000000 800C0010",
+        56,
+    );
+    expected.extend(bytes(fixed, 8));
+    assert_eq!(zone, expected);
+}
+
+#[test]
+fn r6_bays() {
+    let mut zone = fresh();
+    let pointers = [0, 10, 0].map(|c| zone::allocate_fixed(&mut zone, c).unwrap());
+    assert_eq!(pointers, [62, 50, 46]);
+    assert_eq!(zone::free_pointer(&mut zone, 50), Ok(()));
+    assert_eq!(zone::sum(&zone), Ok((24, 12)));
+    let before = zone.clone();
+    assert_eq!(refusal(zone::allocate_relocatable(&mut zone, 9)), 5);
+    assert_eq!(zone, before);
+    assert_eq!(zone::allocate_relocatable(&mut zone, 8), Ok(16));
+    assert_eq!(zone::allocate_relocatable(&mut zone, 8), Ok(20));
+    let expected = "00000040 00000020 00000004 00180000 00000024 00000034 0000001C 00000000
+        80060010 00000000 00000000 40020000 80060014 00000000 00000000 40020000";
+    assert_eq!(zone, bytes(expected, 64));
+}
+
+#[test]
+fn r7_shrink_and_r8_shrink_all() {
+    let mut zone = fresh();
+    assert_eq!(zone::shrink(&mut zone, 10), Ok(8));
+    let expected = "00000038 00000020 00000004 00100000 00000014 00000018 0000001C 00000000 0000000C";
+    assert_eq!(zone, bytes(expected, 64));
+    let mut zone = fresh();
+    assert_eq!(zone::shrink(&mut zone, 1_000), Ok(32));
+    let expected = "00000020 00000020 00000004 00100000 00000014 00000018 0000001C 00000000";
+    assert_eq!(zone, bytes(expected, 64));
+}
+
+#[test]
+fn r9_and_r10_refusals() {
+    let mut zone = fresh();
+    assert_eq!(refusal(zone::enlarge(&mut zone, 3)), 9);
+    assert_eq!(refusal(zone::allocate_relocatable(&mut zone, 32_761)), 3);
+    assert_eq!(zone, fresh());
+}
+
+// ---------------------------------------------------------------- zone-run
+
+fn record(code: u8, a: u32, b: u32, d: u32) -> Vec<u8> {
+    let mut record = vec![code, 0, 0, 0];
+    record.extend([a, b, d].into_iter().flat_map(u32::to_be_bytes));
+    record
+}
+
+fn zone_run(list: &[u8]) -> String {
+    let mut buffer = vec![0; records::BUFFER];
+    let mut output = Vec::new();
+    lines::run(list, &mut output, |one| records::carry_out(&mut buffer, one)).unwrap();
+    String::from_utf8(output).unwrap()
+}
+
+#[test]
+fn zone_run_example() {
+    let list = [record(0, 64, 4, 9), record(1, 6, 9, 9), record(2, 0, 9, 9), record(3, 20, 9, 9)];
+    assert_eq!(zone_run(&list.concat()), "0 0\n0 16\n0 62\n6 0\n");
+}
+
+#[test]
+fn zone_run_codes() {
+    let mut list = Vec::new();
+    let mut expected = String::new();
+    let mut add = |bytes: Vec<u8>, line: &str| {
+        list.extend(bytes);
+        expected.push_str(line);
+        expected.push('\n');
+    };
+    for code in 1..=10 {
+        add(record(code, 16, 0, 0), "1 0");
+    }
+    add(record(0, 66, 4, 0), "2 0");
+    add(record(8, 0, 0, 0), "1 0");
+    add(record(0, 64, 4, 0), "0 0");
+    add(record(1, 6, 0, 0), "0 16");
+    add(record(6, 16, 7, 0x1234_56AB), "0 0");
+    add(record(7, 16, 7, 0), "0 171");
+    add(record(7, 16, 8, 0), "8 0");
+    add(record(7, 16, 0xFFFF_FFFF, 0), "8 0");
+    add(record(7, 65_552, 0, 0), "6 0");
+    add(record(0, 64, 0x4000_0000, 0), "2 0");
+    add(record(11, 0, 0, 0), "skip");
+    add([vec![3, 0, 0, 1], vec![0, 0, 0, 16], vec![0; 8]].concat(), "skip");
+    add(record(7, 16, 7, 0), "0 171");
+    add(record(9, 8, 0, 0), "0 0");
+    add(record(9, 65_472, 0, 0), "9 0");
+    add(record(10, 11, 0, 0), "0 8");
+    add(record(8, 0, 0, 0), "0 20");
+    add(record(4, 62, 0, 0), "7 0");
+    add(record(2, 32_763, 0, 0), "3 0");
+    add(record(5, 16, 28, 0), "0 0");
+    add(record(5, 16, 29, 0), "5 0");
+    add(record(5, 20, 40_000, 0), "6 0");
+    add(record(5, 16, 40_000, 0), "3 0");
+    add(record(3, 16, 0, 0), "0 0");
+    add(record(0, 16, 0, 0), "0 0");
+    add(record(1, 32_760, 0, 0), "4 0");
+    add(vec![1, 0, 0], "");
+    expected.pop();
+    assert_eq!(zone_run(&list), expected);
+}
+
+// ------------------------------------------------------- single statements
+
+#[test]
+fn order_of_refusals() {
+    let mut zone = fresh();
+    assert_eq!(refusal(zone::resize(&mut zone, 16, 40_000)), 6);
+    assert_eq!(zone::allocate_relocatable(&mut zone, 28), Ok(16));
+    assert_eq!(refusal(zone::resize(&mut zone, 16, 32_761)), 3);
+    let past = Stretch { block: Name::Handle(16), offset: 28, count: 1 };
+    assert_eq!(refusal(zone::read(&zone, past, &mut [])), 8);
+    let at_end = Stretch { count: 0, ..past };
+    assert_eq!(refusal(zone::read(&zone, at_end, &mut [])), 0);
+    let whole = Stretch { offset: 0, count: 28, ..past };
+    assert_eq!(refusal(zone::read(&zone, whole, &mut [7; 27])), 10);
+    assert_eq!(refusal(zone::roster(&zone, &mut [7; 7])), 10);
+    let mut none = vec![0; 16];
+    assert_eq!(zone::initialize(&mut none, 16, 0), Ok(()));
+    assert_eq!(refusal(zone::allocate_relocatable(&mut none, 32_761)), 3);
+    assert_eq!(refusal(zone::allocate_relocatable(&mut none, 32_760)), 4);
+    assert_eq!(refusal(zone::allocate_fixed(&mut none, 32_762)), 5);
+}
+
+#[test]
+fn freed_masters_come_back_last_first() {
+    let mut zone = fresh();
+    for handle in [16, 20, 24] {
+        assert_eq!(zone::allocate_relocatable(&mut zone, 0), Ok(handle));
+    }
+    assert_eq!(zone::free_handle(&mut zone, 16), Ok(()));
+    assert_eq!(zone::free_handle(&mut zone, 20), Ok(()));
+    assert_eq!(zone::allocate_relocatable(&mut zone, 0), Ok(20));
+    assert_eq!(zone::allocate_relocatable(&mut zone, 0), Ok(16));
+    assert_eq!(zone::allocate_relocatable(&mut zone, 0), Ok(28));
+}
+
+#[test]
+fn largest_zone_and_largest_blocks() {
+    let mut zone = vec![0xEE; 1_048_580];
+    assert_eq!(refusal(zone::initialize(&mut zone, 1_048_580, 0)), 2);
+    assert_eq!(refusal(zone::initialize(&mut zone, 1_048_576, 8_189)), 2);
+    assert_eq!(zone::initialize(&mut zone, 1_048_576, 0), Ok(()));
+    assert_eq!(zone::census(&zone).unwrap()[18], 1);
+    assert_eq!(zone::initialize(&mut zone, 1_048_576, 8_188), Ok(()));
+    assert_eq!(zone::allocate_relocatable(&mut zone, 32_760), Ok(16));
+    assert_eq!(zone::size(&zone, Name::Handle(16)), Ok(32_760));
+    assert_eq!(zone::allocate_fixed(&mut zone, 32_762), Ok(1_048_576 - 32_764 + 2));
+    assert_eq!(zone::size(&zone, Name::Pointer(1_015_814)), Ok(32_762));
+    assert_eq!(refusal(zone::enlarge(&mut zone, 4)), 9);
+    assert_eq!(zone::shrink(&mut zone, u32::MAX), Ok(0));
+    assert_eq!(rules::broken_rule(&zone), None);
+    assert_eq!(zone[1_048_576..], [0xEE; 4]);
+}
+
+/// A fresh zone of any length and m, within the limits or not.
+fn fresh_picture(length: usize, m: u32) -> Vec<u8> {
+    let chain = (0..m).map(|i| 16 + 4 * i).collect();
+    let free = length - 16 - 4 * m as usize;
+    let items = if free > 0 { vec![Item::Free(free)] } else { vec![] };
+    Picture { length, m: m as usize, chain, items }.encode()
+}
+
+#[test]
+fn limits_of_the_check() {
+    for (length, m, good) in [
+        (16, 0, true),
+        (1_048_576, 0, true),
+        (1_048_580, 0, false),
+        (16 + 4 * 8_188, 8_188, true),
+        (16 + 4 * 8_189, 8_189, false),
+        (65_536, 8_188, true),
+        (65_536, 8_189, false),
+    ] {
+        let zone = fresh_picture(length, m);
+        assert_eq!(zone::check(&zone), (good, 0), "L = {length}, m = {m}");
+        assert_eq!(zone::check(&zone[..length - 1]), (false, 0));
+        assert_eq!(rules::check(&zone), (good, 0), "L = {length}, m = {m}");
+    }
+}
+
+#[test]
+fn a_view_is_that_part_of_the_zone() {
+    let mut zone = after_r2();
+    write_all(&mut zone, Name::Handle(16), b"shortone");
+    let stretch = Stretch { block: Name::Handle(16), offset: 2, count: 5 };
+    let part = zone::view(&zone, stretch);
+    assert_eq!(part, b"orton");
+    assert_eq!(part.as_ptr() as usize - zone.as_ptr() as usize, 38);
+    assert_eq!(zone::view(&zone, Stretch { offset: 4, ..stretch }), b"");
+    assert_eq!(zone::view(&[], stretch), b"");
+}
+
+#[test]
+fn a_walker_goes_round_the_blocks() {
+    let mut zone = after_r2();
+    assert_eq!(zone::allocate_fixed(&mut zone, 5), Ok(58));
+    let mut walker = zone::Walker::start(&zone).unwrap();
+    let mut seen = Vec::new();
+    for _ in 0..5 {
+        let step = walker.advance(&zone).unwrap();
+        seen.push((step.kind, step.offset, step.size));
+    }
+    assert_eq!(seen, [(2, 32, 12), (0, 44, 12), (1, 56, 8), (0, 0, 0), (0, 0, 0)]);
+    assert_eq!(walker.offset, 64);
+}
+
+// --------------------------------------------- comparing with the two models
+
+/// One call: the zone against the model in every byte of both buffers, the
+/// rules one by one, and against the ledger if there is one.
+fn compare(buffer: &mut Vec<u8>, call: &Call, second: &[u8], ledger: Option<&mut Ledger>) -> Reply {
+    let before = buffer.clone();
+    let mut after_model = buffer.clone();
+    let (mut of_zone, mut of_model) = (second.to_vec(), second.to_vec());
+    let reply = ask_zone(buffer, call, &mut of_zone);
+    let wanted = ask_model(&mut after_model, call, &mut of_model);
+    let story = || format!("{call:?}\nsecond {second:02X?}\nbefore {before:02X?}\nafter  {buffer:02X?}\nwanted {after_model:02X?}");
+    assert_eq!(reply, wanted, "answer to {}", story());
+    assert!(*buffer == after_model, "bytes after {}", story());
+    assert_eq!(of_zone, of_model, "second buffer after {}", story());
+    if reply.refusal.unwrap_or(0) != 0 {
+        assert!(*buffer == before && of_zone == second, "refused {}", story());
+        assert_refused_values(call, &reply);
+    }
+    assert_eq!(zone::check(buffer), rules::check(buffer), "check after {}", story());
+    if zone::check(&before).0 {
+        assert_eq!(rules::broken_rule(buffer), None, "rules after {}", story());
+    }
+    if let Some(ledger) = ledger {
+        let mut of_ledger = second.to_vec();
+        let known = ledger.ask(call, &mut of_ledger);
+        assert_eq!(reply, known, "the ledger's answer to {}", story());
+        assert_eq!(of_zone, of_ledger, "the ledger's second buffer after {}", story());
+        assert!(ledger.stands_in(buffer), "the ledger's bytes after {}", story());
+    }
+    reply
+}
+
+/// "A call with several answers gives 0 for each when refused"; a refused step
+/// stays where it is.
+fn assert_refused_values(call: &Call, reply: &Reply) {
+    match *call {
+        Call::WalkerStep(offset) => assert_eq!(reply.values, [0, 0, 0, offset]),
+        _ => assert!(reply.values.iter().all(|&value| value == 0), "{call:?} {reply:?}"),
+    }
+}
+
+const CALLS: usize = 19;
+
+/// A call with numbers about the zone's own: live and dead handles and
+/// pointers, sizes at the edges of the sums, and anything at all.
+fn a_call(random: &mut Random, buffer: &[u8], weights: &[u32; CALLS]) -> (Call, Vec<u8>) {
+    let picture = rules::check(buffer).0.then(|| Picture::decode(buffer));
+    let mut about = About::of(picture.as_ref(), buffer.len());
+    let call = match random.weighted(weights) {
+        0 => Call::Relocatable(about.size(random)),
+        1 => Call::Fixed(about.size(random)),
+        2 => Call::FreeHandle(about.handle(random)),
+        3 => Call::FreePointer(about.pointer(random)),
+        4 => Call::Resize(about.handle(random), about.size(random)),
+        5 => Call::Size(about.name(random)),
+        6 => Call::Read(about.stretch(random)),
+        7 => Call::Write(about.stretch(random)),
+        8 => Call::View(about.stretch(random)),
+        9 => Call::Compact,
+        10 => Call::Sum,
+        11 => Call::Check,
+        12 => Call::Length,
+        13 => Call::Enlarge(about.amount(random)),
+        14 => Call::Shrink(about.amount(random)),
+        15 => Call::Roster,
+        16 => Call::Census,
+        17 => Call::WalkerStart,
+        _ => Call::WalkerStep(about.offset(random)),
+    };
+    let mut second: Vec<u8> = (0..about.second(random, &call)).map(|_| random.any() as u8).collect();
+    if random.once_in(20) {
+        second.clear();
+    }
+    (call, second)
+}
+
+const EDGES: [u32; 20] = [
+    0, 1, 2, 3, 4, 5, 8, 12, 16, 20, 32_759, 32_760, 32_761, 32_762, 32_763, 65_536, 65_552,
+    0x4000_0000, 0xFFFF_FFFC, 0xFFFF_FFFF,
+];
+
+/// What a well-formed zone holds, for choosing numbers.
+#[derive(Default)]
+struct About {
+    handles: Vec<u32>,
+    pointers: Vec<u32>,
+    starts: Vec<u32>,
+    free: Vec<u32>,
+    data: Vec<u32>,
+    masters: u32,
+    length: u32,
+    room: u32,
+}
+
+impl About {
+    fn of(picture: Option<&Picture>, room: usize) -> About {
+        let mut about = About { room: room as u32, ..About::default() };
+        let Some(picture) = picture else { return about };
+        about.masters = picture.m as u32;
+        about.length = picture.length as u32;
+        let mut at = 16 + 4 * about.masters;
+        for item in &picture.items {
+            about.starts.push(at);
+            at += match item {
+                Item::Free(size) => {
+                    about.free.push(*size as u32);
+                    *size as u32
+                }
+                Item::Fixed(data) => {
+                    about.pointers.push(at + 2);
+                    about.data.push(data.len() as u32);
+                    2 + data.len() as u32
+                }
+                Item::Relocatable(handle, data) => {
+                    about.handles.push(*handle);
+                    about.data.push(data.len() as u32);
+                    4 + data.len() as u32
+                }
+            };
+        }
+        about
+    }
+
+    fn handle(&self, random: &mut Random) -> u32 {
+        match random.below(20) {
+            0 => random.pick(&EDGES),
+            1 => random.below(16 + 4 * self.masters + 4),
+            2 => 16 + 4 * random.below(self.masters + 1),
+            3 => random.pick_or(&self.handles, 16) + random.pick(&[1, 2, 65_536]),
+            4 => random.pick_or(&self.pointers, 16),
+            _ => random.pick_or(&self.handles, 16),
+        }
+    }
+
+    fn pointer(&self, random: &mut Random) -> u32 {
+        match random.below(16) {
+            0 => random.pick(&EDGES),
+            1 => random.below(self.length + 4),
+            2 => random.pick_or(&self.starts, 16) + 2,
+            3 => random.pick_or(&self.pointers, 16) + random.pick(&[1, 2, 65_536]),
+            _ => random.pick_or(&self.pointers, 62),
+        }
+    }
+
+    fn name(&self, random: &mut Random) -> Name {
+        if random.once_in(3) {
+            Name::Pointer(self.pointer(random))
+        } else {
+            Name::Handle(self.handle(random))
+        }
+    }
+
+    /// Data bytes: small ones, those of free blocks and their sums, edges.
+    fn size(&self, random: &mut Random) -> u32 {
+        let total: u32 = self.free.iter().sum();
+        let some = random.pick_or(&self.free, 0) + random.pick_or(&self.free, 0);
+        match random.below(24) {
+            0 => random.pick(&EDGES),
+            1 => random.any(),
+            2 | 3 => total.saturating_sub(random.below(9)),
+            4..=6 => some.saturating_sub(random.below(9)),
+            7..=9 => random.pick_or(&self.free, 0).saturating_sub(random.below(9)),
+            10..=12 => random.pick_or(&self.data, 0) + random.below(9),
+            13 | 14 => random.pick_or(&self.data, 0) + random.pick_or(&self.free, 0) + random.below(5),
+            15 => random.below(total + 1),
+            _ => random.below(20),
+        }
+    }
+
+    fn stretch(&self, random: &mut Random) -> Stretch {
+        let size = random.pick_or(&self.data, 0);
+        let offset = match random.below(10) {
+            0 => random.pick(&EDGES),
+            1 => size,
+            2..=4 => 0,
+            _ => random.below(size + 1),
+        };
+        let count = match random.below(10) {
+            0 => random.pick(&EDGES),
+            1 => (0xFFFF_FFFF - offset).wrapping_add(random.below(2)),
+            2..=6 => size.saturating_sub(offset),
+            _ => random.below(size + 2),
+        };
+        Stretch { block: self.name(random), offset, count }
+    }
+
+    /// Bytes for enlarge and shrink.
+    fn amount(&self, random: &mut Random) -> u32 {
+        match random.below(8) {
+            0 => random.pick(&EDGES),
+            1 => random.any(),
+            2 => self.room.wrapping_sub(self.length).wrapping_add(4 * random.below(2)),
+            3 => random.pick_or(&self.free, 0) + random.below(6),
+            4 => random.below(40),
+            _ => 4 * random.below(6),
+        }
+    }
+
+    fn offset(&self, random: &mut Random) -> u32 {
+        match random.below(8) {
+            0 => random.pick(&EDGES),
+            1 => random.below(self.length + 8),
+            2 => self.length,
+            _ => random.pick_or(&self.starts, 16),
+        }
+    }
+
+    /// The second buffer's length: about what the call needs, or any.
+    fn second(&mut self, random: &mut Random, call: &Call) -> u32 {
+        let need = match call {
+            Call::Read(stretch) | Call::Write(stretch) => stretch.count.min(40_000),
+            Call::Roster => 8 * self.handles.len() as u32,
+            _ => 0,
+        };
+        match random.below(8) {
+            0 => need.saturating_sub(1),
+            1 => need + random.below(9),
+            2 => random.below(64),
+            _ => need,
+        }
+    }
+}
+
+/// How often each call is chosen, in the order of `a_call`.
+const WEIGHTS: [[u32; CALLS]; 4] = [
+    [20, 9, 12, 7, 14, 2, 3, 14, 2, 2, 1, 1, 1, 4, 4, 2, 1, 1, 2],
+    [30, 6, 6, 4, 30, 1, 1, 20, 1, 1, 1, 1, 1, 2, 2, 1, 1, 1, 1],
+    [10, 30, 8, 20, 12, 1, 1, 10, 1, 1, 1, 1, 1, 3, 3, 1, 1, 1, 1],
+    [16, 8, 8, 6, 12, 1, 2, 10, 1, 1, 1, 1, 1, 16, 16, 1, 1, 1, 1],
+];
+
+/// Counts of accepted calls (0) and of each refusal.
+type Tally = [u64; 11];
+
+fn count(tally: &mut Tally, reply: &Reply) {
+    if let Some(refusal) = reply.refusal {
+        tally[refusal as usize] += 1;
+    }
+}
+
+/// One list from an accepted initialize, against both models.
+fn one_list(random: &mut Random, words: u32, steps: u32, tally: &mut Tally) {
+    let length = 4 * words;
+    let room = (words - 4).min(8_188);
+    let m = match random.below(6) {
+        0 => 0,
+        1 => room,
+        2 => random.below(room + 1),
+        _ => random.between(1, 6).min(room),
+    };
+    let beyond = random.below(3) * random.below(60);
+    let mut buffer: Vec<u8> = (0..length + beyond).map(|_| random.any() as u8).collect();
+    let reply = compare(&mut buffer, &Call::Initialize(length, m), &[], None);
+    assert_eq!(reply.refusal, Some(0));
+    let mut ledger = Ledger::new(buffer.len(), length, m);
+    let weights = random.pick(&WEIGHTS);
+    for _ in 0..steps {
+        let (call, second) = a_call(random, &buffer, &weights);
+        let beside = Ledger::knows(&call).then_some(&mut ledger);
+        let reply = compare(&mut buffer, &call, &second, beside);
+        count(tally, &reply);
+    }
+}
+
+fn many_lists(name: &str, seed: u64, lists: u32, steps: u32, words: impl Fn(&mut Random) -> u32) {
+    let mut random = Random::new(seed);
+    let mut tally = Tally::default();
+    for _ in 0..lists {
+        let words = words(&mut random);
+        one_list(&mut random, words, steps, &mut tally);
+    }
+    println!("{name}: {lists} lists of {steps} calls; done and refused 1 to 10: {tally:?}");
+    if lists > 100 {
+        assert!(tally[3..].iter().all(|&times| times > 0), "a refusal was never reached");
+    }
+}
+
+#[test]
+fn lists_on_small_zones() {
+    many_lists("small zones", 1, 3_000, 150, |random| random.between(4, 40));
+}
+
+#[test]
+fn lists_on_middle_zones() {
+    many_lists("middle zones", 2, 400, 400, |random| random.between(40, 600));
+}
+
+#[test]
+fn lists_on_large_zones() {
+    many_lists("large zones", 3, 8, 300, |random| random.between(5_000, 40_000));
+}
+
+#[test]
+fn lists_on_the_largest_zone() {
+    many_lists("largest zones", 4, 2, 150, |_| 262_144);
+}
+
+// ------------------------------------------------------- zones at random
+
+/// A well-formed zone with any arrangement of blocks, any order of handles and
+/// chain, and any data bytes.
+fn a_zone(random: &mut Random, most: u32) -> Vec<u8> {
+    let m = random.pick(&[0, 1, 2, 3, 5, 8, 20]);
+    let mut handles: Vec<u32> = (0..m).map(|i| 16 + 4 * i).collect();
+    for i in (1..handles.len()).rev() {
+        handles.swap(i, random.below(i as u32 + 1) as usize);
+    }
+    let longest = random.pick(&[1, 3, 8]);
+    let mut items: Vec<Item> = Vec::new();
+    for _ in 0..random.below(most + 1) {
+        let words = random.below(longest) as usize;
+        let mut noise = |count: usize| (0..count).map(|_| random.any() as u8).collect::<Vec<u8>>();
+        let data = noise(4 * words);
+        match random.below(7) {
+            0..=2 if !matches!(items.last(), Some(Item::Free(_))) => {
+                items.push(Item::Free(4 * words + 4));
+            }
+            3 => items.push(Item::Fixed(vec![data, vec![0xA5, 0x5A]].concat())),
+            _ => {
+                if let Some(handle) = handles.pop() {
+                    items.push(Item::Relocatable(handle, data));
+                }
+            }
+        }
+    }
+    let sizes = items.iter().map(|item| match item {
+        Item::Free(size) => *size,
+        Item::Fixed(data) => 2 + data.len(),
+        Item::Relocatable(_, data) => 4 + data.len(),
+    });
+    let length = 16 + 4 * m as usize + sizes.sum::<usize>();
+    let mut buffer = Picture { length, m: m as usize, chain: handles, items }.encode();
+    buffer.extend((0..random.below(2) * random.below(30)).map(|_| random.any() as u8));
+    buffer
+}
+
+#[test]
+fn one_call_on_zones_at_random() {
+    let mut random = Random::new(5);
+    let mut tally = Tally::default();
+    for _ in 0..150_000 {
+        let mut buffer = a_zone(&mut random, 14);
+        assert_eq!(rules::broken_rule(&buffer), None);
+        let weights = random.pick(&WEIGHTS);
+        let (call, second) = a_call(&mut random, &buffer, &weights);
+        let reply = compare(&mut buffer, &call, &second, None);
+        count(&mut tally, &reply);
+    }
+    println!("zones at random: done and refused 1 to 10: {tally:?}");
+}
+
+#[test]
+fn initialize_over_anything() {
+    let mut random = Random::new(6);
+    let mut tally = Tally::default();
+    for _ in 0..60_000 {
+        let room = random.below(120);
+        let mut buffer: Vec<u8> = (0..room).map(|_| random.any() as u8).collect();
+        let length = match random.below(6) {
+            0 => random.pick(&EDGES),
+            1 => room + random.below(5),
+            _ => 4 * random.below(room / 4 + 2),
+        };
+        let m = match random.below(6) {
+            0 => random.pick(&[8_188, 8_189, 0x4000_0000, 0x4000_0001, 0xFFFF_FFFF]),
+            1 => (length.saturating_sub(16) / 4).wrapping_add(random.below(2)),
+            _ => random.below(8),
+        };
+        let reply = compare(&mut buffer, &Call::Initialize(length, m), &[], None);
+        count(&mut tally, &reply);
+    }
+    println!("initialize: done and refused 1 to 10: {tally:?}");
+    assert!(tally[0] > 0 && tally[2] > 0);
+}
+
+// ----------------------------------------------------------- broken buffers
+
+/// Changes a few bytes or numbers; the zone may or may not stay well-formed.
+fn damage(random: &mut Random, buffer: &mut Vec<u8>) {
+    for _ in 0..random.pick(&[1, 1, 1, 2, 3]) {
+        if buffer.len() < 20 {
+            return;
+        }
+        let length = buffer.len() as u32;
+        let at = 4 * random.below(length / 4) as usize;
+        match random.below(8) {
+            0 => buffer[random.below(length) as usize] = random.any() as u8,
+            1 => buffer[random.below(length) as usize] ^= 1 << random.below(8),
+            2 => buffer[random.below(16) as usize] = random.below(48) as u8,
+            3 => {
+                let from = 4 * random.below(length / 4) as usize;
+                buffer.copy_within(from..from + 4, at);
+            }
+            4 => buffer.truncate(random.below(length + 1) as usize),
+            5 => buffer[at + 3] = 4 * random.below(20) as u8,
+            6 => buffer[at..at + 4].fill(0),
+            _ => buffer[at + 3] = buffer[at + 3].wrapping_add(random.pick(&[1, 2, 4, 252, 254])),
+        }
+    }
+}
+
+fn every_call(random: &mut Random, buffer: &[u8]) -> Vec<(Call, Vec<u8>)> {
+    (0..CALLS)
+        .map(|which| {
+            let mut weights = [0; CALLS];
+            weights[which] = 1;
+            a_call(random, buffer, &weights)
+        })
+        .collect()
+}
+
+#[test]
+fn damaged_zones() {
+    let mut random = Random::new(7);
+    let (mut yes, mut no) = (0, 0);
+    for _ in 0..150_000 {
+        let mut buffer = a_zone(&mut random, 10);
+        damage(&mut random, &mut buffer);
+        assert_eq!(zone::check(&buffer), rules::check(&buffer), "{buffer:02X?}");
+        let good = zone::check(&buffer).0;
+        *if good { &mut yes } else { &mut no } += 1;
+        if random.once_in(4) {
+            for (call, second) in every_call(&mut random, &buffer) {
+                let reply = compare(&mut buffer.clone(), &call, &second, None);
+                let refused = call == Call::Check || reply.refusal.is_none_or(|number| number == 1);
+                assert!(good || refused, "{call:?} on {buffer:02X?}");
+            }
+        }
+    }
+    println!("damaged zones: {yes} still well-formed, {no} not");
+    assert!(yes > 1_000 && no > 1_000);
+}
+
+#[test]
+fn buffers_of_few_bytes_and_of_noise() {
+    let mut random = Random::new(8);
+    let mut yes = 0;
+    for round in 0..60_000u32 {
+        let length = if round < 64 { round } else { random.below(48) };
+        let mut buffer: Vec<u8> = (0..length).map(|_| random.any() as u8).collect();
+        if round % 2 == 0 && length >= 16 {
+            // a header that may be good, and small numbers behind it
+            let m = random.below(3);
+            let header = [length & !3, 16 + 4 * m, m, random.below(3) * 0x0010_0000];
+            for (i, number) in header.iter().enumerate() {
+                buffer[4 * i..4 * i + 4].copy_from_slice(&number.to_be_bytes());
+            }
+            for byte in &mut buffer[16..] {
+                *byte = random.pick(&[0, 0, 0, 0, 2, 4, 6, 16, 20, 24, 28, 0x40, 0x80]);
+            }
+        }
+        yes += u32::from(zone::check(&buffer).0);
+        for (call, second) in every_call(&mut random, &buffer) {
+            compare(&mut buffer.clone(), &call, &second, None);
+        }
+    }
+    println!("noise: {yes} of 60000 buffers well-formed");
+}
+
+// --------------------------------------------- every state of small zones
+
+/// Every state that calls with small numbers reach from a fresh zone, with
+/// every such call in each of them. After each allocation or growth the
+/// block's data are set by handle and place, so that slides show.
+fn every_state(length: u32, beyond: u32, m: u32, most: usize) -> (usize, u64) {
+    let mut first = vec![0xEE; (length + beyond) as usize];
+    assert_eq!(zone::initialize(&mut first, length, m), Ok(()));
+    let mut known = HashSet::from([first.clone()]);
+    let mut open = vec![first];
+    let mut calls = vec![Call::Compact, Call::Sum, Call::Check, Call::Census, Call::Enlarge(4)];
+    let sizes: Vec<u32> = (0..=length - 16 - 4 * m).step_by(2).collect();
+    for &c in &sizes {
+        calls.extend([Call::Relocatable(c), Call::Fixed(c), Call::Shrink(c)]);
+        calls.extend((0..m).map(|i| Call::Resize(16 + 4 * i, c)));
+    }
+    calls.extend((0..m).map(|i| Call::FreeHandle(16 + 4 * i)));
+    calls.extend((16..length + beyond).step_by(2).map(Call::FreePointer));
+    let mut steps = 0;
+    while let Some(state) = open.pop() {
+        for call in &calls {
+            let mut next = state.clone();
+            compare(&mut next, call, &[], None);
+            steps += 1;
+            paint(&mut next);
+            if next != state && known.len() < most && known.insert(next.clone()) {
+                open.push(next);
+            }
+        }
+    }
+    (known.len(), steps)
+}
+
+/// Sets every block's data by its handle, or by its place if it is fixed.
+fn paint(buffer: &mut [u8]) {
+    let mut picture = Picture::decode(buffer);
+    let mut at = 16 + 4 * picture.m;
+    for item in &mut picture.items {
+        let (seed, data) = match item {
+            Item::Free(size) => {
+                at += *size;
+                continue;
+            }
+            Item::Fixed(data) => (at, data),
+            Item::Relocatable(handle, data) => (*handle as usize, data),
+        };
+        for (i, byte) in data.iter_mut().enumerate() {
+            *byte = (7 * seed + i + 1) as u8;
+        }
+        at += item_size(item);
+    }
+    let bytes = picture.encode();
+    buffer[..bytes.len()].copy_from_slice(&bytes);
+}
+
+fn item_size(item: &Item) -> usize {
+    match item {
+        Item::Free(size) => *size,
+        Item::Fixed(data) => 2 + data.len(),
+        Item::Relocatable(_, data) => 4 + data.len(),
+    }
+}
+
+fn every_state_of(zones: &[(u32, u32, u32)]) {
+    const MOST: usize = 100_000;
+    for &(length, beyond, m) in zones {
+        let (states, steps) = every_state(length, beyond, m, MOST);
+        println!("every state of L = {length} + {beyond}, m = {m}: {states} states, {steps} calls");
+        assert!(states < MOST, "not every state");
+    }
+}
+
+#[test]
+fn every_state_of_small_zones() {
+    every_state_of(&[(16, 8, 0), (32, 4, 0), (36, 4, 1), (44, 0, 2), (48, 0, 3)]);
+}
+
+/// Takes half a minute: run by name, with `--ignored`.
+#[test]
+#[ignore]
+fn every_state_of_larger_zones() {
+    every_state_of(&[(48, 4, 2), (52, 0, 3)]);
+}

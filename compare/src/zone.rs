@@ -1,0 +1,929 @@
+//! The zone of document 01: handles, fixed blocks and bays over one lent
+//! byte buffer.
+//!
+//! Every call but `initialize` and `check` first checks the whole zone and is
+//! refused with 1 unless it is well-formed. After that check every offset read
+//! from the zone lies inside it. All refusals are decided before the first
+//! byte is written, so a refused call changes no byte. Each call takes time
+//! linear in the zone's length L.
+//!
+//! Text in quotation marks is document 01's.
+
+#![forbid(unsafe_code)]
+
+use std::ops::Range;
+
+// ---------------------------------------------------------------- answers
+
+/// The causes of the table 'Refused calls', with its numbers.
+#[derive(Clone, Copy, Debug, PartialEq, Eq)]
+pub enum Refusal {
+    NotWellFormed = 1,
+    BadInitialize = 2,
+    TooLarge = 3,
+    NoFreeMaster = 4,
+    NoSpace = 5,
+    HandleNotLive = 6,
+    PointerNotFixed = 7,
+    PastBlockEnd = 8,
+    BadEnlarge = 9,
+    SecondBufferShort = 10,
+}
+
+/// A call's values, or the one refusal that the order picks.
+pub type Answer<T> = Result<T, Refusal>;
+
+/// The refusal number (0 if done) and the values (0 for each when refused).
+pub fn numbers<T: Default>(answer: Answer<T>) -> (u32, T) {
+    match answer {
+        Ok(values) => (0, values),
+        Err(refusal) => (refusal as u32, T::default()),
+    }
+}
+
+// ------------------------------------------------ numbers, high byte first
+
+#[inline]
+fn get16(bytes: &[u8], at: usize) -> u32 {
+    u32::from(u16::from_be_bytes([bytes[at], bytes[at + 1]]))
+}
+
+#[inline]
+fn get32(bytes: &[u8], at: usize) -> u32 {
+    let b = &bytes[at..at + 4];
+    u32::from_be_bytes([b[0], b[1], b[2], b[3]])
+}
+
+#[inline]
+fn put16(bytes: &mut [u8], at: usize, value: u32) {
+    bytes[at..at + 2].copy_from_slice(&(value as u16).to_be_bytes());
+}
+
+#[inline]
+fn put32(bytes: &mut [u8], at: usize, value: u32) {
+    bytes[at..at + 4].copy_from_slice(&value.to_be_bytes());
+}
+
+/// "up4(k) is the least multiple of 4 not below k."
+#[inline]
+fn up4(k: usize) -> usize {
+    (k + 3) & !3
+}
+
+/// Whether all bytes are zero: by long chunks, which compile to vectors, then
+/// by words of 8 bytes, then by bytes.
+fn all_zero(bytes: &[u8]) -> bool {
+    let mut chunks = bytes.chunks_exact(256);
+    if !chunks.by_ref().all(|chunk| chunk.iter().fold(0, |seen, byte| seen | byte) == 0) {
+        return false;
+    }
+    let mut words = chunks.remainder().chunks_exact(8);
+    words.by_ref().all(|word| word == [0; 8]) && words.remainder().iter().all(|&byte| byte == 0)
+}
+
+// ------------------------------------------------------------------ header
+
+/// "Header, 16 bytes"; "Masters follow, 4 bytes each, at 16 + 4i".
+const HEADER: usize = 16;
+const MASTER: usize = 4;
+
+const AT_LENGTH: usize = 0;
+const AT_FIRST: usize = 4;
+const AT_MASTERS: usize = 8;
+const AT_CHAIN: usize = 12;
+const AT_ZEROS: usize = 14;
+
+/// "at most the buffer's length and 1,048,576"; "m ≤ 8,188".
+pub const LENGTH_LIMIT: usize = 1_048_576;
+pub const MASTERS_LIMIT: usize = 8_188;
+
+/// What the check learns of a well-formed zone.
+#[derive(Clone, Copy)]
+struct Layout {
+    /// L
+    length: usize,
+    /// bkFst
+    first: usize,
+    /// m
+    masters: usize,
+    /// number of relocatable blocks
+    live: usize,
+}
+
+impl Layout {
+    /// Whether the offset is a master's: 16 + 4i for an i below m.
+    #[inline]
+    fn is_master(&self, offset: usize) -> bool {
+        (HEADER..self.first).contains(&offset) && offset % MASTER == 0
+    }
+}
+
+// ------------------------------------------------------------------ blocks
+
+#[derive(Clone, Copy, Debug, PartialEq, Eq)]
+pub enum Kind {
+    Free = 0,
+    Fixed = 1,
+    Relocatable = 2,
+}
+
+/// A block: its type, its first byte's offset, its size with the header.
+#[derive(Clone, Copy, Debug)]
+struct Block {
+    kind: Kind,
+    at: usize,
+    size: usize,
+}
+
+/// "Block header lengths and limits belong to the block type".
+impl Block {
+    const FREE_HEADER: usize = 4;
+    const FIXED_HEADER: usize = 2;
+    const RELOCATABLE_HEADER: usize = 4;
+    const FIXED_DATA_LIMIT: u32 = 32_762;
+    const RELOCATABLE_DATA_LIMIT: u32 = 32_760;
+    const LEAST: usize = 4;
+    /// the type bits of a 2-byte header, and the one type that no block has
+    const FIXED_BITS: u32 = 0x4000;
+    const RELOCATABLE_BITS: u32 = 0x8000;
+    const NO_TYPE: u32 = 3;
+
+    /// The block that starts at `at`; the type 3 is not asked for here.
+    #[inline]
+    fn read(zone: &[u8], at: usize) -> Block {
+        let word = get32(zone, at);
+        let short_size = 2 * (word >> 16 & 0x3FFF) as usize;
+        match word >> 30 {
+            0 => Block { kind: Kind::Free, at, size: 2 * word as usize },
+            1 => Block { kind: Kind::Fixed, at, size: short_size },
+            _ => Block { kind: Kind::Relocatable, at, size: short_size },
+        }
+    }
+
+    #[inline]
+    fn end(&self) -> usize {
+        self.at + self.size
+    }
+
+    fn header(&self) -> usize {
+        match self.kind {
+            Kind::Free => Block::FREE_HEADER,
+            Kind::Fixed => Block::FIXED_HEADER,
+            Kind::Relocatable => Block::RELOCATABLE_HEADER,
+        }
+    }
+
+    /// Offset of the first data byte.
+    #[inline]
+    fn data(&self) -> usize {
+        self.at + self.header()
+    }
+
+    /// "Data size is block size less header".
+    #[inline]
+    fn data_size(&self) -> usize {
+        self.size - self.header()
+    }
+
+    /// The handle in a relocatable block's header.
+    #[inline]
+    fn handle(&self, zone: &[u8]) -> usize {
+        get16(zone, self.at + 2) as usize
+    }
+}
+
+/// "Free: a 4-byte size in 2-byte words"; for size 0 there is no block.
+fn put_free(zone: &mut [u8], at: usize, size: usize) {
+    if size > 0 {
+        put32(zone, at, (size / 2) as u32);
+    }
+}
+
+/// "Fixed: 14-bit size in words".
+fn put_fixed(zone: &mut [u8], at: usize, size: usize) {
+    put16(zone, at, Block::FIXED_BITS | (size / 2) as u32);
+}
+
+/// "Relocatable: the same 14 bits, then the handle (2 bytes)"; its master
+/// "holds the offset of the block's first data byte".
+fn put_relocatable(zone: &mut [u8], at: usize, size: usize, handle: usize) {
+    put16(zone, at, Block::RELOCATABLE_BITS | (size / 2) as u32);
+    put16(zone, at + 2, handle as u32);
+    put32(zone, handle, (at + Block::RELOCATABLE_HEADER) as u32);
+}
+
+// ------------------------------------------------------------- well-formed
+
+/// The rules of 'Well-formed': the header, one pass over the blocks, the chain.
+fn inspect(zone: &[u8]) -> Option<Layout> {
+    let mut layout = inspect_header(zone)?;
+    layout.live = inspect_blocks(zone, &layout)?;
+    let chain = inspect_chain(zone, &layout)?;
+    // "relocatable blocks plus chain length equal m"
+    (layout.live + chain == layout.masters).then_some(layout)
+}
+
+fn inspect_header(zone: &[u8]) -> Option<Layout> {
+    // "the buffer has at least 16 bytes; header bytes 14 and 15 are zero"
+    if zone.len() < HEADER || get16(zone, AT_ZEROS) != 0 {
+        return None;
+    }
+    let length = get32(zone, AT_LENGTH) as usize;
+    let first = get32(zone, AT_FIRST) as usize;
+    let masters = get32(zone, AT_MASTERS) as usize;
+    // "L is a multiple of 4, at most the buffer's length and 1,048,576;
+    // m ≤ 8,188; bkFst as above and ≤ L"
+    let good = length % 4 == 0
+        && length <= zone.len().min(LENGTH_LIMIT)
+        && masters <= MASTERS_LIMIT
+        && first == HEADER + MASTER * masters
+        && first <= length;
+    good.then_some(Layout { length, first, masters, live: 0 })
+}
+
+/// Answers the number of relocatable blocks.
+fn inspect_blocks(zone: &[u8], layout: &Layout) -> Option<usize> {
+    let mut live = 0;
+    let mut after_free = false;
+    let mut at = layout.first;
+    // "blocks tile bkFst to L"
+    while at < layout.length {
+        let block = Block::read(zone, at);
+        // "types are 0 to 2, sizes and the zeros of free blocks as above"
+        if get32(zone, at) >> 30 == Block::NO_TYPE
+            || block.size % 4 != 0
+            || block.size < Block::LEAST
+            || block.size > layout.length - at
+        {
+            return None;
+        }
+        match block.kind {
+            Kind::Free => {
+                // "no two free blocks are neighbours"
+                if after_free || !all_zero(&zone[block.data()..block.end()]) {
+                    return None;
+                }
+            }
+            Kind::Fixed => {}
+            Kind::Relocatable => {
+                // "each relocatable block's handle is a master's offset and
+                // that master holds the block's data offset"
+                let handle = block.handle(zone);
+                if !layout.is_master(handle) || get32(zone, handle) as usize != block.data() {
+                    return None;
+                }
+                live += 1;
+            }
+        }
+        after_free = block.kind == Kind::Free;
+        at = block.end();
+    }
+    Some(live)
+}
+
+/// "the chain from hFstFree visits only masters and ends in 0": its length.
+/// A chain of more than m masters goes round and never ends.
+fn inspect_chain(zone: &[u8], layout: &Layout) -> Option<usize> {
+    let mut steps = 0;
+    let mut master = get16(zone, AT_CHAIN) as usize;
+    while master != 0 {
+        if steps == layout.masters || !layout.is_master(master) {
+            return None;
+        }
+        steps += 1;
+        master = get32(zone, master) as usize;
+    }
+    Some(steps)
+}
+
+/// "zone not well-formed (all calls but initialize and check)": 1.
+fn open(zone: &[u8]) -> Answer<Layout> {
+    inspect(zone).ok_or(Refusal::NotWellFormed)
+}
+
+// -------------------------------------------------------- finding blocks
+
+/// The blocks from an offset to an end, in address order.
+struct Blocks<'z> {
+    zone: &'z [u8],
+    at: usize,
+    end: usize,
+}
+
+impl Iterator for Blocks<'_> {
+    type Item = Block;
+
+    #[inline]
+    fn next(&mut self) -> Option<Block> {
+        if self.at >= self.end {
+            return None;
+        }
+        let block = Block::read(self.zone, self.at);
+        self.at = block.end();
+        Some(block)
+    }
+}
+
+fn blocks(zone: &[u8], range: Range<usize>) -> Blocks<'_> {
+    Blocks { zone, at: range.start, end: range.end }
+}
+
+fn all_blocks<'z>(zone: &'z [u8], layout: &Layout) -> Blocks<'z> {
+    blocks(zone, layout.first..layout.length)
+}
+
+/// A block and where a free stretch would start that takes it in: at its free
+/// left neighbour, or at the block itself.
+struct Found {
+    block: Block,
+    free_from: usize,
+}
+
+/// The block that starts at this very offset.
+fn find_start(zone: &[u8], layout: &Layout, at: usize) -> Option<Found> {
+    let mut free_from = at;
+    for block in all_blocks(zone, layout) {
+        if block.at >= at {
+            return (block.at == at).then_some(Found { block, free_from });
+        }
+        free_from = if block.kind == Kind::Free { block.at } else { at };
+    }
+    None
+}
+
+/// A live handle's block. A free master holds 0 or a master's offset, a live
+/// one an offset beyond the masters.
+fn find_handle(zone: &[u8], layout: &Layout, handle: u32) -> Answer<Block> {
+    let handle = handle as usize;
+    if !layout.is_master(handle) {
+        return Err(Refusal::HandleNotLive);
+    }
+    let data = get32(zone, handle) as usize;
+    if data < layout.first {
+        return Err(Refusal::HandleNotLive);
+    }
+    Ok(Block::read(zone, data - Block::RELOCATABLE_HEADER))
+}
+
+/// The fixed block whose data offset the pointer is.
+fn find_pointer(zone: &[u8], layout: &Layout, pointer: u32) -> Answer<Found> {
+    (pointer as usize)
+        .checked_sub(Block::FIXED_HEADER)
+        .and_then(|at| find_start(zone, layout, at))
+        .filter(|found| found.block.kind == Kind::Fixed)
+        .ok_or(Refusal::PointerNotFixed)
+}
+
+// -------------------------------------------------------------------- bays
+
+/// "A bay is the stretch between two neighbouring fixed blocks, or between
+/// such a block and bkFst or L, or with no fixed block all from bkFst to L".
+#[derive(Clone, Copy)]
+struct Bay {
+    start: usize,
+    end: usize,
+    /// "the total size of its free blocks"
+    sum: usize,
+    /// size of its last block if that is free, else 0
+    last_free: usize,
+}
+
+/// All bays in address order, empty ones included; there is at least one.
+struct Bays<'z> {
+    blocks: Blocks<'z>,
+    start: usize,
+    done: bool,
+}
+
+impl Iterator for Bays<'_> {
+    type Item = Bay;
+
+    fn next(&mut self) -> Option<Bay> {
+        if self.done {
+            return None;
+        }
+        let mut bay = Bay { start: self.start, end: self.blocks.end, sum: 0, last_free: 0 };
+        for block in self.blocks.by_ref() {
+            match block.kind {
+                Kind::Free => {
+                    bay.sum += block.size;
+                    bay.last_free = block.size;
+                }
+                Kind::Relocatable => bay.last_free = 0,
+                Kind::Fixed => {
+                    bay.end = block.at;
+                    self.start = block.end();
+                    return Some(bay);
+                }
+            }
+        }
+        self.done = true;
+        Some(bay)
+    }
+}
+
+fn bays<'z>(zone: &'z [u8], layout: &Layout) -> Bays<'z> {
+    Bays { blocks: all_blocks(zone, layout), start: layout.first, done: false }
+}
+
+/// "To compact a bay: its relocatable blocks go to its start in old order, one
+/// free block holds the rest (none for 0), masters follow." Answers that free
+/// block, of size 0 for none.
+fn compact_bay(zone: &mut [u8], bay: &Bay) -> Block {
+    let mut to = bay.start;
+    let mut live_end = bay.start;
+    let mut at = bay.start;
+    while at < bay.end {
+        let block = Block::read(zone, at);
+        at = block.end();
+        if block.kind == Kind::Relocatable {
+            if to < block.at {
+                let handle = block.handle(zone);
+                zone.copy_within(block.at..block.end(), to);
+                put32(zone, handle, (to + Block::RELOCATABLE_HEADER) as u32);
+            }
+            to += block.size;
+            live_end = at;
+        }
+    }
+    // Old blocks stood up to live_end, and at most one free header after it.
+    zone[to..bay.end.min(live_end + Block::FREE_HEADER)].fill(0);
+    put_free(zone, to, bay.end - to);
+    Block { kind: Kind::Free, at: to, size: bay.end - to }
+}
+
+/// "In it the lowest free block that is big enough, from its low end; if none
+/// is, the bay is compacted first." The bay's sum reaches the need. Answers
+/// where the block goes: its data are zero, and its 4-byte header, which the
+/// caller writes, covers the old free size.
+fn take_low(zone: &mut [u8], bay: &Bay, need: usize) -> usize {
+    let fit = blocks(zone, bay.start..bay.end)
+        .find(|block| block.kind == Kind::Free && block.size >= need);
+    let free = match fit {
+        Some(block) => block,
+        None => compact_bay(zone, bay),
+    };
+    put_free(zone, free.at + need, free.size - need);
+    free.at
+}
+
+/// The bytes from `at` to `end` are given up: they become free, merged with a
+/// free block right after them and with one that starts at `free_from` and
+/// ends at `at` (`free_from` is `at` if there is none).
+fn give_up(zone: &mut [u8], layout: &Layout, free_from: usize, at: usize, end: usize) {
+    let mut free_to = end;
+    if end < layout.length {
+        let next = Block::read(zone, end);
+        if next.kind == Kind::Free {
+            put32(zone, next.at, 0);
+            free_to = next.end();
+        }
+    }
+    zone[at..end].fill(0);
+    put_free(zone, free_from, free_to - free_from);
+}
+
+// ------------------------------------------------------------- initialize
+
+/// "Initialize (length, m): all L bytes are set and no later one; chain
+/// ascending; one free block, or none."
+pub fn initialize(zone: &mut [u8], length: u32, m: u32) -> Answer<()> {
+    // "length not a multiple of 4, below 16 + 4m, above the buffer or
+    // 1,048,576; m above 8,188": m is judged first, so 16 + 4m stays small.
+    let (length, masters) = (length as usize, m as usize);
+    if masters > MASTERS_LIMIT
+        || length % 4 != 0
+        || length < HEADER + MASTER * masters
+        || length > zone.len().min(LENGTH_LIMIT)
+    {
+        return Err(Refusal::BadInitialize);
+    }
+    let first = HEADER + MASTER * masters;
+    zone[..length].fill(0);
+    put32(zone, AT_LENGTH, length as u32);
+    put32(zone, AT_FIRST, first as u32);
+    put32(zone, AT_MASTERS, m);
+    if masters > 0 {
+        put16(zone, AT_CHAIN, HEADER as u32);
+    }
+    for next in (HEADER + MASTER..first).step_by(MASTER) {
+        put32(zone, next - MASTER, next as u32);
+    }
+    put_free(zone, first, length - first);
+    Ok(())
+}
+
+// --------------------------------------------------------------- allocate
+
+/// "Allocate relocatable (c): takes the chain's head. Bay: the lowest whose
+/// sum reaches the need. [...] Answers the handle. Data are zero."
+pub fn allocate_relocatable(zone: &mut [u8], c: u32) -> Answer<u32> {
+    let layout = open(zone)?;
+    if c > Block::RELOCATABLE_DATA_LIMIT {
+        return Err(Refusal::TooLarge);
+    }
+    let handle = get16(zone, AT_CHAIN) as usize;
+    if handle == 0 {
+        return Err(Refusal::NoFreeMaster);
+    }
+    let need = up4(Block::RELOCATABLE_HEADER + c as usize);
+    let bay = lowest_bay(zone, &layout, need)?;
+    let at = take_low(zone, &bay, need);
+    let next = get32(zone, handle);
+    put16(zone, AT_CHAIN, next);
+    put_relocatable(zone, at, need, handle);
+    Ok(handle as u32)
+}
+
+/// "the lowest whose sum reaches the need".
+fn lowest_bay(zone: &[u8], layout: &Layout, need: usize) -> Answer<Bay> {
+    bays(zone, layout).find(|bay| bay.sum >= need).ok_or(Refusal::NoSpace)
+}
+
+/// "Allocate fixed (c): the highest bay whose sum reaches the need. If its
+/// last block is free and big enough, the high end of that; else after
+/// compacting. Answers the data offset, its pointer. Data are zero."
+pub fn allocate_fixed(zone: &mut [u8], c: u32) -> Answer<u32> {
+    let layout = open(zone)?;
+    if c > Block::FIXED_DATA_LIMIT {
+        return Err(Refusal::TooLarge);
+    }
+    let need = up4(Block::FIXED_HEADER + c as usize);
+    let bay = bays(zone, &layout)
+        .filter(|bay| bay.sum >= need)
+        .last()
+        .ok_or(Refusal::NoSpace)?;
+    let free = last_free_block(zone, &bay, need);
+    let at = bay.end - need;
+    put32(zone, free.at, 0);
+    put_free(zone, free.at, free.size - need);
+    put_fixed(zone, at, need);
+    Ok((at + Block::FIXED_HEADER) as u32)
+}
+
+/// The free block at the bay's end with at least `need` bytes: its last block
+/// if that is free and big enough, else the one that compacting leaves.
+fn last_free_block(zone: &mut [u8], bay: &Bay, need: usize) -> Block {
+    if bay.last_free >= need {
+        Block { kind: Kind::Free, at: bay.end - bay.last_free, size: bay.last_free }
+    } else {
+        compact_bay(zone, bay)
+    }
+}
+
+// ------------------------------------------------------------------- free
+
+/// "Free by handle [...]: the block becomes free, merged with free neighbours;
+/// the master goes to the chain's head."
+pub fn free_handle(zone: &mut [u8], handle: u32) -> Answer<()> {
+    let layout = open(zone)?;
+    let block = find_handle(zone, &layout, handle)?;
+    give_up_block(zone, &layout, block);
+    let old_head = get16(zone, AT_CHAIN);
+    put32(zone, handle as usize, old_head);
+    put16(zone, AT_CHAIN, handle);
+    Ok(())
+}
+
+fn give_up_block(zone: &mut [u8], layout: &Layout, block: Block) {
+    let free_from = find_start(zone, layout, block.at).map_or(block.at, |found| found.free_from);
+    give_up(zone, layout, free_from, block.at, block.end());
+}
+
+/// "Free [...] by pointer: the block becomes free, merged with free
+/// neighbours".
+pub fn free_pointer(zone: &mut [u8], pointer: u32) -> Answer<()> {
+    let layout = open(zone)?;
+    let Found { block, free_from } = find_pointer(zone, &layout, pointer)?;
+    give_up(zone, &layout, free_from, block.at, block.end());
+    Ok(())
+}
+
+// ----------------------------------------------------------------- resize
+
+/// "Resize (handle, c): new data size a = up4(c), old b. [...] The handle
+/// stays, the common first bytes stay, added bytes are zero."
+pub fn resize(zone: &mut [u8], handle: u32, c: u32) -> Answer<()> {
+    let layout = open(zone)?;
+    let block = find_handle(zone, &layout, handle)?;
+    if c > Block::RELOCATABLE_DATA_LIMIT {
+        return Err(Refusal::TooLarge);
+    }
+    let size = Block::RELOCATABLE_HEADER + up4(c as usize);
+    let handle = handle as usize;
+    if size <= block.size {
+        cut(zone, &layout, &block, size, handle);
+        return Ok(());
+    }
+    // "if its own bay's sum reaches a − b, it grows there [...] Otherwise it
+    // moves to the lowest bay whose sum reaches 4 + a": the own bay, whose sum
+    // is below a − b, is never that one.
+    let own = bays(zone, &layout).find(|bay| block.at < bay.end).ok_or(Refusal::NoSpace)?;
+    if own.sum >= size - block.size {
+        grow(zone, &own, &block, size, handle);
+    } else {
+        let bay = lowest_bay(zone, &layout, size)?;
+        move_to(zone, &layout, &bay, &block, size, handle);
+    }
+    Ok(())
+}
+
+/// "For a ≤ b the tail is freed and merged."
+fn cut(zone: &mut [u8], layout: &Layout, block: &Block, size: usize, handle: usize) {
+    if size < block.size {
+        put_relocatable(zone, block.at, size, handle);
+        let tail = block.at + size;
+        give_up(zone, layout, tail, tail, block.end());
+    }
+}
+
+/// "it grows there: into the free block right after it if that has at least
+/// a − b bytes, or, failing that, the bay is laid out as compacted with this
+/// block at its new size."
+fn grow(zone: &mut [u8], bay: &Bay, block: &Block, size: usize, handle: usize) {
+    let more = size - block.size;
+    if block.end() < bay.end {
+        let next = Block::read(zone, block.end());
+        if next.kind == Kind::Free && next.size >= more {
+            put32(zone, next.at, 0);
+            put_free(zone, next.at + more, next.size - more);
+            put_relocatable(zone, block.at, size, handle);
+            return;
+        }
+    }
+    // The compacted bay, then the run behind the block goes up by a − b.
+    let free = compact_bay(zone, bay);
+    let at = get32(zone, handle) as usize - Block::RELOCATABLE_HEADER;
+    let end = at + block.size;
+    slide_up(zone, end..free.at, more);
+    zone[end..end + more].fill(0);
+    put_free(zone, free.at + more, free.size - more);
+    put_relocatable(zone, at, size, handle);
+}
+
+/// A run of relocatable blocks goes up, masters follow.
+fn slide_up(zone: &mut [u8], run: Range<usize>, by: usize) {
+    zone.copy_within(run.clone(), run.start + by);
+    let mut at = run.start + by;
+    while at < run.end + by {
+        let block = Block::read(zone, at);
+        let master = block.handle(zone);
+        put32(zone, master, block.data() as u32);
+        at = block.end();
+    }
+}
+
+/// "it moves to the lowest bay whose sum reaches 4 + a, as an allocation does,
+/// and the old place is freed": no compaction of that bay moves the old block,
+/// for a fixed block stands between.
+fn move_to(zone: &mut [u8], layout: &Layout, bay: &Bay, block: &Block, size: usize, handle: usize) {
+    let at = take_low(zone, bay, size);
+    zone.copy_within(block.data()..block.end(), at + Block::RELOCATABLE_HEADER);
+    put_relocatable(zone, at, size, handle);
+    give_up_block(zone, layout, *block);
+}
+
+// ----------------------------------------------- size, read, write, view
+
+/// "a stretch names its block, by handle or by pointer".
+#[derive(Clone, Copy, Debug, PartialEq, Eq)]
+pub enum Name {
+    Handle(u32),
+    Pointer(u32),
+}
+
+/// "with an offset and a count".
+#[derive(Clone, Copy, Debug, PartialEq, Eq)]
+pub struct Stretch {
+    pub block: Name,
+    pub offset: u32,
+    pub count: u32,
+}
+
+fn find_name(zone: &[u8], layout: &Layout, name: Name) -> Answer<Block> {
+    match name {
+        Name::Handle(handle) => find_handle(zone, layout, handle),
+        Name::Pointer(pointer) => find_pointer(zone, layout, pointer).map(|found| found.block),
+    }
+}
+
+/// "Size takes the block alone and answers its data size."
+pub fn size(zone: &[u8], block: Name) -> Answer<u32> {
+    let layout = open(zone)?;
+    Ok(find_name(zone, &layout, block)?.data_size() as u32)
+}
+
+/// The stretch's place in the zone; "offset + count, unwrapped, above data
+/// size" is 8.
+fn place(zone: &[u8], stretch: Stretch) -> Answer<Range<usize>> {
+    let layout = open(zone)?;
+    let block = find_name(zone, &layout, stretch.block)?;
+    if u64::from(stretch.offset) + u64::from(stretch.count) > block.data_size() as u64 {
+        return Err(Refusal::PastBlockEnd);
+    }
+    let start = block.data() + stretch.offset as usize;
+    Ok(start..start + stretch.count as usize)
+}
+
+/// "Read and write copy count bytes to or from the start of a second buffer;
+/// read leaves its later bytes."
+pub fn read(zone: &[u8], stretch: Stretch, second: &mut [u8]) -> Answer<()> {
+    let part = place(zone, stretch)?;
+    let into = second.get_mut(..part.len()).ok_or(Refusal::SecondBufferShort)?;
+    into.copy_from_slice(&zone[part]);
+    Ok(())
+}
+
+pub fn write(zone: &mut [u8], stretch: Stretch, second: &[u8]) -> Answer<()> {
+    let part = place(zone, stretch)?;
+    let from = second.get(..part.len()).ok_or(Refusal::SecondBufferShort)?;
+    zone[part].copy_from_slice(from);
+    Ok(())
+}
+
+/// "A view hands back that part of the zone itself, of length 0 when refused;
+/// it carries no number". A refused one starts at the buffer's first byte.
+pub fn view(zone: &[u8], stretch: Stretch) -> &[u8] {
+    &zone[place(zone, stretch).unwrap_or(0..0)]
+}
+
+// ----------------------------------------------------------- the whole zone
+
+/// "Compact: every bay; answers the largest sum."
+pub fn compact(zone: &mut [u8]) -> Answer<u32> {
+    let layout = open(zone)?;
+    let mut largest = 0;
+    let mut start = layout.first;
+    loop {
+        // The next bay, then past the fixed block that ends it.
+        let rest = Blocks { zone, at: start, end: layout.length };
+        let Some(bay) = (Bays { blocks: rest, start, done: false }).next() else { break };
+        largest = largest.max(bay.sum);
+        if bay.sum > 0 {
+            compact_bay(zone, &bay);
+        }
+        if bay.end == layout.length {
+            break;
+        }
+        start = Block::read(zone, bay.end).end();
+    }
+    Ok(largest as u32)
+}
+
+/// "Sum: total of free bytes and the largest bay's sum."
+pub fn sum(zone: &[u8]) -> Answer<(u32, u32)> {
+    let layout = open(zone)?;
+    let (mut total, mut largest) = (0, 0);
+    for bay in bays(zone, &layout) {
+        total += bay.sum;
+        largest = largest.max(bay.sum);
+    }
+    Ok((total as u32, largest as u32))
+}
+
+/// "Check: yes or no, and the number of relocatable blocks (0 for no)." It is
+/// never refused.
+pub fn check(zone: &[u8]) -> (bool, u32) {
+    match inspect(zone) {
+        Some(layout) => (true, layout.live as u32),
+        None => (false, 0),
+    }
+}
+
+/// "Length: L."
+pub fn length(zone: &[u8]) -> Answer<u32> {
+    Ok(open(zone)?.length as u32)
+}
+
+/// "Enlarge (k): L grows by k, new bytes free, zero and merged with a free
+/// last block."
+pub fn enlarge(zone: &mut [u8], k: u32) -> Answer<()> {
+    let layout = open(zone)?;
+    let old = layout.length;
+    // "k no multiple of 4, or past buffer or 1,048,576"
+    if k % 4 != 0 || k as usize > zone.len().min(LENGTH_LIMIT) - old {
+        return Err(Refusal::BadEnlarge);
+    }
+    if k == 0 {
+        return Ok(());
+    }
+    let new = old + k as usize;
+    let free_from = match all_blocks(zone, &layout).last() {
+        Some(block) if block.kind == Kind::Free => block.at,
+        _ => old,
+    };
+    zone[old..new].fill(0);
+    put_free(zone, free_from, new - free_from);
+    put32(zone, AT_LENGTH, new as u32);
+    Ok(())
+}
+
+/// "Shrink (k): strips s, the lesser of k rounded down to a multiple of 4 and
+/// the last bay's sum; for s = 0 no byte changes; else the last bay is
+/// compacted first, unless its last block is free and has at least s bytes. L
+/// falls by s. Stripped bytes are zeroed; answers s."
+pub fn shrink(zone: &mut [u8], k: u32) -> Answer<u32> {
+    let layout = open(zone)?;
+    let Some(bay) = bays(zone, &layout).last() else { return Ok(0) };
+    let strip = (k as usize & !3).min(bay.sum);
+    if strip == 0 {
+        return Ok(0);
+    }
+    let free = last_free_block(zone, &bay, strip);
+    put32(zone, free.at, 0);
+    put_free(zone, free.at, free.size - strip);
+    put32(zone, AT_LENGTH, (layout.length - strip) as u32);
+    Ok(strip as u32)
+}
+
+/// "Roster: into a second buffer, 8 bytes a live handle (handle, data size; 4
+/// bytes each), no header; answers how many." By rising handle.
+pub fn roster(zone: &[u8], second: &mut [u8]) -> Answer<u32> {
+    let layout = open(zone)?;
+    if second.len() / 8 < layout.live {
+        return Err(Refusal::SecondBufferShort);
+    }
+    let mut at = 0;
+    for handle in (HEADER as u32..layout.first as u32).step_by(MASTER) {
+        if let Ok(block) = find_handle(zone, &layout, handle) {
+            put32(second, at, handle);
+            put32(second, at + 4, block.data_size() as u32);
+            at += 8;
+        }
+    }
+    Ok(layout.live as u32)
+}
+
+// ------------------------------------------------------ census and walker
+
+pub const STRATA: usize = 19;
+
+/// "from a table of lower limits": 2^i words for i from 0 to 18.
+const LOWER_LIMITS: [usize; STRATA] = [
+    1, 2, 4, 8, 16, 32, 64, 128, 256, 512, 1_024, 2_048, 4_096, 8_192, 16_384, 32_768, 65_536,
+    131_072, 262_144,
+];
+
+/// "The census counts free blocks by stratum i, of 2^i to 2^(i+1) − 1 words, i
+/// from 0 to 18"; "it answers all nineteen counts together".
+pub fn census(zone: &[u8]) -> Answer<[u32; STRATA]> {
+    let layout = open(zone)?;
+    let mut counts = [0; STRATA];
+    for block in all_blocks(zone, &layout).filter(|block| block.kind == Kind::Free) {
+        let words = block.size / 2;
+        let above = LOWER_LIMITS.iter().take_while(|&&limit| limit <= words).count();
+        counts[above - 1] += 1;
+    }
+    Ok(counts)
+}
+
+/// "It holds an offset and starts at bkFst."
+#[derive(Clone, Copy, Debug, Default, PartialEq, Eq)]
+pub struct Walker {
+    pub offset: u32,
+}
+
+/// "At a block's start a step answers type, offset and size"; 0 for each
+/// elsewhere.
+#[derive(Clone, Copy, Debug, Default, PartialEq, Eq)]
+pub struct Step {
+    pub kind: u32,
+    pub offset: u32,
+    pub size: u32,
+}
+
+impl Walker {
+    /// A walker at bkFst; a refused one has offset 0, where no block starts.
+    pub fn start(zone: &[u8]) -> Answer<Walker> {
+        Ok(Walker { offset: open(zone)?.first as u32 })
+    }
+
+    /// "gives back its next position [...] the position is then the block's
+    /// end. At any other offset, L included, it answers 0 for each and stays,
+    /// as it does when refused."
+    pub fn step(self, zone: &[u8]) -> (Walker, Answer<Step>) {
+        let layout = match open(zone) {
+            Ok(layout) => layout,
+            Err(refusal) => return (self, Err(refusal)),
+        };
+        match find_start(zone, &layout, self.offset as usize) {
+            None => (self, Ok(Step::default())),
+            Some(Found { block, .. }) => {
+                let next = Walker { offset: block.end() as u32 };
+                let step = Step {
+                    kind: block.kind as u32,
+                    offset: block.at as u32,
+                    size: block.size as u32,
+                };
+                (next, Ok(step))
+            }
+        }
+    }
+
+    /// "one of its calls moves the caller's own walker".
+    pub fn advance(&mut self, zone: &[u8]) -> Answer<Step> {
+        let (next, answer) = self.step(zone);
+        *self = next;
+        answer
+    }
+}
