@@ -1,0 +1,2 @@
+pub mod Alloc
+pub mod Site

@@ -1,0 +1,85 @@
+-- A block that changes its size where it stands, in the flat list of its bay's blocks.
+use mathlib.Core.Path.{_≡_, refl, ap, _∙_}
+use mathlib.Core.Bool.{Bool, true, false, cond}
+use mathlib.Core.Option.{Option, none, some}
+use mathlib.Core.List.{List, [], _∷_, _++_}
+use Prim.Native.Nat.{ℕ, zero, suc, _+_, _-_, _<_, _≤_}
+use native.Mathlib.Omega.{arith}
+use borrow.Author.Tests.{eqb-true}
+use Rattle.format.proofs.Count.{occurs}
+use Rattle.structure.specs.Structure.{Block, free, reloc}
+use Rattle.structure.proofs.Valid.{handlesOf}
+use Rattle.release.specs.Release as Release
+use Rattle.zone.specs.Bays.{over}
+use Rattle.zone.specs.Bay.{Item, is, count, Cell, free as gapCell, held, items, gap, inPlace, growHere}
+use Rattle.bay_spots.proofs.Spots.{blocksIn}
+
+-- n free bytes in front, merged with a free block that follows
+pub gap-merge : (n : ℕ) (cs : List Cell) → 0 < n → blocksIn (gap n cs) ≡ Release.gap n (blocksIn cs)
+unfolding Release.gap
+gap-merge zero cs l = let x : ⊥ = omega arith in absurd x
+gap-merge (suc n) [] l = refl
+gap-merge (suc n) (gapCell k ∷ cs) l = refl
+gap-merge (suc n) (held e ∷ cs) l = refl
+
+-- where the block of handle h stands: pre before it, the cells rest behind it
+pub record Stands (h a : ℕ) (cs : List Cell) : Type 0 where
+  pub pre : List Block
+  pub item : Item
+  pub rest : List Cell
+  pub its : h ≡ item .handle
+  pub parts : blocksIn cs ≡ pre ++ (reloc (item .handle) (item .bytes) ∷ blocksIn rest)
+  pub first : occurs h (handlesOf pre) ≡ 0
+  -- what growing in place leaves
+  pub grows : over blocksIn (growHere h a cs) ≡ over (λ (ds : List Cell). pre ++ blocksIn ds) (inPlace item a rest)
+
+over-front : (b : Block) (f : List Cell → List Cell) → ((ds : List Cell) → blocksIn (f ds) ≡ b ∷ blocksIn ds) → (o p : Option (List Cell)) (pre : List Block)
+    → over blocksIn o ≡ over (λ (ds : List Cell). pre ++ blocksIn ds) p → over blocksIn (over f o) ≡ over (λ (ds : List Cell). (b ∷ pre) ++ blocksIn ds) p
+over-front b f h none none pre e = refl
+over-front b f h none (some q) pre e = let z : _≡_ {A = ℕ} 0 1 = cc in let x : ⊥ = omega arith in absurd x
+over-front b f h (some o) none pre e = let z : _≡_ {A = ℕ} 0 1 = cc in let x : ⊥ = omega arith in absurd x
+over-front b f h (some o) (some q) pre e =
+    let g : blocksIn o ≡ pre ++ blocksIn q = cc in
+    ap some (h o ∙ ap (b ∷_) g)
+
+over-same : (o : Option (List Cell)) → over blocksIn o ≡ over (λ (ds : List Cell). [] ++ blocksIn ds) o
+over-same none = refl
+over-same (some ds) = refl
+
+pub stands : (h a : ℕ) (cs : List Cell) → 1 ≤ count h (items cs) → Stands h a cs
+unfolding occurs handlesOf
+stands h a [] l = let x : ⊥ = omega arith in absurd x
+stands h a (gapCell k ∷ cs) l =
+    let r = stands h a cs l in
+    record {
+      pre = free k ∷ r .pre;
+      item = r .item;
+      rest = r .rest;
+      its = r .its;
+      parts = ap (free k ∷_) (r .parts);
+      first = r .first;
+      grows = over-front (free k) (gapCell k ∷_) (λ ds. refl) (growHere h a cs) (inPlace (r .item) a (r .rest)) (r .pre) (r .grows);
+    }
+stands h a (held e ∷ cs) l = go (is h e) refl l (stands h a cs)
+  where
+    go : (t : Bool) → is h e ≡ t → 1 ≤ cond t (suc (count h (items cs))) (count h (items cs)) → (1 ≤ count h (items cs) → Stands h a cs) → Stands h a (held e ∷ cs)
+    go true q l f = record {
+      pre = [];
+      item = e;
+      rest = cs;
+      its = eqb-true h (e .handle) q;
+      parts = refl;
+      first = refl;
+      grows = (rw q) ∙ over-same (inPlace e a cs);
+    }
+    go false q l f =
+        let r = f l in
+        record {
+          pre = reloc (e .handle) (e .bytes) ∷ r .pre;
+          item = r .item;
+          rest = r .rest;
+          its = r .its;
+          parts = ap (reloc (e .handle) (e .bytes) ∷_) (r .parts);
+          first = rw q (omega (arith, r .first));
+          grows = (rw q) ∙ over-front (reloc (e .handle) (e .bytes)) (held e ∷_) (λ ds. refl) (growHere h a cs) (inPlace (r .item) a (r .rest)) (r .pre) (r .grows);
+        }

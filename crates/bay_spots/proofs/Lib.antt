@@ -1,0 +1,4 @@
+pub mod Fit
+pub mod High
+pub mod Low
+pub mod Spots

@@ -1,0 +1,1 @@
+// What the proofs of the calls have in common: laws alone.

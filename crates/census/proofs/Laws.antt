@@ -1,0 +1,193 @@
+-- The laws that the census's proofs cite.
+use mathlib.Core.Path.{_≡_, refl, ap, ap₂, sym, _∙_}
+use mathlib.Core.Bool.{Bool, true, false, not, _&&_}
+use mathlib.Core.List.{List, [], _∷_}
+use Prim.Native.Nat.{ℕ, zero, suc, _+_, _-_, _/_, _^_, _≤_, _<_}
+use native.Mathlib.Omega.{arith}
+use native.Mathlib.Nat.{zero-add, add-zero}
+use native.Mathlib.Decide.{ℕ-discrete}
+use lib.Pow.{pow-mono}
+use lib.Dec.{leb, ltb}
+use borrow.Author.Tests.{not-true, le-leb, lt-leb, lt-ltb, le-ltb}
+use lib.ListN.{length, getD, set, take, drop, replicate, length-set}
+use lib.Seq.{getD-set-same, getD-set-other}
+use mir.Val.{Fits}
+use mir.Syntax.{w8}
+use Rattle.access.specs.Edit.{IsZone, is-zone, whole-of}
+use Rattle.release.proofs.Reach.{tiles-are}
+use Rattle.bigendian.specs.BigEndian.{fromBE, slice}
+use Rattle.format.specs.WellFormed.{isFree, wellFormed, firstField, zoneOf}
+use Rattle.structure.specs.Structure.{Block, free, fixed, reloc, size, decode}
+use Rattle.structure.proofs.Table.{whole}
+use Rattle.walk.specs.Walker.{blocksAt, Seen, blockAt, freeB}
+use Rattle.walk.proofs.Laws.{tiles-end}
+use Rattle.zone.specs.Census.{limitsFrom, lowerLimits, countIf, countsOf, freeWords, census}
+use Rattle.tell.proofs.Opened.{well}
+use Rattle.census.specs.Tally.{counted, Stratum, adding, OneMore, Tallied, CountsIn, counts-in}
+
+-- ---- the stratum
+
+pub stratum-here : (i w v : ℕ) → 2 ^ i ≤ w → v ≡ 2 ^ (i + 1) → w < v → Stratum i w
+stratum-here i w v l e h = record { low = l; high = λ _. rw (← e) h }
+
+pub stratum-last : (i w : ℕ) → 2 ^ i ≤ w → 18 ≤ i → Stratum i w
+stratum-last i w l h = record { low = l; high = λ k. let x : ⊥ = omega arith in absurd x }
+
+-- ---- one block more
+
+-- a size below the lowest limit is in no stratum
+below : (n i w : ℕ) (ws : List ℕ) → w < 2 ^ i → countsOf (limitsFrom i n) (w ∷ ws) ≡ countsOf (limitsFrom i n) ws
+unfolding countsOf countIf
+below zero i w ws l = refl
+below (suc zero) i w ws l = rw (lt-leb (2 ^ i) w l, zero-add)
+below (suc (suc n)) i w ws l =
+    let up : 2 ^ i ≤ 2 ^ (suc i) = pow-mono (omega arith) in
+    rw (below (suc n) (suc i) w ws (omega arith), lt-leb (2 ^ i) w l, zero-add)
+
+-- w words lie in the stratum i
+abbrev inside : ℕ → ℕ → Bool
+inside i w = leb (2 ^ i) w && ltb w (2 ^ (suc i))
+
+pub one-more : (cs : List ℕ) (i j w : ℕ) (ws : List ℕ) → j < length cs → 2 ^ (i + j) ≤ w → (suc j < length cs → w < 2 ^ (i + suc j))
+    → adding (set cs j (getD cs j 0 + 1)) (countsOf (limitsFrom i (length cs)) ws) ≡ adding cs (countsOf (limitsFrom i (length cs)) (w ∷ ws))
+unfolding countsOf countIf adding
+one-more [] i j w ws l h u = refl
+one-more (c ∷ []) i j w ws l h u = go j l h
+  where
+    go : (j : ℕ) → j < 1 → 2 ^ (i + j) ≤ w → adding (set (c ∷ []) j (getD (c ∷ []) j 0 + 1)) (countIf (leb (2 ^ i)) ws ∷ []) ≡ adding (c ∷ []) (countIf (leb (2 ^ i)) (w ∷ ws) ∷ [])
+    go zero l h = let h′ : 2 ^ i ≤ w = rw add-zero at h in rw (le-leb (2 ^ i) w h′) (ap (_∷ []) (omega arith))
+    go (suc j) l h = let x : ⊥ = omega arith in absurd x
+one-more (c ∷ (d ∷ cs)) i j w ws l h u = go j l h u (one-more (d ∷ cs) (suc i))
+  where
+    go : (j : ℕ) → j < suc (suc (length cs)) → 2 ^ (i + j) ≤ w → (suc j < suc (suc (length cs)) → w < 2 ^ (i + suc j))
+        → ((k v : ℕ) (vs : List ℕ) → k < length (d ∷ cs) → 2 ^ (suc i + k) ≤ v → (suc k < length (d ∷ cs) → v < 2 ^ (suc i + suc k))
+        → adding (set (d ∷ cs) k (getD (d ∷ cs) k 0 + 1)) (countsOf (limitsFrom (suc i) (suc (length cs))) vs) ≡ adding (d ∷ cs) (countsOf (limitsFrom (suc i) (suc (length cs))) (v ∷ vs)))
+        → adding (set (c ∷ (d ∷ cs)) j (getD (c ∷ (d ∷ cs)) j 0 + 1)) (countIf (inside i) ws ∷ countsOf (limitsFrom (suc i) (suc (length cs))) ws) ≡ adding (c ∷ (d ∷ cs)) (countIf (inside i) (w ∷ ws) ∷ countsOf (limitsFrom (suc i) (suc (length cs))) (w ∷ ws))
+    go zero l h u rec =
+        let h′ : 2 ^ i ≤ w = rw add-zero at h in
+        let e : i + 1 ≡ suc i = omega arith in
+        let u′ : w < 2 ^ (suc i) = rw e at (u (omega arith)) in
+        rw (le-leb (2 ^ i) w h′, lt-ltb w (2 ^ (suc i)) u′, below (suc (length cs)) (suc i) w ws u′) (ap (_∷ adding (d ∷ cs) (countsOf (limitsFrom (suc i) (suc (length cs))) ws)) (omega arith))
+    go (suc k) l h u rec =
+        let e : i + suc k ≡ suc i + k = omega arith in
+        let f : i + suc (suc k) ≡ suc i + suc k = omega arith in
+        let h′ : 2 ^ (suc i + k) ≤ w = rw e at h in
+        let a : 2 ^ i ≤ 2 ^ (suc i + k) = pow-mono (omega arith) in
+        let b : 2 ^ (suc i) ≤ 2 ^ (suc i + k) = pow-mono (omega arith) in
+        let r = rec k w ws (omega arith) h′ (λ q. rw f at (u (omega arith))) in
+        rw (le-leb (2 ^ i) w (omega arith), le-ltb w (2 ^ (suc i)) (omega arith)) (ap₂ _∷_ (omega arith) r)
+
+-- one count more is at most one more anywhere
+set-few : (cs : List ℕ) (j k b : ℕ) → j < length cs → getD cs k 0 ≤ b → getD (set cs j (getD cs j 0 + 1)) k 0 ≤ b + 1
+set-few cs j k b l h = go (ℕ-discrete k j)
+  where
+    go : Dec (k ≡ j) → getD (set cs j (getD cs j 0 + 1)) k 0 ≤ b + 1
+    go (yes e) = rw (e, getD-set-same cs j (getD cs j 0 + 1) 0 l) (omega (arith, rw e at h))
+    go (no e) = rw (getD-set-other cs j k (getD cs j 0 + 1) 0 e) (omega arith)
+
+pub counts-more : (cs : List ℕ) (w j : ℕ) → length cs ≡ 19 → j < 19 → Stratum j w → OneMore cs w (set cs j (getD cs j 0 + 1))
+counts-more cs w j e l t = record {
+  same = λ ws.
+      let z : 0 + j ≡ j = omega arith in
+      let f : 0 + suc j ≡ j + 1 = omega arith in
+      rw e at (one-more cs 0 j w ws (omega arith) (rw z (t .low)) (λ k. rw f (t .high (omega arith))));
+  long = length-set cs j (getD cs j 0 + 1) ∙ e;
+  few = λ k b. set-few cs j k b (omega arith);
+}
+
+-- ---- one block
+
+words-free : (b : Block) (bs : List Block) → freeB b ≡ true → freeWords (b ∷ bs) ≡ size b / 2 ∷ freeWords bs
+unfolding freeWords
+words-free (free n) bs e = refl
+words-free (fixed d) bs e = let z : _≡_ {A = ℕ} 0 1 = cc in let x : ⊥ = omega arith in absurd x
+words-free (reloc h d) bs e = let z : _≡_ {A = ℕ} 0 1 = cc in let x : ⊥ = omega arith in absurd x
+
+words-used : (b : Block) (bs : List Block) → freeB b ≡ false → freeWords (b ∷ bs) ≡ freeWords bs
+unfolding freeWords
+words-used (free n) bs e = let z : _≡_ {A = ℕ} 0 1 = cc in let x : ⊥ = omega arith in absurd x
+words-used (fixed d) bs e = refl
+words-used (reloc h d) bs e = refl
+
+module _ (z : List ℕ) (first p n : ℕ) (s : Seen z first p n) (f : Bool) (ef : f ≡ isFree (drop p z)) (cs : List ℕ) where
+  pub block-free : (ds : List ℕ) → f ≡ true → ((k : ℕ) → getD cs k 0 ≤ p) → OneMore cs (n / 2) ds → Tallied z p n cs ds
+  block-free ds q low o = record {
+    same = o .same (freeWords (blocksAt z (p + n))) ∙ (rw (s .blocks, words-free (blockAt z p) (blocksAt z (p + n)) (s .kind ∙ sym ef ∙ q), s .bytes));
+    long = o .long;
+    few = λ k. omega (arith, o .few k p (low k), s .low);
+  }
+
+  pub block-used : f ≡ false → length cs ≡ 19 → ((k : ℕ) → getD cs k 0 ≤ p) → Tallied z p n cs cs
+  block-used q e low = record {
+    same = rw (s .blocks, words-used (blockAt z p) (blocksAt z (p + n)) (s .kind ∙ sym ef ∙ q));
+    long = e;
+    few = λ k. omega (arith, low k);
+  }
+
+-- ---- all blocks
+
+length-counts : (n i : ℕ) (ws : List ℕ) → length (countsOf (limitsFrom i n) ws) ≡ n
+unfolding countsOf
+length-counts zero i ws = refl
+length-counts (suc zero) i ws = refl
+length-counts (suc (suc n)) i ws = ap suc (length-counts (suc n) (suc i) ws)
+
+adding-zeros : (n : ℕ) (ds : List ℕ) → length ds ≡ n → adding (replicate n 0) ds ≡ ds
+unfolding adding
+adding-zeros zero [] e = refl
+adding-zeros zero (d ∷ ds) e = let x : ⊥ = omega arith in absurd x
+adding-zeros (suc n) [] e = let x : ⊥ = omega arith in absurd x
+adding-zeros (suc n) (d ∷ ds) e = rw (zero-add, adding-zeros n ds (omega arith))
+
+zero-counts : (n i : ℕ) → countsOf (limitsFrom i n) [] ≡ replicate n 0
+unfolding countsOf countIf
+zero-counts zero i = refl
+zero-counts (suc zero) i = refl
+zero-counts (suc (suc n)) i = ap (0 ∷_) (zero-counts (suc n) (suc i))
+
+zeros-added : (n : ℕ) (cs : List ℕ) → adding cs (replicate n 0) ≡ cs
+unfolding adding
+zeros-added zero [] = refl
+zeros-added zero (c ∷ cs) = refl
+zeros-added (suc n) [] = refl
+zeros-added (suc n) (c ∷ cs) = rw (add-zero, zeros-added n cs)
+
+pub zeros-low : (n k p : ℕ) → getD (replicate n 0) k 0 ≤ p
+zeros-low zero k p = omega arith
+zeros-low (suc n) zero p = omega arith
+zeros-low (suc n) (suc k) p = zeros-low n k p
+
+pub all-start : (ws : List ℕ) → adding (replicate 19 0) (countsOf lowerLimits ws) ≡ countsOf lowerLimits ws
+all-start ws = adding-zeros 19 (countsOf lowerLimits ws) (length-counts 19 0 ws)
+
+pub all-step : (z : List ℕ) (first p n : ℕ) (cs ds : List ℕ) → Tallied z p n cs ds
+    → adding cs (countsOf lowerLimits (freeWords (blocksAt z p))) ≡ countsOf lowerLimits (freeWords (blocksAt z first))
+    → adding ds (countsOf lowerLimits (freeWords (blocksAt z (p + n)))) ≡ countsOf lowerLimits (freeWords (blocksAt z first))
+all-step z first p n cs ds t inv = t .same ∙ inv
+
+pub all-end : (z : List ℕ) (first p : ℕ) (cs : List ℕ) → length z ≤ p → adding cs (countsOf lowerLimits (freeWords (blocksAt z p))) ≡ countsOf lowerLimits (freeWords (blocksAt z first))
+    → cs ≡ countsOf lowerLimits (freeWords (blocksAt z first))
+unfolding freeWords
+all-end z first p cs l inv = sym (zeros-added 19 cs) ∙ ap (adding cs) (sym (zero-counts 19 0)) ∙ (rw (tiles-end z p l) at inv)
+
+-- ---- the call
+
+pub in-law : (z : List ℕ) (first : ℕ) (cs : List ℕ) → first ≡ firstField z → cs ≡ countsOf lowerLimits (freeWords (blocksAt z first)) → CountsIn z cs
+in-law z first cs e q = counts-in (rw (← e) q)
+
+pub zone-short : (z : List ℕ) → IsZone z → length z ≤ 1048576
+zone-short z i = omega (arith, whole-of z i .all, whole-of z i .limit)
+
+pub census-1 : (s : List ℕ) (ok : Bool) → ok ≡ wellFormed s → not ok ≡ true → counted 1 (replicate 19 0) ≡ census s
+census-1 s ok e q = rw (← e, not-true ok q)
+
+pub census-0 : (s : List ℕ) (ok : Bool) (l : ℕ) (cs : List ℕ) → ok ≡ wellFormed s → not ok ≡ false → l ≡ fromBE (slice s 0 4) → ((i : ℕ) → Fits w8 (getD s i 0))
+    → CountsIn (take l s) cs → counted 0 cs ≡ census s
+unfolding decode
+census-0 s ok l cs e q el y (counts-in c) =
+    let h : wellFormed s ≡ true = well s ok e q in
+    rw (h, c, el) (ap (λ (bs : List Block). counted 0 (countsOf lowerLimits (freeWords bs))) (tiles-are (zoneOf s) (is-zone (whole s (λ j. y j .fits) h))))
+
+-- the counts stay below the largest number of their type
+pub counts-small : (cs : List ℕ) (p : ℕ) → p ≤ 1048576 → ((k : ℕ) → getD cs k 0 ≤ p) → ((k : ℕ) → getD cs k 0 < 4294967295)
+counts-small cs p l f k = omega (arith, f k)

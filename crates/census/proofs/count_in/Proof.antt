@@ -1,0 +1,18 @@
+use Rattle.census.proofs.Laws.{in-law, zone-short}
+use Rattle.tell.proofs.Opened.{get-first}
+use Rattle.release.proofs.Reach.{zone-edge, zone-first}
+use borrow.Author.Needs.{needs}
+use Rattle.census.proofs.count_in.Statement.{statement}
+use Rattle.census.proofs.count_in.Tie as tie
+
+get4-requires : tie.Need-get4-requires
+get4-requires c κs = search get-first
+
+count-all-requires : tie.Need-count-all-requires
+count-all-requires c κs = (search zone-edge, search zone-first, search zone-short)
+
+returns : tie.Need-returns
+returns c = search in-law
+
+pub count-in-spec : {M : Type 1} → statement M
+count-in-spec = tie.close (tie.spec get4-requires (λ c. search needs) count-all-requires returns)

@@ -1,0 +1,125 @@
+// The census: how many free blocks there are in each of nineteen strata.
+ghost use mathlib.Core.Path.{_≡_};
+ghost use Prim.Native.Nat.{ℕ, _+_, _/_, _^_, _<_, _≤_};
+ghost use lib.ListN.{length, getD};
+ghost use Rattle.walk.specs.Walker.{blocksAt, Edge, Seen};
+ghost use Rattle.access.specs.Edit.{IsZone};
+ghost use Rattle.zone.specs.Census.{countsOf, lowerLimits, freeWords, census};
+ghost use Rattle.census.specs.Tally.{counted, Stratum, OneMore, Tallied, CountsIn};
+
+// The refusal number, 0 for done, and the number of free blocks of each stratum.
+pub struct Counts {
+    pub number: u32,
+    pub counts: [u32; 19],
+}
+
+impl Counts {
+    // The least number of words of each stratum.
+    pub const LOWER_LIMITS: [u32; 19] = [
+        1,
+        2,
+        4,
+        8,
+        16,
+        32,
+        64,
+        128,
+        256,
+        512,
+        1024,
+        2048,
+        4096,
+        8192,
+        16384,
+        32768,
+        65536,
+        131072,
+        262144,
+    ];
+}
+
+fn lower(i: usize) -> u32
+    requires { ⌜ i < 19 ⌝ }
+    ensures { λ r. ⌜ r ≡ 2 ^ i ⌝ }
+{
+    Counts::LOWER_LIMITS[i]
+}
+
+// The stratum of a number of words.
+fn stratum(words: u32) -> usize
+    requires { ⌜ 1 ≤ words ⌝ }
+    ensures { λ r. ⌜ (r < 19) × (Stratum r words) ⌝ }
+{
+    let mut i = 0;
+    while i < 18 {
+        if words < lower(i + 1) {
+            return i;
+        }
+        i += 1;
+    }
+    i
+}
+
+// The counts with one block more, of so many words.
+fn count_one(counts: [u32; 19], words: u32) -> [u32; 19]
+    requires { ⌜ (1 ≤ words) × (length counts ≡ 19) × ((k : ℕ) → getD counts k 0 < 4294967295) ⌝ }
+    ensures { λ r. ⌜ OneMore counts words r ⌝ }
+{
+    let i = stratum(words);
+    let mut next = counts;
+    next[i] = next[i] + 1;
+    next
+}
+
+// The counts after the block of n bytes at p.
+fn count_block(z: &[u8], first: usize, p: usize, n: usize, counts: [u32; 19]) -> [u32; 19]
+    requires { ⌜ (Seen (now z) first p n) × (p < length (now z)) × (p ≤ 1048576) × (n ≤ 1048576) × (length counts ≡ 19) × ((k : ℕ) → getD counts k 0 ≤ p) ⌝ }
+    ensures { λ r. ⌜ Tallied (now (z .entry)) p n counts r ⌝ }
+{
+    if block_check::is_free(z, p) {
+        return count_one(counts, (n / 2) as u32);
+    }
+    counts
+}
+
+// The counts of all free blocks together.
+fn count_all(z: &[u8], first: usize) -> [u32; 19]
+    requires { ⌜ (Edge (now z) first first) × (first ≤ length (now z)) × (length (now z) ≤ 1048576) ⌝ }
+    ensures { λ r. ⌜ r ≡ countsOf lowerLimits (freeWords (blocksAt (now (z .entry)) first)) ⌝ }
+{
+    let mut counts = [0u32; 19];
+    let mut p = first;
+    while p < z.len() {
+        let n = walk::step(z, first, p);
+        let next = count_block(z, first, p, n, counts);
+        counts = next;
+        p += n;
+    }
+    counts
+}
+
+// The counts of a well-formed zone, with no bytes beyond its length.
+fn count_in(z: &[u8]) -> [u32; 19]
+    requires { ⌜ IsZone (now z) ⌝ }
+    ensures { λ r. ⌜ CountsIn (now (z .entry)) r ⌝ }
+{
+    let first = bigendian::get4(z, 4) as usize;
+    count_all(z, first)
+}
+
+// All nineteen counts; 0 for each when refused.
+pub fn census(zone: &[u8]) -> Counts
+    ensures { λ r. ⌜ counted (r .number) (r .counts) ≡ census (now (zone .entry)) ⌝ }
+{
+    let k = zone_check::check(zone);
+    let ok = k.ok;
+    if !ok {
+        return Counts {
+            number: 1,
+            counts: [0u32; 19],
+        };
+    }
+    let l = bigendian::get4(zone, 0) as usize;
+    let counts = count_in(&zone[..l]);
+    Counts { number: 0, counts }
+}

@@ -1,0 +1,6 @@
+pub mod Bays
+pub mod Call
+pub mod Loop
+pub mod Outcome
+pub mod Rest
+pub mod Walk

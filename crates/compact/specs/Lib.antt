@@ -1,0 +1,4 @@
+pub mod All
+pub mod Compact
+pub mod Going
+pub mod Packed

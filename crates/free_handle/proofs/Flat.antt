@@ -1,0 +1,85 @@
+-- Releasing a handle in its bay, seen in the line of blocks.
+use mathlib.Core.Path.{_≡_, refl, ap, sym, _∙_}
+use mathlib.Core.Bool.{Bool, true, false, cond, false≢true}
+use mathlib.Core.List.{List, [], _∷_}
+use Prim.Native.Nat.{ℕ, zero, suc, _+_, _≤_, _<_}
+use native.Mathlib.Omega.{arith}
+use lib.ListN.{length}
+use lib.Dec.{eqb}
+use Rattle.format.proofs.Count.{occurs}
+use Rattle.structure.specs.Structure.{Block, free, fixed, reloc}
+use Rattle.structure.proofs.Valid.{handlesOf, Tiled}
+use Rattle.release.specs.Release.{gap, release}
+use Rattle.zone.specs.Bays.{Bays, last, more, mapS}
+use Rattle.zone.specs.Bay as Bay
+use Rattle.zone.specs.Bay.{Item, itemSize, Cell, free as gapCell, held}
+use Rattle.zone.specs.OnBays.{Fixed}
+use Rattle.zone.specs.Group.{inFront, group, flatBay, flatten}
+
+flat-gap : (n : ℕ) (cs : List Cell) (r : List Block) → 0 < n → gap n r ≡ free n ∷ r → flatBay (Bay.gap n cs) r ≡ gap n (flatBay cs r)
+unfolding gap
+flat-gap zero cs r l q = absurd (omega arith)
+flat-gap (suc n) [] r l q = sym q
+flat-gap (suc n) (gapCell k ∷ cs) r l q = refl
+flat-gap (suc n) (held e ∷ cs) r l q = refl
+
+front-free : (h n : ℕ) (s : Bays (List Cell) Fixed) → 0 < n → flatten (mapS (Bay.release h) (inFront (gapCell n) s)) ≡ gap n (flatten (mapS (Bay.release h) s))
+unfolding gap
+front-free h n (last b) l = flat-gap n (Bay.release h b) [] l refl
+front-free h n (more b x s) l = flat-gap n (Bay.release h b) (fixed (x .bytes) ∷ flatten (mapS (Bay.release h) s)) l refl
+
+front-held : (h : ℕ) (e : Item) (s : Bays (List Cell) Fixed) → flatten (mapS (Bay.release h) (inFront (held e) s))
+    ≡ cond (eqb h (e .handle)) (gap (4 + length (e .bytes)) (flatten (mapS (Bay.release h) s))) (reloc (e .handle) (e .bytes) ∷ flatten (mapS (Bay.release h) s))
+unfolding gap
+front-held h e (last b) = go (eqb h (e .handle))
+  where
+    go : (t : Bool) → flatBay (cond t (Bay.gap (itemSize e) (Bay.release h b)) (held e ∷ Bay.release h b)) []
+        ≡ cond t (gap (itemSize e) (flatBay (Bay.release h b) [])) (reloc (e .handle) (e .bytes) ∷ flatBay (Bay.release h b) [])
+    go true = flat-gap (itemSize e) (Bay.release h b) [] (omega arith) refl
+    go false = refl
+front-held h e (more b x s) = go (eqb h (e .handle))
+  where
+    r : List Block
+    r = fixed (x .bytes) ∷ flatten (mapS (Bay.release h) s)
+
+    go : (t : Bool) → flatBay (cond t (Bay.gap (itemSize e) (Bay.release h b)) (held e ∷ Bay.release h b)) (fixed (x .bytes) ∷ flatten (mapS (Bay.release h) s))
+        ≡ cond t (gap (itemSize e) (flatBay (Bay.release h b) (fixed (x .bytes) ∷ flatten (mapS (Bay.release h) s)))) (reloc (e .handle) (e .bytes) ∷ flatBay (Bay.release h b) (fixed (x .bytes) ∷ flatten (mapS (Bay.release h) s)))
+    go true = flat-gap (itemSize e) (Bay.release h b) (fixed (x .bytes) ∷ flatten (mapS (Bay.release h) s)) (omega arith) refl
+    go false = refl
+
+gap-tiled : (n : ℕ) (bs : List Block) → Tiled true bs → gap n bs ≡ free n ∷ bs
+unfolding gap
+gap-tiled n [] t = refl
+gap-tiled n (free k ∷ bs) t = absurd (false≢true (sym (t .0)))
+gap-tiled n (fixed d ∷ bs) t = refl
+gap-tiled n (reloc k d ∷ bs) t = refl
+
+-- a handle that is not there
+none-released : (h p : ℕ) (prev : Bool) (bs : List Block) → Tiled prev bs → occurs h (handlesOf bs) ≡ 0 → flatten (mapS (Bay.release h) (group p bs)) ≡ bs
+unfolding occurs handlesOf
+none-released h p prev [] t e = refl
+none-released h p prev (free n ∷ bs) t e = front-free h n (group (p + n) bs) (omega (arith, t .1)) ∙ ap (gap n) (none-released h (p + n) true bs (t .4) e) ∙ gap-tiled n bs (t .4)
+none-released h p prev (fixed d ∷ bs) t e = ap (fixed d ∷_) (none-released h (p + (2 + length d)) false bs (t .3) e)
+none-released h p prev (reloc k d ∷ bs) t e = front-held h (record { handle = k; bytes = d }) (group (p + (4 + length d)) bs) ∙ go (eqb h k) (λ q. none-released h (p + (4 + length d)) false bs (t .3) q) e
+  where
+    go : (u : Bool) → (occurs h (handlesOf bs) ≡ 0 → flatten (mapS (Bay.release h) (group (p + (4 + length d)) bs)) ≡ bs) → cond u 1 0 + occurs h (handlesOf bs) ≡ 0
+        → cond u (gap (4 + length d) (flatten (mapS (Bay.release h) (group (p + (4 + length d)) bs)))) (reloc k d ∷ flatten (mapS (Bay.release h) (group (p + (4 + length d)) bs))) ≡ reloc k d ∷ bs
+    go true f q = absurd (omega arith)
+    go false f q = ap (reloc k d ∷_) (f (omega arith))
+
+-- in the line, the first block with the handle is released
+pub flat-release : (h p : ℕ) (prev : Bool) (bs : List Block) → Tiled prev bs → occurs h (handlesOf bs) ≤ 1 → flatten (mapS (Bay.release h) (group p bs)) ≡ release h bs
+unfolding occurs handlesOf release
+flat-release h p prev [] t e = refl
+flat-release h p prev (free n ∷ bs) t e = front-free h n (group (p + n) bs) (omega (arith, t .1)) ∙ ap (gap n) (flat-release h (p + n) true bs (t .4) e)
+flat-release h p prev (fixed d ∷ bs) t e = ap (fixed d ∷_) (flat-release h (p + (2 + length d)) false bs (t .3) e)
+flat-release h p prev (reloc k d ∷ bs) t e =
+    front-held h (record { handle = k; bytes = d }) (group (p + (4 + length d)) bs)
+    ∙ go (eqb h k) (λ q. none-released h (p + (4 + length d)) false bs (t .3) q) (λ q. flat-release h (p + (4 + length d)) false bs (t .3) q) e
+  where
+    go : (u : Bool) → (occurs h (handlesOf bs) ≡ 0 → flatten (mapS (Bay.release h) (group (p + (4 + length d)) bs)) ≡ bs)
+        → (occurs h (handlesOf bs) ≤ 1 → flatten (mapS (Bay.release h) (group (p + (4 + length d)) bs)) ≡ release h bs) → cond u 1 0 + occurs h (handlesOf bs) ≤ 1
+        → cond u (gap (4 + length d) (flatten (mapS (Bay.release h) (group (p + (4 + length d)) bs)))) (reloc k d ∷ flatten (mapS (Bay.release h) (group (p + (4 + length d)) bs)))
+        ≡ cond u (gap (4 + length d) bs) (reloc k d ∷ release h bs)
+    go true f g q = ap (gap (4 + length d)) (f (omega arith))
+    go false f g q = ap (reloc k d ∷_) (g (omega arith))

@@ -1,0 +1,4 @@
+pub mod Bays
+pub mod Flat
+pub mod Laws
+pub mod Outcome

@@ -1,0 +1,104 @@
+-- The bytes written are those of the structure that initialize is to leave.
+use mathlib.Core.Path.{_≡_, refl, sym, ap, ap₂, _∙_}
+use mathlib.Core.Bool.{Bool, true, false, cond}
+use mathlib.Core.List.{List, [], _∷_, _++_, map, append-assoc, append-nil}
+use Prim.Native.Nat.{ℕ, zero, suc, _+_, _*_, _-_, _/_, _≤_}
+use native.Mathlib.Nat.{add-zero}
+use native.Mathlib.Omega.{arith}
+use lib.Dec.{eqb}
+use borrow.Author.Tests.{eq-eqb, ne-eqb}
+use lib.ListN.{length, drop, replicate, length-append}
+use Rattle.bigendian.specs.BigEndian.{toBE, overwrite}
+use Rattle.format.specs.WellFormed.{offsets}
+use Rattle.structure.specs.Structure.{Block, Structure, sizes, relocCount, count, start, len, headOf, placeOf, nextOf, value, words, join, header, encode, encodeBlock}
+use Rattle.calls.specs.Calls.{told}
+use Rattle.zone.specs.Bay.{gap}
+use Rattle.zone.specs.OnBays.{handlesFrom, initial}
+use Rattle.zone.specs.ZoneBays.{zoneBays}
+use Rattle.zone.specs.Group.{flatBay}
+use Rattle.zone.specs.OnBytes.{inLine, result, accepts, initBytes}
+use Rattle.initialize.specs.Fresh.{sizeBytes, headBytes, chainBytes, freeBytes, freshBytes, Fresh}
+use Rattle.initialize.proofs.Write.{accepted, head-long, chain-long, free-long}
+
+two-zeros : 0 ∷ 0 ∷ [] ≡ toBE 2 0
+unfolding toBE
+two-zeros = refl
+
+handles-long : (h m : ℕ) → length (handlesFrom h m) ≡ m
+handles-long h zero = refl
+handles-long h (suc m) = ap suc (handles-long (h + 4) m)
+
+head-handles : (h k : ℕ) → headOf (handlesFrom h k) ≡ cond (eqb k 0) 0 h
+head-handles h zero = refl
+head-handles h (suc k) = sym (rw (ne-eqb (suc k) 0 (λ e. omega arith)))
+
+-- f is what each master from h on holds
+words-chain : (f : ℕ → ℕ) (h k : ℕ) → ((g : ℕ) → h ≤ g → f g ≡ nextOf g (handlesFrom h k)) → words f (offsets h k) ≡ chainBytes h k
+unfolding words offsets chainBytes nextOf
+words-chain f h zero e = refl
+words-chain f h (suc k) e =
+    ap₂ (λ (v : ℕ) (r : List ℕ). toBE 4 v ++ r)
+    (e h (omega arith) ∙ (rw (eq-eqb h h refl)) ∙ head-handles (h + 4) k)
+    (words-chain f (h + 4) k (λ g l. e g (omega arith) ∙ (rw (ne-eqb g h (λ x. omega arith)))))
+
+abbrev blocksOf : ℕ → List Block
+blocksOf k = flatBay (gap k []) []
+
+no-relocs : (k : ℕ) → relocCount (blocksOf k) ≡ 0
+unfolding relocCount
+no-relocs zero = refl
+no-relocs (suc k) = refl
+
+all-free : (k : ℕ) → sizes (blocksOf k) ≡ k
+unfolding sizes
+all-free zero = refl
+all-free (suc k) = add-zero (suc k)
+
+no-place : (h at k : ℕ) → placeOf h at (blocksOf k) ≡ 0
+unfolding placeOf
+no-place h at zero = refl
+no-place h at (suc k) = refl
+
+free-bytes : (k : ℕ) → join (map encodeBlock (blocksOf k)) ≡ freeBytes k
+unfolding join encodeBlock freeBytes
+free-bytes zero = refl
+free-bytes (suc k) = append-nil (toBE 4 (suc k / 2) ++ replicate (suc k - 4) 0) ∙ sym (rw (ne-eqb (suc k) 0 (λ e. omega arith)))
+
+module _ (buf n m : ℕ) (x : Fresh buf n m) where
+  abbrev u : Structure
+  u = inLine (initial zoneBays buf n m)
+
+  count-is : count u ≡ m
+  count-is = omega (arith, no-relocs (n - (16 + 4 * m)), handles-long 16 m)
+
+  len-is : len u ≡ n
+  len-is = omega (arith, count-is, all-free (n - (16 + 4 * m)), x .room)
+
+  value-is : (h : ℕ) → value u h ≡ nextOf h (handlesFrom 16 m)
+  value-is h = omega (arith, no-place h (start u) (n - (16 + 4 * m)))
+
+  -- the structure's bytes
+  pub fresh-encode : encode u ≡ freshBytes n m
+  unfolding encode header freshBytes headBytes sizeBytes
+  fresh-encode =
+      let c = count-is in
+      let s : start u ≡ 16 + 4 * m = omega arith in
+      let hd : header u ≡ headBytes n m =
+      rw (len-is, s, c) (ap₂ (λ (h : ℕ) (z : List ℕ). toBE 4 n ++ (toBE 4 (16 + 4 * m) ++ (toBE 4 m ++ (toBE 2 h ++ z)))) (head-handles 16 m) two-zeros ∙ (simp append-assoc)) in
+      ap₂ _++_ hd (ap₂ _++_ (ap (λ (k : ℕ). words (value u) (offsets 16 k)) c ∙ words-chain (value u) 16 m (λ g l. value-is g)) (free-bytes (n - (16 + 4 * m))))
+
+  pub fresh-long : length (freshBytes n m) ≡ n
+  unfolding freshBytes
+  fresh-long =
+      let r = x .room in
+      let q = x .four in
+      simp length-append (omega (arith, head-long n m, chain-long 16 m, free-long (n - (16 + 4 * m)) (omega arith)))
+
+pub init-done : (s z : List ℕ) (n m : ℕ) (r : Bool) → r ≡ accepts (length s) n m → r ≡ true → z ≡ overwrite s 0 (freshBytes n m) → result (told 0 0) z ≡ initBytes n m s
+init-done s z n m r e t q =
+    let x = accepted (length s) n m r e t in
+    let k : 0 + length (freshBytes n m) ≡ n = omega (arith, fresh-long (length s) n m x) in
+    rw (← e, t) (ap (result (told 0 0)) (q ∙ ap₂ (λ (b : List ℕ) (j : ℕ). b ++ drop j s) (sym (fresh-encode (length s) n m x)) k))
+
+pub init-no : (s : List ℕ) (n m : ℕ) (r : Bool) → r ≡ accepts (length s) n m → r ≡ false → result (told 2 0) s ≡ initBytes n m s
+init-no s n m r e t = rw (← e, t)

@@ -1,0 +1,3 @@
+pub mod Bytes
+pub mod Outcome
+pub mod Write

@@ -1,0 +1,166 @@
+-- The laws that the functions cite: writes one behind the other.
+use mathlib.Core.Path.{_≡_, refl, sym, ap, _∙_}
+use mathlib.Core.Bool.{Bool, true, cond, _&&_}
+use mathlib.Core.List.{List, _++_, append-assoc}
+use Prim.Native.Nat.{ℕ, zero, suc, _+_, _*_, _-_, _/_, _%_, _<_, _≤_}
+use native.Mathlib.Nat.{sub-zero}
+use native.Mathlib.Omega.{arith}
+use lib.Dec.{eqb, leb}
+use borrow.Author.Tests.{eq-eqb, ne-eqb, eqb-true, leb-true}
+use lib.ListN.{length, take, replicate, length-append, length-replicate}
+use Rattle.bigendian.specs.BigEndian.{toBE, overwrite}
+use Rattle.bigendian.proofs.Laws.{length-toBE}
+use Rattle.memory.proofs.Writes.{write-none}
+use Rattle.format.proofs.Bool.{and-left, and-right}
+use Rattle.compact_bay.proofs.Part.{take-write, drop-write}
+use Rattle.zone.specs.OnBytes.{accepts}
+use Rattle.initialize.specs.Fresh.{sizeBytes, headBytes, linkAfter, chainBytes, freeBytes, freshBytes, Fresh}
+
+-- a write right behind a write
+pub write-more : (z u v : List ℕ) (at k : ℕ) → k ≡ at + length u → k + length v ≤ length z → overwrite (overwrite z at u) k v ≡ overwrite z at (u ++ v)
+write-more z u v at k e l =
+    let h : at ≤ length z = omega arith in
+    let f : k + length v ≡ at + length (u ++ v) = rw length-append (omega arith) in
+    rw (drop-write z at (k + length v) u (omega arith) l, f, e, take-write z at (length u) u h refl, append-assoc (take at z) u v)
+
+-- ---- the arguments
+
+pub accepted : (buf n m : ℕ) (r : Bool) → r ≡ accepts buf n m → r ≡ true → Fresh buf n m
+accepted buf n m r e t =
+    let a : accepts buf n m ≡ true = sym e ∙ t in
+    let p₁ = eqb (n % 4) 0 in
+    let p₂ = leb (16 + 4 * m) n in
+    let p₃ = leb n buf in
+    let p₄ = leb n 1048576 in
+    let b = and-left (p₁ && p₂ && p₃ && p₄) (leb m 8188) a in
+    let c = and-left (p₁ && p₂ && p₃) p₄ b in
+    let d = and-left (p₁ && p₂) p₃ c in
+    record {
+      four = eqb-true (n % 4) 0 (and-left p₁ p₂ d);
+      room = leb-true (16 + 4 * m) n (and-right p₁ p₂ d);
+      fits = leb-true n buf (and-right (p₁ && p₂) p₃ c);
+      short = leb-true n 1048576 (and-right (p₁ && p₂ && p₃) p₄ b);
+      few = leb-true m 8188 (and-right (p₁ && p₂ && p₃ && p₄) (leb m 8188) a);
+    }
+
+-- ---- lengths
+
+pub head-long : (n m : ℕ) → length (headBytes n m) ≡ 16
+unfolding headBytes sizeBytes
+head-long n m = simp (length-append, length-toBE)
+
+pub chain-long : (h k : ℕ) → length (chainBytes h k) ≡ 4 * k
+unfolding chainBytes
+chain-long h zero = refl
+chain-long h (suc k) = simp (length-append, length-toBE) (omega (arith, chain-long (h + 4) k))
+
+pub free-long : (k : ℕ) → k % 4 ≡ 0 → length (freeBytes k) ≡ k
+unfolding freeBytes
+free-long zero e = refl
+free-long (suc k) e = rw (ne-eqb (suc k) 0 (λ x. omega arith)) (simp (length-append, length-toBE, length-replicate) (omega arith))
+
+-- ---- header
+
+pub head-none : (m : ℕ) → m ≡ 0 → _≡_ {A = ℕ} 0 (cond (eqb m 0) 0 16)
+head-none m e = rw (eq-eqb m 0 e)
+
+pub head-some : (m : ℕ) → (m ≡ 0 → ⊥) → _≡_ {A = ℕ} 16 (cond (eqb m 0) 0 16)
+head-some m e = rw (ne-eqb m 0 e)
+
+pub sizes-done : (z z₁ z₂ z₃ : List ℕ) (n m : ℕ) → Fresh (length z) n m
+    → z₁ ≡ overwrite z 0 (toBE 4 n) → z₂ ≡ overwrite z₁ 4 (toBE 4 (16 + 4 * m)) → z₃ ≡ overwrite z₂ 8 (toBE 4 m) → z₃ ≡ overwrite z 0 (sizeBytes n m)
+unfolding sizeBytes
+sizes-done z z₁ z₂ z₃ n m x e₁ e₂ e₃ =
+    let a = toBE 4 n in
+    let b = toBE 4 (16 + 4 * m) in
+    let l : 16 ≤ length z = omega (arith, x .room, x .fits) in
+    let la = length-toBE 4 n in
+    let lb = length-toBE 4 (16 + 4 * m) in
+    let lc = length-toBE 4 m in
+    let lab = length-append a b in
+    let p₂ : z₂ ≡ overwrite z 0 (a ++ b) = e₂ ∙ (rw e₁ (write-more z a b 0 4 (omega arith) (omega arith))) in
+    let p₃ : z₃ ≡ overwrite z 0 ((a ++ b) ++ toBE 4 m) = e₃ ∙ (rw p₂ (write-more z (a ++ b) (toBE 4 m) 0 8 (omega arith) (omega arith))) in
+    p₃ ∙ ap (λ (x : List ℕ). overwrite z 0 x) (append-assoc a b (toBE 4 m))
+
+sizes-long : (n m : ℕ) → length (sizeBytes n m) ≡ 12
+unfolding sizeBytes
+sizes-long n m = simp (length-append, length-toBE)
+
+pub header-done : (z z₁ z₂ z₃ : List ℕ) (n m h : ℕ) → Fresh (length z) n m → h ≡ cond (eqb m 0) 0 16
+    → z₁ ≡ overwrite z 0 (sizeBytes n m) → z₂ ≡ overwrite z₁ 12 (toBE 2 h) → z₃ ≡ overwrite z₂ 14 (toBE 2 0) → z₃ ≡ overwrite z 0 (headBytes n m)
+unfolding headBytes
+header-done z z₁ z₂ z₃ n m h x eh e₁ e₂ e₃ =
+    let a = sizeBytes n m in
+    let l : 16 ≤ length z = omega (arith, x .room, x .fits) in
+    let la = sizes-long n m in
+    let lb = length-toBE 2 h in
+    let lc = length-toBE 2 0 in
+    let lab = length-append a (toBE 2 h) in
+    let p₂ : z₂ ≡ overwrite z 0 (a ++ toBE 2 h) = e₂ ∙ (rw e₁ (write-more z a (toBE 2 h) 0 12 (omega arith) (omega arith))) in
+    let p₃ : z₃ ≡ overwrite z 0 ((a ++ toBE 2 h) ++ toBE 2 0) = e₃ ∙ (rw p₂ (write-more z (a ++ toBE 2 h) (toBE 2 0) 0 14 (omega arith) (omega arith))) in
+    p₃ ∙ ap (λ (x : List ℕ). overwrite z 0 x) (append-assoc a (toBE 2 h) (toBE 2 0) ∙ ap (λ (y : ℕ). a ++ (toBE 2 y ++ toBE 2 0)) eh)
+
+-- ---- chain
+
+pub link-more : (i m : ℕ) → i + 1 < m → 16 + 4 * i + 4 ≡ linkAfter (16 + 4 * i) (m - (i + 1))
+link-more i m l = rw (ne-eqb (m - (i + 1)) 0 (λ e. omega arith))
+
+pub link-none : (i m : ℕ) → m ≤ i + 1 → 0 ≡ linkAfter (16 + 4 * i) (m - (i + 1))
+link-none i m l = rw (eq-eqb (m - (i + 1)) 0 (omega arith))
+
+pub chain-step : (z z′ w : List ℕ) (i m v : ℕ) → i < m → 16 + 4 * m ≤ length z → v ≡ linkAfter (16 + 4 * i) (m - (i + 1)) → z′ ≡ overwrite z (16 + 4 * i) (toBE 4 v)
+    → overwrite z (16 + 4 * i) (chainBytes (16 + 4 * i) (m - i)) ≡ w
+    → overwrite z′ (16 + 4 * (i + 1)) (chainBytes (16 + 4 * (i + 1)) (m - (i + 1))) ≡ w
+unfolding chainBytes
+chain-step z z′ w i m v l f ev ez inv =
+    let e : m - i ≡ suc (m - (i + 1)) = omega arith in
+    let k : 16 + 4 * (i + 1) ≡ 16 + 4 * i + 4 = omega arith in
+    let lc = chain-long (16 + 4 * i + 4) (m - (i + 1)) in
+    let lv = length-toBE 4 v in
+    (rw (ez, k, write-more z (toBE 4 v) (chainBytes (16 + 4 * i + 4) (m - (i + 1))) (16 + 4 * i) (16 + 4 * i + 4) (omega arith) (omega arith), ev)) ∙ (rw e at inv)
+
+pub chain-start : (z : List ℕ) (m : ℕ) → overwrite z (16 + 4 * 0) (chainBytes (16 + 4 * 0) (m - 0)) ≡ overwrite z 16 (chainBytes 16 m)
+chain-start z m = ap (λ (k : ℕ). overwrite z 16 (chainBytes 16 k)) (sub-zero m)
+
+pub chain-end : (z w : List ℕ) (i m : ℕ) → m ≤ i → overwrite z (16 + 4 * i) (chainBytes (16 + 4 * i) (m - i)) ≡ w → z ≡ w
+unfolding chainBytes
+chain-end z w i m l inv =
+    let e : m - i ≡ 0 = omega arith in
+    sym (write-none z (16 + 4 * i)) ∙ (rw e at inv)
+
+-- ---- the free block
+
+module _ (z : List ℕ) (first n : ℕ) where
+  pub free-none : first ≤ n → n ≤ first → z ≡ overwrite z first (freeBytes (n - first))
+  unfolding freeBytes
+  free-none a b = let e : n - first ≡ 0 = omega arith in rw e (sym (write-none z first))
+
+  pub free-some : (z₁ z₂ : List ℕ) → first < n → n ≤ length z → (n - first) % 4 ≡ 0 → z₁ ≡ overwrite z first (toBE 4 ((n - first) / 2))
+      → z₂ ≡ overwrite z₁ (first + 4) (replicate (n - (first + 4)) 0) → z₂ ≡ overwrite z first (freeBytes (n - first))
+  unfolding freeBytes
+  free-some z₁ z₂ l f q e₁ e₂ =
+      let k : n - (first + 4) ≡ n - first - 4 = omega arith in
+      let lr = length-replicate {A = ℕ} (n - (first + 4)) 0 in
+      let lt = length-toBE 4 ((n - first) / 2) in
+      rw (ne-eqb (n - first) 0 (λ x. omega arith), ← k)
+      (e₂ ∙ (rw e₁ (write-more z (toBE 4 ((n - first) / 2)) (replicate (n - (first + 4)) 0) first (first + 4) (omega arith) (omega arith))))
+
+  pub free-room : first < n → (n - first) % 4 ≡ 0 → first + 4 ≤ n
+  free-room l q = omega arith
+
+-- ---- all of it
+
+pub make-done : (z z₁ z₂ z₃ : List ℕ) (n m : ℕ) → Fresh (length z) n m → z₁ ≡ overwrite z 0 (headBytes n m) → z₂ ≡ overwrite z₁ 16 (chainBytes 16 m)
+    → z₃ ≡ overwrite z₂ (16 + 4 * m) (freeBytes (n - (16 + 4 * m))) → z₃ ≡ overwrite z 0 (freshBytes n m)
+unfolding freshBytes
+make-done z z₁ z₂ z₃ n m x e₁ e₂ e₃ =
+    let r = x .room in
+    let g = x .fits in
+    let q = x .four in
+    let lh = head-long n m in
+    let lc = chain-long 16 m in
+    let lf = free-long (n - (16 + 4 * m)) (omega arith) in
+    let la = length-append (headBytes n m) (chainBytes 16 m) in
+    let p₂ : z₂ ≡ overwrite z 0 (headBytes n m ++ chainBytes 16 m) = e₂ ∙ (rw e₁ (write-more z (headBytes n m) (chainBytes 16 m) 0 16 (omega arith) (omega arith))) in
+    e₃ ∙ (rw p₂ (write-more z (headBytes n m ++ chainBytes 16 m) (freeBytes (n - (16 + 4 * m))) 0 (16 + 4 * m) (omega arith) (omega arith)))
+    ∙ ap (λ (y : List ℕ). overwrite z 0 y) (append-assoc (headBytes n m) (chainBytes 16 m) (freeBytes (n - (16 + 4 * m))))

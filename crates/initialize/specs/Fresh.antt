@@ -1,0 +1,40 @@
+-- The bytes of a zone with no block but a free one.
+use mathlib.Core.Path.{_≡_}
+use mathlib.Core.Bool.{cond}
+use mathlib.Core.List.{List, [], _++_}
+use Prim.Native.Nat.{ℕ, zero, suc, _+_, _*_, _-_, _/_, _%_, _≤_}
+use lib.ListN.{replicate}
+use lib.Dec.{eqb}
+use Rattle.bigendian.specs.BigEndian.{toBE}
+
+-- length, bkFst, m
+unfoldable pub sizeBytes : ℕ → ℕ → List ℕ
+sizeBytes n m = toBE 4 n ++ (toBE 4 (16 + 4 * m) ++ toBE 4 m)
+
+-- then the chain's head and two zero bytes
+unfoldable pub headBytes : ℕ → ℕ → List ℕ
+headBytes n m = sizeBytes n m ++ (toBE 2 (cond (eqb m 0) 0 16) ++ toBE 2 0)
+
+-- what the master at h holds, with k masters behind it
+abbrev pub linkAfter : ℕ → ℕ → ℕ
+linkAfter h k = cond (eqb k 0) 0 (h + 4)
+
+-- k masters from h on
+unfoldable pub chainBytes : ℕ → ℕ → List ℕ
+chainBytes h zero = []
+chainBytes h (suc k) = toBE 4 (linkAfter h k) ++ chainBytes (h + 4) k
+
+-- a free block of k bytes, none for 0
+unfoldable pub freeBytes : ℕ → List ℕ
+freeBytes k = cond (eqb k 0) [] (toBE 4 (k / 2) ++ replicate (k - 4) 0)
+
+unfoldable pub freshBytes : ℕ → ℕ → List ℕ
+freshBytes n m = headBytes n m ++ (chainBytes 16 m ++ freeBytes (n - (16 + 4 * m)))
+
+-- what an accepted call may rely on
+pub record Fresh (buf n m : ℕ) : Type 0 where
+  pub four : n % 4 ≡ 0
+  pub room : 16 + 4 * m ≤ n
+  pub fits : n ≤ buf
+  pub short : n ≤ 1048576
+  pub few : m ≤ 8188

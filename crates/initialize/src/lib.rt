@@ -1,0 +1,118 @@
+// Initialize: header, masters chained upwards, and one free block or none. Each byte of the zone is written once, from the front.
+ghost use mathlib.Core.Path.{_≡_};
+ghost use mathlib.Core.Bool.{cond};
+ghost use Prim.Native.Nat.{_+_, _*_, _-_, _%_, _<_, _≤_};
+ghost use lib.ListN.{length};
+ghost use lib.Dec.{eqb};
+ghost use Rattle.bigendian.specs.BigEndian.{overwrite};
+ghost use Rattle.calls.specs.Calls.{told};
+ghost use Rattle.zone.specs.OnBytes.{result, accepts, initBytes};
+ghost use Rattle.initialize.specs.Fresh.{sizeBytes, headBytes, linkAfter, chainBytes, freeBytes, freshBytes, Fresh};
+use block_type::BlockType;
+
+// Whether a zone of n bytes with m masters can be made in a buffer of `buf` bytes.
+fn is_accepted(buf: usize, n: usize, m: usize) -> bool
+    requires { ⌜ m < 4294967296 ⌝ }
+    ensures { λ r. ⌜ r ≡ accepts buf n m ⌝ }
+{
+    (n % 4 == 0) & (16 + 4 * m <= n) & (n <= buf) & (n <= 1048576) & (m <= 8188)
+}
+
+// The first master, 0 for none.
+fn head_of(m: usize) -> u32
+    ensures { λ r. ⌜ r ≡ cond (eqb m 0) 0 16 ⌝ }
+{
+    if m == 0 {
+        return 0;
+    }
+    16
+}
+
+// The zone's length, its first block and the number of its masters.
+fn put_sizes(z: &mut [u8], n: usize, m: usize)
+    requires { ⌜ Fresh (length (now z)) n m ⌝ }
+    ensures { λ _. ⌜ now (z .exit) ≡ overwrite (now (z .entry)) 0 (sizeBytes n m) ⌝ }
+{
+    bigendian::put4(z, 0, n as u32);
+    bigendian::put4(z, 4, (16 + 4 * m) as u32);
+    bigendian::put4(z, 8, m as u32);
+}
+
+fn put_header(z: &mut [u8], n: usize, m: usize)
+    requires { ⌜ Fresh (length (now z)) n m ⌝ }
+    ensures { λ _. ⌜ now (z .exit) ≡ overwrite (now (z .entry)) 0 (headBytes n m) ⌝ }
+{
+    put_sizes(z, n, m);
+    let head = head_of(m);
+    bigendian::put2(z, 12, head);
+    bigendian::put2(z, 14, 0);
+}
+
+// What master i of m holds: the next one, 0 for none.
+fn link_after(i: usize, m: usize) -> u32
+    requires { ⌜ (i < m) × (m ≤ 8188) ⌝ }
+    ensures { λ r. ⌜ r ≡ linkAfter (16 + 4 * i) (m - (i + 1)) ⌝ }
+{
+    if i + 1 < m {
+        return (16 + 4 * i + 4) as u32;
+    }
+    0
+}
+
+// The masters, each with the offset of the next one.
+fn put_chain(z: &mut [u8], m: usize)
+    requires { ⌜ (16 + 4 * m ≤ length (now z)) × (m ≤ 8188) ⌝ }
+    ensures { λ _. ⌜ now (z .exit) ≡ overwrite (now (z .entry)) 16 (chainBytes 16 m) ⌝ }
+{
+    let mut i = 0;
+    while i < m {
+        let next = link_after(i, m);
+        bigendian::put4(z, 16 + 4 * i, next);
+        i += 1;
+    }
+}
+
+// The free block from `first` up to n; none where they are the same.
+fn put_free(z: &mut [u8], first: usize, n: usize)
+    requires { ⌜ (first ≤ n) × (n ≤ length (now z)) × (n ≤ 1048576) × ((n - first) % 4 ≡ 0) ⌝ }
+    ensures { λ _. ⌜ now (z .exit) ≡ overwrite (now (z .entry)) first (freeBytes (n - first)) ⌝ }
+{
+    if first < n {
+        bigendian::put4(z, first, ((n - first) / 2) as u32);
+        memory::fill_zero(z, first + BlockType::FREE_HEADER, n);
+    }
+}
+
+// Makes a zone of n bytes with m masters, all of them free.
+fn make(z: &mut [u8], n: usize, m: usize)
+    requires { ⌜ Fresh (length (now z)) n m ⌝ }
+    ensures { λ _. ⌜ now (z .exit) ≡ overwrite (now (z .entry)) 0 (freshBytes n m) ⌝ }
+{
+    put_header(z, n, m);
+    put_chain(z, m);
+    put_free(z, 16 + 4 * m, n);
+}
+
+pub struct Told {
+    pub number: u32,
+    pub value: u32,
+}
+
+// Makes a zone of `length` bytes with m masters at the start of the buffer. Answers the refusal number, 0 if done, and 0.
+pub fn initialize(zone: &mut [u8], length: u32, m: u32) -> Told
+    ensures { λ r. ⌜ result (told (r .number) (r .value)) (now (zone .exit)) ≡ initBytes length m (now (zone .entry)) ⌝ }
+{
+    let n = length as usize;
+    let k = m as usize;
+    if is_accepted(zone.len(), n, k) {
+        make(zone, n, k);
+        return Told {
+            number: 0,
+            value: 0,
+        };
+    }
+    Told {
+        number: 2,
+        value: 0,
+    }
+}

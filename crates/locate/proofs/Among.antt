@@ -1,0 +1,110 @@
+-- The named block among blocks: as the walk finds it, as a handle's master gives it, and as it is found in the bays.
+use mathlib.Core.Path.{_≡_, refl, ap, _∙_}
+use mathlib.Core.Bool.{Bool, true, false, cond, _&&_}
+use mathlib.Core.Option.{Option, none, some}
+use mathlib.Core.List.{List, [], _∷_}
+use Prim.Native.Nat.{ℕ, _+_, _-_}
+use native.Mathlib.Omega.{arith}
+use lib.ListN.{length}
+use lib.Dec.{eqb}
+use borrow.Author.Tests.{ne-eqb}
+use Rattle.structure.specs.Structure as Structure
+use Rattle.structure.specs.Structure.{Block, free, fixed, reloc, size}
+use Rattle.access.specs.Edit as Edit
+use Rattle.row.specs.Row.{kindB}
+use Rattle.calls.specs.Calls.{Target, by-handle, by-pointer}
+use Rattle.zone.specs.Bays.{Bays, last, more, over, orElse, findS, findF}
+use Rattle.zone.specs.Bay.{Item, get, items, Cell, free as gapCell, held}
+use Rattle.zone.specs.OnBays.{Fixed, pointer, content}
+use Rattle.zone.specs.ZoneBays.{zoneBays}
+use Rattle.zone.specs.Group.{inFront, group}
+use Rattle.locate.specs.Locate.{placeAmong, dataAmong}
+
+-- ---- by handle
+
+pub handle-place : (h at : ℕ) (bs : List Block) → Structure.placeOf h at bs ≡ placeAmong (by-handle h) at bs
+unfolding Structure.placeOf placeAmong
+handle-place h at [] = refl
+handle-place h at (free n ∷ bs) = handle-place h (at + n) bs
+handle-place h at (fixed d ∷ bs) = handle-place h (at + (2 + length d)) bs
+handle-place h at (reloc k d ∷ bs) = ap (cond (eqb h k) (at + 4)) (handle-place h (at + (4 + length d)) bs)
+
+pub handle-data : (h at : ℕ) (bs : List Block) → Edit.dataOf h bs ≡ dataAmong (by-handle h) at bs
+unfolding Edit.dataOf dataAmong
+handle-data h at [] = refl
+handle-data h at (free n ∷ bs) = handle-data h (at + n) bs
+handle-data h at (fixed d ∷ bs) = handle-data h (at + (2 + length d)) bs
+handle-data h at (reloc k d ∷ bs) = ap (cond (eqb h k) d) (handle-data h (at + (4 + length d)) bs)
+
+-- ---- by pointer, one block
+
+module _ (p at : ℕ) (bs : List Block) where
+  pub pointer-place : (b : Block) → placeAmong (by-pointer p) at (b ∷ bs) ≡ cond (eqb (kindB b) 1 && eqb p (at + 2)) (at + 2) (placeAmong (by-pointer p) (at + size b) bs)
+  unfolding placeAmong
+  pointer-place (free n) = refl
+  pointer-place (fixed d) = refl
+  pointer-place (reloc h d) = refl
+
+  pub pointer-data : (b : Block) → length (dataAmong (by-pointer p) at (b ∷ bs)) ≡ cond (eqb (kindB b) 1 && eqb p (at + 2)) (size b - 2) (length (dataAmong (by-pointer p) (at + size b) bs))
+  unfolding dataAmong
+  pointer-data (free n) = refl
+  pointer-data (fixed d) = go (eqb p (at + 2))
+    where
+      go : (t : Bool) → length (cond t d (dataAmong (by-pointer p) (at + (2 + length d)) bs)) ≡ cond t (2 + length d - 2) (length (dataAmong (by-pointer p) (at + (2 + length d)) bs))
+      go true = omega arith
+      go false = refl
+  pointer-data (reloc h d) = refl
+
+-- ---- in the bays
+
+abbrev pub orNone : ℕ → List ℕ → Option (List ℕ)
+orNone k d = cond (eqb k 0) none (some d)
+
+abbrev in-bays : Target → Bays (List Cell) Fixed → Option (List ℕ)
+in-bays t s = content zoneBays t s
+
+front-free : (t : Target) (n : ℕ) (s : Bays (List Cell) Fixed) → in-bays t (inFront (gapCell n) s) ≡ in-bays t s
+front-free (by-handle h) n (last b) = refl
+front-free (by-handle h) n (more b x s) = refl
+front-free (by-pointer p) n (last b) = refl
+front-free (by-pointer p) n (more b x s) = refl
+
+front-held : (h : ℕ) (e : Item) (s : Bays (List Cell) Fixed) → in-bays (by-handle h) (inFront (held e) s) ≡ cond (eqb h (e .handle)) (some (e .bytes)) (in-bays (by-handle h) s)
+front-held h e (last b) = go (eqb h (e .handle))
+  where
+    go : (t : Bool) → over (λ (e : Item). e .bytes) (cond t (some e) (get h (items b))) ≡ cond t (some (e .bytes)) (in-bays (by-handle h) (last b))
+    go true = refl
+    go false = refl
+front-held h e (more b x s) = go (eqb h (e .handle))
+  where
+    go : (t : Bool) → over (λ (e : Item). e .bytes) (orElse (cond t (some e) (get h (items b))) (findS (λ (b : List Cell). get h (items b)) s)) ≡ cond t (some (e .bytes)) (in-bays (by-handle h) (more b x s))
+    go true = refl
+    go false = refl
+
+front-pointer : (p : ℕ) (e : Item) (s : Bays (List Cell) Fixed) → in-bays (by-pointer p) (inFront (held e) s) ≡ in-bays (by-pointer p) s
+front-pointer p e (last b) = refl
+front-pointer p e (more b x s) = refl
+
+-- one step: named here, or later
+here : (t : Bool) (k j : ℕ) (d e : List ℕ) → (k ≡ 0 → ⊥) → cond t (some d) (orNone j e) ≡ orNone (cond t k j) (cond t d e)
+here true k j d e l = rw (ne-eqb k 0 l)
+here false k j d e l = refl
+
+-- the data of the named block are what the calls find in the bays
+pub content-among : (t : Target) (at : ℕ) (bs : List Block) → content zoneBays t (group at bs) ≡ orNone (placeAmong t at bs) (dataAmong t at bs)
+unfolding placeAmong dataAmong
+content-among (by-handle h) at [] = refl
+content-among (by-pointer p) at [] = refl
+content-among (by-handle h) at (free n ∷ bs) = front-free (by-handle h) n (group (at + n) bs) ∙ content-among (by-handle h) (at + n) bs
+content-among (by-pointer p) at (free n ∷ bs) = front-free (by-pointer p) n (group (at + n) bs) ∙ content-among (by-pointer p) (at + n) bs
+content-among (by-handle h) at (fixed d ∷ bs) = content-among (by-handle h) (at + (2 + length d)) bs
+content-among (by-pointer p) at (fixed d ∷ bs) = found (eqb p (at + 2)) ∙ ap (cond (eqb p (at + 2)) (some d)) (content-among (by-pointer p) (at + (2 + length d)) bs)
+    ∙ here (eqb p (at + 2)) (at + 2) _ d _ (λ e. omega arith)
+  where
+    found : (t : Bool) → over (λ (x : Fixed). x .bytes) (cond t (some (record { place = at; bytes = d })) (findF (λ (x : Fixed). eqb p (pointer x)) (group (at + (2 + length d)) bs)))
+        ≡ cond t (some d) (content zoneBays (by-pointer p) (group (at + (2 + length d)) bs))
+    found true = refl
+    found false = refl
+content-among (by-handle h) at (reloc k d ∷ bs) = front-held h (record { handle = k; bytes = d }) (group (at + (4 + length d)) bs)
+    ∙ ap (cond (eqb h k) (some d)) (content-among (by-handle h) (at + (4 + length d)) bs) ∙ here (eqb h k) (at + 4) _ d _ (λ e. omega arith)
+content-among (by-pointer p) at (reloc k d ∷ bs) = front-pointer p (record { handle = k; bytes = d }) (group (at + (4 + length d)) bs) ∙ content-among (by-pointer p) (at + (4 + length d)) bs

@@ -1,0 +1,3 @@
+pub mod Among
+pub mod Laws
+pub mod Data

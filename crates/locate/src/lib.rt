@@ -1,0 +1,124 @@
+// Where the data of a block lie that is named by handle or by pointer, and how many bytes they are.
+ghost use mathlib.Core.Path.{_≡_};
+ghost use mathlib.Core.Bool.{_&&_};
+ghost use Prim.Native.Nat.{_+_, _<_, _≤_};
+ghost use lib.ListN.{length, drop};
+ghost use lib.Dec.{eqb};
+ghost use Rattle.block_type.specs.Limits.{fixedCode, fixedHeader};
+ghost use Rattle.format.specs.WellFormed.{typeOf};
+ghost use Rattle.access.specs.Edit.{IsZone};
+ghost use Rattle.calls.specs.Calls.{by-handle, by-pointer};
+ghost use Rattle.locate.specs.Locate.{targetPlace, targetData, Located};
+use block_type::BlockType;
+
+// Where a block's data begin, 0 for no block, and how many bytes they are.
+pub struct Span {
+    pub at: usize,
+    pub size: usize,
+}
+
+// The data of a handle, in the bytes of a well-formed zone with none beyond its length.
+fn by_handle(z: &[u8], h: usize) -> Span
+    requires { ⌜ (IsZone (now z)) × (h < 4294967296) ⌝ }
+    ensures { λ r. ⌜ (r .at ≡ targetPlace (by-handle h) (now (z .entry))) × (r .size ≡ length (targetData (by-handle h) (now (z .entry)))) ⌝ }
+{
+    let at = access::place(z, h);
+    let size = access::data_size(z, h);
+    Span { at, size }
+}
+
+// Whether the block at `at` is fixed and has the pointer p.
+fn is_pointer(z: &[u8], at: usize, p: usize) -> bool
+    requires { ⌜ at + 4 ≤ length (now z) ⌝ }
+    ensures { λ r. ⌜ r ≡ (eqb (typeOf (drop at (now (z .entry)))) fixedCode && eqb p (at + fixedHeader)) ⌝ }
+{
+    (block_check::type_at(z, at) == BlockType::FIXED_CODE) & (p == at + BlockType::FIXED_HEADER)
+}
+
+// The data of a pointer, found from block to block: only the start of a fixed block counts.
+fn by_pointer(z: &[u8], p: usize) -> Span
+    requires { ⌜ IsZone (now z) ⌝ }
+    ensures { λ r. ⌜ (r .at ≡ targetPlace (by-pointer p) (now (z .entry))) × (r .size ≡ length (targetData (by-pointer p) (now (z .entry)))) ⌝ }
+{
+    let mut at = bigendian::get4(z, 4) as usize;
+    while at < z.len() {
+        let n = row::step(z, at);
+        if is_pointer(z, at, p) {
+            return Span {
+                at: p,
+                size: n - BlockType::FIXED_HEADER,
+            };
+        }
+        at += n;
+    }
+    Span { at: 0, size: 0 }
+}
+
+// A refusal number, 0 for none, and then a block's data.
+pub struct Found {
+    pub number: u32,
+    pub at: usize,
+    pub size: usize,
+}
+
+// The data of a handle in any buffer: refused with 1 or 6.
+pub fn find_handle(zone: &[u8], h: u32) -> Found
+    ensures { λ r. ⌜ Located (now (zone .entry)) (by-handle h) (r .number) (r .at) (r .size) ⌝ }
+{
+    let k = zone_check::check(zone);
+    let ok = k.ok;
+    if !ok {
+        return Found {
+            number: 1,
+            at: 0,
+            size: 0,
+        };
+    }
+    let l = bigendian::get4(zone, 0) as usize;
+    let s = by_handle(&zone[..l], h as usize);
+    let at = s.at;
+    let size = s.size;
+    if at == 0 {
+        return Found {
+            number: 6,
+            at: 0,
+            size: 0,
+        };
+    }
+    Found {
+        number: 0,
+        at,
+        size,
+    }
+}
+
+// The data of a pointer in any buffer: refused with 1 or 7.
+pub fn find_pointer(zone: &[u8], p: u32) -> Found
+    ensures { λ r. ⌜ Located (now (zone .entry)) (by-pointer p) (r .number) (r .at) (r .size) ⌝ }
+{
+    let k = zone_check::check(zone);
+    let ok = k.ok;
+    if !ok {
+        return Found {
+            number: 1,
+            at: 0,
+            size: 0,
+        };
+    }
+    let l = bigendian::get4(zone, 0) as usize;
+    let s = by_pointer(&zone[..l], p as usize);
+    let at = s.at;
+    let size = s.size;
+    if at == 0 {
+        return Found {
+            number: 7,
+            at: 0,
+            size: 0,
+        };
+    }
+    Found {
+        number: 0,
+        at,
+        size,
+    }
+}

@@ -1,0 +1,275 @@
+-- The laws that the roster's proofs cite.
+use mathlib.Core.Path.{_≡_, refl, ap, ap₂, sym, _∙_}
+use mathlib.Core.Bool.{Bool, true, false, cond, not}
+use mathlib.Core.List.{List, [], _∷_, _++_, append-assoc, List·Permᴰ, List·Permᴰ·nil, List·Permᴰ·cons, List·Permᴰ·swap, List·Permᴰ·trans}
+use Prim.Native.Nat.{ℕ, zero, suc, _+_, _-_, _*_, _/_, _≤_, _<_}
+use native.Mathlib.Omega.{arith}
+use native.Mathlib.Nat.{zero-add}
+use lib.Dec.{eqb}
+use borrow.Author.Tests.{not-true, eq-eqb, ne-eqb, le-leb, lt-leb}
+use lib.ListN.{length, getD, take, drop, length-append}
+use lib.Seq.{drop-at}
+use mir.Val.{Fits}
+use mir.Syntax.{w8, w32}
+use Rattle.bigendian.specs.BigEndian.{fromBE, toBE, slice, overwrite, Bytes}
+use Rattle.bigendian.proofs.Laws.{length-toBE, be-toBE}
+use Rattle.memory.proofs.Writes.{write-none}
+use Rattle.format.specs.WellFormed.{wellFormed, zoneOf, mastersField, countOf, offsets}
+use Rattle.structure.specs.Structure.{decode, decodeZone, start}
+use Rattle.structure.proofs.Table.{whole, len-is}
+use Rattle.access.specs.Edit.{placeIn, dataIn, IsZone, is-zone, whole-of}
+use Rattle.access.proofs.PutLaws.{data-fits}
+use Rattle.access.proofs.Size.{size-none}
+use Rattle.release.proofs.Act.{len-write, write-write}
+use Rattle.calls.specs.Calls.{Card, Answer, roster, shows, lists}
+use Rattle.zone.specs.OnBytes.{callBytes}
+use Rattle.zone.specs.Bays.{Bays}
+use Rattle.zone.specs.Bay.{Cell}
+use Rattle.zone.specs.OnBays.{Fixed}
+use Rattle.zone.specs.Group.{group}
+use Rattle.zone.specs.Roster.{cardBytes, cardsIn}
+use Rattle.tell.proofs.Opened.{well, fields-of}
+use Rattle.tell.proofs.CheckLaws.{count-live, count-blocks, count-few}
+use Rattle.roster.specs.Listed.{Rostered, cardOf, cardsOf, allCards, Entered, Planned, refused, ready}
+use Rattle.roster.proofs.Order.{length-cards, bayCards, cards-are, all-order}
+
+-- ---- one record
+
+data-small : (z : List ℕ) (h : ℕ) → IsZone z → length (dataIn z h) < 4294967296
+unfolding placeIn dataIn
+data-small z h i = go (placeIn z h) refl
+  where
+    go : (p : ℕ) → placeIn z h ≡ p → length (dataIn z h) < 4294967296
+    go zero e = omega (arith, size-none z h 0 (sym e) refl)
+    go (suc p) e =
+        let d = decodeZone z in
+        let w = whole-of z i in
+        omega (arith, data-fits h (start d) (d .blocks) (omega arith), len-is z w, w .limit)
+
+pub size-word : (z : List ℕ) (h n : ℕ) → IsZone z → n ≡ length (dataIn z h) → Fits w32 n
+size-word z h n i e = record { fits = omega (arith, data-small z h i) }
+
+pub put-two : (s y₁ y₂ : List ℕ) (at h n : ℕ) → at + 8 ≤ length s → y₁ ≡ overwrite s at (toBE 4 h) → y₂ ≡ overwrite y₁ (at + 4) (toBE 4 n) → y₂ ≡ overwrite s at (toBE 4 h ++ toBE 4 n)
+put-two s y₁ y₂ at h n l e₁ e₂ =
+    let a = length-toBE 4 h in
+    let b = length-toBE 4 n in
+    let q : at + 4 ≡ at + length (toBE 4 h) = omega arith in
+    e₂ ∙ (rw (e₁, q) (write-write s (toBE 4 h) (toBE 4 n) at (omega arith)))
+
+length-bytes : (cs : List Card) → length (cardBytes cs) ≡ 8 * length cs
+length-bytes [] = refl
+length-bytes (c ∷ cs) =
+    omega (
+      arith,
+      length-append (toBE 4 (c .handle)) (toBE 4 (c .amount) ++ cardBytes cs),
+      length-append (toBE 4 (c .amount)) (cardBytes cs),
+      length-toBE 4 (c .handle),
+      length-toBE 4 (c .amount),
+      length-bytes cs,
+    )
+
+module _ (z : List ℕ) (h p : ℕ) (e : p ≡ placeIn z h) where
+  cards-dead : p ≡ 0 → (hs : List ℕ) → cardsOf z (h ∷ hs) ≡ cardsOf z hs
+  unfolding cardsOf
+  cards-dead q hs = rw (← e, eq-eqb p 0 q)
+
+  cards-live : (p ≡ 0 → ⊥) → (hs : List ℕ) → cardsOf z (h ∷ hs) ≡ cardOf h (dataIn z h) ∷ cardsOf z hs
+  unfolding cardsOf
+  cards-live q hs = rw (← e, ne-eqb p 0 q)
+
+  pub enter-none : (s : List ℕ) (at : ℕ) → p ≡ 0 → Entered z s at h s at
+  enter-none s at q = record {
+    long = refl;
+    left = λ hs. rw (cards-dead q hs);
+    same = λ hs l. rw (cards-dead q hs);
+  }
+
+  pub enter-room : (at n : ℕ) → (p ≡ 0 → ⊥) → at + 8 * length (cardsOf z (h ∷ [])) ≤ n → at + 8 ≤ n
+  unfolding cardsOf
+  enter-room at n q l = omega (arith, ap length (cards-live q []))
+
+  pub enter-one : (s y : List ℕ) (at n : ℕ) → (p ≡ 0 → ⊥) → n ≡ length (dataIn z h) → at + 8 * length (cardsOf z (h ∷ [])) ≤ length s
+      → y ≡ overwrite s at (toBE 4 h ++ toBE 4 n) → Entered z s at h y (at + 8)
+  enter-one s y at n q en l ey =
+      let x : List ℕ = toBE 4 h ++ toBE 4 n in
+      let lx : length x ≡ 8 = omega (arith, length-append (toBE 4 h) (toBE 4 n), length-toBE 4 h, length-toBE 4 n) in
+      let r = enter-room at (length s) q l in
+      record {
+        long = len-write s x y at ey (omega arith);
+        left = λ hs. rw (cards-live q hs) (omega arith);
+        same = λ hs m.
+            let b : List ℕ = cardBytes (cardsOf z hs) in
+            let lb = length-bytes (cardsOf z hs) in
+            let lc = ap length (cards-live q hs) in
+            let k : at + 8 ≡ at + length x = omega arith in
+            (rw (ey, k) (write-write s x b at (omega arith)))
+            ∙ ap (overwrite s at) (append-assoc (toBE 4 h) (toBE 4 n) b ∙ (rw (cards-live q hs, en)));
+      }
+
+-- ---- all records
+
+offsets-next : (h left : ℕ) → 0 < left → offsets h left ≡ h ∷ offsets (h + 4) (left - 1)
+unfolding offsets
+offsets-next h zero l = let x : ⊥ = omega arith in absurd x
+offsets-next h (suc n) l = let e : suc n - 1 ≡ n = omega arith in rw e
+
+cards-more : (z hs : List ℕ) (h : ℕ) → length (cardsOf z (h ∷ [])) ≤ length (cardsOf z (h ∷ hs))
+unfolding cardsOf
+cards-more z hs h = go (eqb (placeIn z h) 0)
+  where
+    go : (t : Bool) → length (cond t [] (cardOf h (dataIn z h) ∷ [])) ≤ length (cond t (cardsOf z hs) (cardOf h (dataIn z h) ∷ cardsOf z hs))
+    go true = omega arith
+    go false = omega arith
+
+module _ (z : List ℕ) (at h left n : ℕ) where
+  pub fill-first : 0 < left → at + 8 * length (cardsOf z (offsets h left)) ≤ n → at + 8 * length (cardsOf z (h ∷ [])) ≤ n
+  fill-first l m = omega (arith, rw (offsets-next h left l) at m, cards-more z (offsets (h + 4) (left - 1)) h)
+
+module _ (z s y : List ℕ) (at h left r : ℕ) (t : Entered z s at h y r) (l : 0 < left) (m : at + 8 * length (cardsOf z (offsets h left)) ≤ length s) where
+  m′ : at + 8 * length (cardsOf z (h ∷ offsets (h + 4) (left - 1))) ≤ length s
+  m′ = rw (offsets-next h left l) at m
+
+  pub fill-room : r + 8 * length (cardsOf z (offsets (h + 4) (left - 1))) ≤ length y
+  fill-room = omega (arith, m′, t .long, t .left (offsets (h + 4) (left - 1)))
+
+  pub fill-step : (w : List ℕ) → overwrite s at (cardBytes (cardsOf z (offsets h left))) ≡ w → overwrite y r (cardBytes (cardsOf z (offsets (h + 4) (left - 1)))) ≡ w
+  fill-step w inv = t .same (offsets (h + 4) (left - 1)) m′ ∙ (rw (offsets-next h left l) at inv)
+
+pub fill-done : (z s : List ℕ) (at h left : ℕ) (w : List ℕ) → left ≤ 0 → overwrite s at (cardBytes (cardsOf z (offsets h left))) ≡ w → s ≡ w
+unfolding offsets cardsOf
+fill-done z s at h zero w l inv = sym (write-none s at) ∙ inv
+fill-done z s at h (suc n) w l inv = let x : ⊥ = omega arith in absurd x
+
+module _ (z : List ℕ) (left : ℕ) (e : left ≡ fromBE (slice z 8 4)) where
+  pub start-bytes : (s : List ℕ) → overwrite s 0 (cardBytes (cardsOf z (offsets 16 left))) ≡ overwrite s 0 (cardBytes (allCards z))
+  unfolding allCards
+  start-bytes s = rw e
+
+  pub start-room : (n : ℕ) → 8 * length (allCards z) ≤ n → 0 + 8 * length (cardsOf z (offsets 16 left)) ≤ n
+  unfolding allCards
+  start-room n l = rw e (omega arith)
+
+  pub start-masters : IsZone z → 16 + 4 * left ≤ 32768
+  start-masters i = omega (arith, whole-of z i .few)
+
+pub get-masters : (z : List ℕ) → IsZone z → 8 + 4 ≤ length z
+get-masters z i = omega (arith, whole-of z i .long)
+
+-- ---- the plan
+
+-- the bays of a buffer
+abbrev baysOf : List ℕ → Bays (List Cell) Fixed
+baysOf s = group (start (decode s)) (decode s .blocks)
+
+module _ (s : List ℕ) (y : Bytes s) (h : wellFormed s ≡ true) where
+  -- the answer where the second buffer is long enough, and where it is not
+  accepted : (entry : List ℕ) → 8 * countOf s ≤ length entry → (callBytes (roster entry) s) .answer ≡ lists (countOf s) (bayCards (baysOf s)) (drop (8 * countOf s) entry)
+  accepted entry l = rw (h, ← count-live s y h, le-leb (8 * countOf s) (length entry) l)
+
+  too-short : (entry : List ℕ) → length entry < 8 * countOf s → (callBytes (roster entry) s) .answer ≡ shows 10 entry
+  too-short entry l = rw (h, ← count-live s y h, lt-leb (8 * countOf s) (length entry) l)
+
+pub plan-1 : (s : List ℕ) (have : ℕ) (ok : Bool) → ok ≡ wellFormed s → not ok ≡ true → Planned s have 1 0 0
+plan-1 s have ok e q = refused (λ x. omega arith) (λ entry l. rw (← e, not-true ok q))
+
+module _ (s : List ℕ) (have n : ℕ) (ok : Bool) (e : ok ≡ wellFormed s) (q : not ok ≡ false) (y : (i : ℕ) → Fits w8 (getD s i 0)) (en : n ≡ countOf s) where
+  pub plan-10 : have / 8 < n → Planned s have 10 0 0
+  plan-10 l = refused (λ x. omega arith) (λ entry k. sym (too-short s (λ j. y j .fits) (well s ok e q) entry (omega arith)))
+
+  pub count-word : Fits w32 n
+  count-word = record { fits = omega (arith, count-few s (λ j. y j .fits) (well s ok e q)) }
+
+  pub plan-0 : (l : ℕ) → n ≤ have / 8 → l ≡ fromBE (slice s 0 4) → Planned s have 0 n l
+  plan-0 l k el = ready refl (well s ok e q) (λ j. y j .fits) el en (omega arith)
+
+-- ---- the call
+
+-- a permutation has as many elements
+perm-length : {A : Type 0} {a b : List A} → List·Permᴰ a b → length a ≡ length b
+perm-length List·Permᴰ·nil = refl
+perm-length (List·Permᴰ·cons e p) = ap suc (perm-length p)
+perm-length (List·Permᴰ·swap e f) = refl
+perm-length (List·Permᴰ·trans p q) = perm-length p ∙ perm-length q
+
+module _ (s : List ℕ) (y : Bytes s) (h : wellFormed s ≡ true) where
+  zone-is : IsZone (zoneOf s)
+  zone-is = is-zone (whole s y h)
+
+  order : List·Permᴰ (allCards (zoneOf s)) (bayCards (baysOf s))
+  unfolding decode
+  order = rw (cards-are (start (decodeZone (zoneOf s))) (decodeZone (zoneOf s) .blocks)) at (all-order (zoneOf s) zone-is)
+
+  how-many : length (allCards (zoneOf s)) ≡ countOf s
+  unfolding decode
+  how-many = perm-length (all-order (zoneOf s) zone-is) ∙ length-cards (decodeZone (zoneOf s) .blocks) ∙ sym (count-blocks s y h)
+
+module _ (s : List ℕ) (have n k l : ℕ) where
+  pub plan-fits : Planned s have n k l → n ≡ 0 → l ≤ length s
+  plan-fits (refused f g) z = absurd (f z)
+  plan-fits (ready a h y el ek r) z = omega (arith, fields-of s h .room)
+
+  pub plan-zone : Planned s have n k l → n ≡ 0 → IsZone (take l s)
+  plan-zone (refused f g) z = absurd (f z)
+  plan-zone (ready a h y el ek r) z = rw el (zone-is s y h)
+
+  pub plan-room : Planned s have n k l → n ≡ 0 → 8 * length (allCards (take l s)) ≤ have
+  plan-room (refused f g) z = absurd (f z)
+  plan-room (ready a h y el ek r) z = rw el (omega (arith, how-many s y h))
+
+-- numbers of 4 bytes
+abbrev Small : List Card → Type 0
+Small [] = Unit {0}
+Small (c ∷ cs) = (c .handle < 4294967296) × (c .amount < 4294967296) × Small cs
+
+cards-back : (cs : List Card) (t : List ℕ) → Small cs → cardsIn (length cs) (cardBytes cs ++ t) ≡ cs
+unfolding toBE
+cards-back [] t m = refl
+cards-back (c ∷ cs) t m =
+    ap₂ _∷_
+    (ap₂ (λ (h n : ℕ). record { handle = h; amount = n }) (be-toBE 4 (c .handle) (m .0)) (be-toBE 4 (c .amount) (m .1)))
+    (cards-back cs t (m .2))
+
+cards-small : (z : List ℕ) → IsZone z → (k n : ℕ) → k + 4 * n ≤ 4294967296 → Small (cardsOf z (offsets k n))
+unfolding cardsOf offsets
+cards-small z i k zero l = tt
+cards-small z i k (suc n) l = go (eqb (placeIn z k) 0) (cards-small z i (k + 4) n (omega arith))
+  where
+    go : (t : Bool) → Small (cardsOf z (offsets (k + 4) n)) → Small (cond t (cardsOf z (offsets (k + 4) n)) (cardOf k (dataIn z k) ∷ cardsOf z (offsets (k + 4) n)))
+    go true m = m
+    go false m = (omega arith, data-small z k i, m)
+
+all-small : (z : List ℕ) → IsZone z → Small (allCards z)
+unfolding allCards
+all-small z i = cards-small z i 16 (mastersField z) (omega (arith, whole-of z i .few))
+
+from-start : (s b : List ℕ) → overwrite s 0 b ≡ b ++ drop (length b) s
+from-start s b = rw zero-add
+
+module _ (s entry : List ℕ) (n k l : ℕ) where
+  pub roster-done : (out : List ℕ) → Planned s (length entry) n k l → n ≡ 0 → out ≡ overwrite entry 0 (cardBytes (allCards (take l s))) → Rostered s entry 0 k out
+  roster-done out (refused f g) z e = absurd (f z)
+  roster-done out (ready a h y el ek r) z e =
+      let i = zone-is s y h in
+      let cs : List Card = allCards (zoneOf s) in
+      let lc : length cs ≡ k = how-many s y h ∙ sym ek in
+      let lb = length-bytes cs in
+      let e′ : out ≡ cardBytes cs ++ drop (length (cardBytes cs)) entry = (rw el at e) ∙ from-start entry (cardBytes cs) in
+      let ans = accepted s y h entry (omega arith) in
+      let back : cardsIn k out ≡ cs = (rw (e′, ← lc)) ∙ cards-back cs (drop (length (cardBytes cs)) entry) (all-small (zoneOf s) i) in
+      record {
+        number = sym (ap (λ (x : Answer). x .number) ans);
+        value = ek ∙ sym (ap (λ (x : Answer). x .value) ans);
+        later = rw (ans, e′, ← ek) (drop-at (cardBytes cs) (drop (length (cardBytes cs)) entry) (8 * k) (omega arith) ∙ (rw (lb, lc)));
+        records = rw (ans, back) (order s y h);
+      }
+
+  pub roster-refused : Planned s (length entry) n k l → (n ≡ 0 → ⊥) → Rostered s entry n 0 entry
+  roster-refused (refused f g) z =
+      let ans = sym (g entry refl) in
+      record {
+        number = sym (ap (λ (x : Answer). x .number) ans);
+        value = sym (ap (λ (x : Answer). x .value) ans);
+        later = sym (ap (λ (x : Answer). x .bytes) ans);
+        records = rw ans List·Permᴰ·nil;
+      }
+  roster-refused (ready a h y el ek r) z = absurd (z a)

@@ -1,0 +1,136 @@
+-- The records in the order of the masters are those of the blocks in some order.
+use mathlib.Core.Path.{_≡_, refl, ap, sym, _∙_}
+use mathlib.Core.Bool.{Bool, true, false, cond}
+use mathlib.Core.List.{List, [], _∷_, map, List·Permᴰ, List·Permᴰ·nil, List·Permᴰ·cons, List·Permᴰ·swap, List·Permᴰ·trans, Permᴰ·refl}
+use Prim.Native.Nat.{ℕ, suc, _+_, _≤_}
+use native.Mathlib.Omega.{arith}
+use native.Mathlib.Decide.{ℕ-discrete}
+use lib.Dec.{eqb}
+use borrow.Author.Tests.{eq-eqb, ne-eqb}
+use lib.ListN.{length}
+use Rattle.format.specs.WellFormed.{mastersField, offsets}
+use Rattle.format.proofs.Count.{one, occurs, one-same, one-other}
+use Rattle.structure.specs.Structure.{Block, free, fixed, reloc, start, placeOf, relocCount, decodeZone}
+use Rattle.structure.proofs.Valid.{handlesOf, Valid}
+use Rattle.structure.proofs.Round.{place-none, offset-le}
+use Rattle.structure.proofs.Sound.{valid-zone}
+use Rattle.structure.proofs.Table.{count-is}
+use Rattle.access.specs.Edit.{dataOf, placeIn, dataIn, IsZone, whole-of}
+use Rattle.calls.specs.Calls.{Card}
+use Rattle.zone.specs.Bays.{Bays, last, more, concatS}
+use Rattle.zone.specs.Bay.{Item, Cell, free as gapCell, held, items}
+use Rattle.zone.specs.OnBays.{Fixed, card}
+use Rattle.zone.specs.Group.{inFront, group}
+use Rattle.roster.specs.Listed.{cardOf, cardsOf, allCards}
+
+-- ---- in the order of the blocks
+
+unfoldable pub blockCards : List Block → List Card
+blockCards [] = []
+blockCards (free n ∷ bs) = blockCards bs
+blockCards (fixed d ∷ bs) = blockCards bs
+blockCards (reloc h d ∷ bs) = cardOf h d ∷ blockCards bs
+
+pub length-cards : (bs : List Block) → length (blockCards bs) ≡ relocCount bs
+unfolding blockCards relocCount
+length-cards [] = refl
+length-cards (free n ∷ bs) = length-cards bs
+length-cards (fixed d ∷ bs) = length-cards bs
+length-cards (reloc h d ∷ bs) = ap suc (length-cards bs)
+
+-- the records of the bays
+abbrev pub bayCards : Bays (List Cell) Fixed → List Card
+bayCards s = concatS (λ (b : List Cell). map card (items b)) s
+
+cards-gap : (n : ℕ) (s : Bays (List Cell) Fixed) → bayCards (inFront (gapCell n) s) ≡ bayCards s
+cards-gap n (last b) = refl
+cards-gap n (more b x s) = refl
+
+cards-held : (e : Item) (s : Bays (List Cell) Fixed) → bayCards (inFront (held e) s) ≡ card e ∷ bayCards s
+cards-held e (last b) = refl
+cards-held e (more b x s) = refl
+
+pub cards-are : (p : ℕ) (bs : List Block) → blockCards bs ≡ bayCards (group p bs)
+unfolding blockCards
+cards-are p [] = refl
+cards-are p (free n ∷ bs) = cards-are (p + n) bs ∙ sym (cards-gap n (group (p + n) bs))
+cards-are p (fixed d ∷ bs) = cards-are (p + (2 + length d)) bs
+cards-are p (reloc h d ∷ bs) = ap (cardOf h d ∷_) (cards-are (p + (4 + length d)) bs) ∙ sym (cards-held (record { handle = h; bytes = d }) (group (p + (4 + length d)) bs))
+
+-- ---- in the order of some handles
+
+unfoldable cardsAt : List ℕ → ℕ → List Block → List Card
+cardsAt [] at bs = []
+cardsAt (h ∷ hs) at bs = cond (eqb (placeOf h at bs) 0) (cardsAt hs at bs) (cardOf h (dataOf h bs) ∷ cardsAt hs at bs)
+
+none-at : (hs : List ℕ) (at : ℕ) → cardsAt hs at [] ≡ []
+unfolding cardsAt placeOf
+none-at [] at = refl
+none-at (h ∷ hs) at = none-at hs at
+
+free-at : (hs : List ℕ) (n at : ℕ) (bs : List Block) → cardsAt hs at (free n ∷ bs) ≡ cardsAt hs (at + n) bs
+unfolding cardsAt placeOf dataOf
+free-at [] n at bs = refl
+free-at (h ∷ hs) n at bs = rw (free-at hs n at bs)
+
+fixed-at : (hs d : List ℕ) (at : ℕ) (bs : List Block) → cardsAt hs at (fixed d ∷ bs) ≡ cardsAt hs (at + (2 + length d)) bs
+unfolding cardsAt placeOf dataOf
+fixed-at [] d at bs = refl
+fixed-at (h ∷ hs) d at bs = rw (fixed-at hs d at bs)
+
+module _ (k : ℕ) (d : List ℕ) (at : ℕ) (bs : List Block) where
+  -- a block of another handle
+  other-at : (hs : List ℕ) → occurs k hs ≡ 0 → cardsAt hs at (reloc k d ∷ bs) ≡ cardsAt hs (at + (4 + length d)) bs
+  unfolding cardsAt placeOf dataOf occurs
+  other-at [] e = refl
+  other-at (h ∷ hs) e =
+      rw (ne-eqb h k (λ q. omega (arith, one-same k h (sym q))), other-at hs (omega arith))
+
+  -- a block of one of the handles
+  reloc-at : (hs : List ℕ) → occurs k hs ≡ 1 → placeOf k (at + (4 + length d)) bs ≡ 0 → List·Permᴰ (cardsAt hs at (reloc k d ∷ bs)) (cardOf k d ∷ cardsAt hs (at + (4 + length d)) bs)
+  unfolding cardsAt placeOf dataOf occurs
+  reloc-at [] e z = let x : ⊥ = omega arith in absurd x
+  reloc-at (h ∷ hs) e z = go (ℕ-discrete h k) (reloc-at hs)
+    where
+      swapped : (t : Bool) → List·Permᴰ (cardsAt hs at (reloc k d ∷ bs)) (cardOf k d ∷ cardsAt hs (at + (4 + length d)) bs)
+          → List·Permᴰ (cond t (cardsAt hs at (reloc k d ∷ bs)) (cardOf h (dataOf h bs) ∷ cardsAt hs at (reloc k d ∷ bs)))
+          (cardOf k d ∷ cond t (cardsAt hs (at + (4 + length d)) bs) (cardOf h (dataOf h bs) ∷ cardsAt hs (at + (4 + length d)) bs))
+      swapped true r = r
+      swapped false r = List·Permᴰ·trans (List·Permᴰ·cons refl r) (List·Permᴰ·swap refl refl)
+
+      go : Dec (h ≡ k) → (occurs k hs ≡ 1 → placeOf k (at + (4 + length d)) bs ≡ 0 → List·Permᴰ (cardsAt hs at (reloc k d ∷ bs)) (cardOf k d ∷ cardsAt hs (at + (4 + length d)) bs))
+          → List·Permᴰ (cardsAt (h ∷ hs) at (reloc k d ∷ bs)) (cardOf k d ∷ cardsAt (h ∷ hs) (at + (4 + length d)) bs)
+      go (yes q) r =
+          let z′ : placeOf h (at + (4 + length d)) bs ≡ 0 = rw q z in
+          rw (eq-eqb h k q, ne-eqb (at + 4) 0 (λ x. omega arith), z′, other-at hs (omega (arith, one-same k h (sym q)))) (List·Permᴰ·cons (ap (λ (x : ℕ). cardOf x d) q) (Permᴰ·refl _))
+      go (no q) r = rw (ne-eqb h k q) (swapped (eqb (placeOf h (at + (4 + length d)) bs) 0) (r (omega (arith, one-other k h (λ p. q (sym p)))) z))
+
+-- each block's handle is one of the handles, which are all different
+in-order : (hs : List ℕ) → ((h : ℕ) → occurs h hs ≤ 1) → (at : ℕ) (bs : List Block) → ((h : ℕ) → occurs h (handlesOf bs) ≤ occurs h hs) → List·Permᴰ (cardsAt hs at bs) (blockCards bs)
+unfolding blockCards handlesOf occurs
+in-order hs f at [] g = rw none-at List·Permᴰ·nil
+in-order hs f at (free n ∷ bs) g = rw (free-at hs n at bs) (in-order hs f (at + n) bs g)
+in-order hs f at (fixed d ∷ bs) g = rw (fixed-at hs d at bs) (in-order hs f (at + (2 + length d)) bs g)
+in-order hs f at (reloc k d ∷ bs) g =
+    let a = g k in
+    let b = f k in
+    let s = one-same k k refl in
+    List·Permᴰ·trans
+    (reloc-at k d at bs hs (omega arith) (place-none k (at + (4 + length d)) bs (omega arith)))
+    (List·Permᴰ·cons refl (in-order hs f (at + (4 + length d)) bs (λ h. omega (arith, g h))))
+
+-- ---- of a zone
+
+module _ (z : List ℕ) (i : IsZone z) where
+  at-zone : (hs : List ℕ) → cardsOf z hs ≡ cardsAt hs (start (decodeZone z)) (decodeZone z .blocks)
+  unfolding cardsOf cardsAt placeIn dataIn
+  at-zone [] = refl
+  at-zone (h ∷ hs) = rw (at-zone hs)
+
+  pub all-order : List·Permᴰ (allCards z) (blockCards (decodeZone z .blocks))
+  unfolding allCards
+  all-order =
+      let v : Valid (decodeZone z) = valid-zone z (whole-of z i) in
+      rw at-zone
+      (in-order (offsets 16 (mastersField z)) (λ h. offset-le h 16 (mastersField z)) (start (decodeZone z)) (decodeZone z .blocks)
+      (λ h. omega (arith, v .owned h, ap (λ (n : ℕ). occurs h (offsets 16 n)) (count-is z (whole-of z i)))))

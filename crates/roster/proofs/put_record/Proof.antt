@@ -1,0 +1,10 @@
+use Rattle.roster.proofs.Laws.{put-two}
+use borrow.Author.Needs.{needs}
+use Rattle.roster.proofs.put_record.Statement.{statement}
+use Rattle.roster.proofs.put_record.Tie as tie
+
+returns : tie.Need-returns
+returns c = search put-two
+
+pub put-record-spec : {M : Type 1} → statement M
+put-record-spec = tie.close (tie.spec (λ c κs. search needs) (λ c. search needs) (λ c κs. search needs) (λ c. search needs) returns)

@@ -1,0 +1,3 @@
+pub mod Refill
+pub mod Laws
+pub mod Outcomes

@@ -1,0 +1,64 @@
+-- What check answers is the answer of the definition.
+use mathlib.Core.Path.{_≡_, refl, ap, sym, _∙_}
+use mathlib.Core.Bool.{Bool, true, false, cond}
+use mathlib.Core.List.{List, [], _∷_}
+use Prim.Native.Nat.{ℕ, suc, _+_, _≤_}
+use native.Mathlib.Omega.{arith}
+use lib.ListN.{length, getD, drop}
+use mir.Val.{Fits}
+use mir.Syntax.{w8}
+use Rattle.bigendian.specs.BigEndian.{Bytes}
+use Rattle.format.specs.WellFormed.{wellFormed, countOf, splitBlocks, zoneOf, firstField}
+use Rattle.structure.specs.Structure.{Block, free, fixed, reloc, decode, decodeZone, start, relocCount}
+use Rattle.structure.proofs.Table.{Whole, whole, counts-decs}
+use Rattle.structure.proofs.Sound.{valid}
+use Rattle.zone.specs.Bays.{Bays, last, more, sumS}
+use Rattle.zone.specs.Bay.{Item, Cell, free as gapCell, held, items}
+use Rattle.zone.specs.OnBays.{Fixed}
+use Rattle.zone.specs.Group.{inFront, group}
+use Rattle.zone.specs.OnBytes.{callBytes}
+use Rattle.tell.proofs.Opened.{first-of}
+use Rattle.calls.specs.Calls.{check, answersTwo}
+
+-- how many relocatable blocks the bays have
+abbrev pub liveS : Bays (List Cell) Fixed → ℕ
+liveS s = sumS (λ (b : List Cell). length (items b)) s
+
+live-gap : (n : ℕ) (s : Bays (List Cell) Fixed) → liveS (inFront (gapCell n) s) ≡ liveS s
+live-gap n (last b) = refl
+live-gap n (more b x s) = refl
+
+live-held : (e : Item) (s : Bays (List Cell) Fixed) → liveS (inFront (held e) s) ≡ suc (liveS s)
+live-held e (last b) = refl
+live-held e (more b x s) = omega arith
+
+pub live-is : (p : ℕ) (bs : List Block) → relocCount bs ≡ liveS (group p bs)
+unfolding relocCount
+live-is p [] = refl
+live-is p (free n ∷ bs) = live-is (p + n) bs ∙ sym (live-gap n (group (p + n) bs))
+live-is p (fixed d ∷ bs) = omega (arith, live-is (p + (2 + length d)) bs)
+live-is p (reloc h d ∷ bs) = ap suc (live-is (p + (4 + length d)) bs) ∙ sym (live-held (record { handle = h; bytes = d }) (group (p + (4 + length d)) bs))
+
+-- the count of the check is the number of live handles
+pub count-live : (s : List ℕ) → Bytes s → wellFormed s ≡ true → countOf s ≡ liveS (group (start (decode s)) (decode s .blocks))
+unfolding decode decodeZone countOf
+count-live s y h =
+    let z : List ℕ = zoneOf s in
+    let w : Whole z = whole s y h in
+    rw (h, ← first-of s h) (sym (counts-decs z (firstField z) false (firstField z) (splitBlocks (drop (firstField z) z)) (w .parts .walk)) ∙ live-is (start (decodeZone z)) _)
+
+pub check-is : (s : List ℕ) (ok : Bool) (count : ℕ) → Bytes s → ok ≡ wellFormed s → count ≡ countOf s → answersTwo (cond ok 1 0) count ≡ (callBytes check s) .answer
+unfolding countOf
+check-is s true count y e k = rw (← e) (ap (answersTwo 1) (k ∙ count-live s y (sym e)))
+check-is s false count y e k = rw (← e) (ap (answersTwo 0) (k ∙ (rw (← e))))
+
+module _ (s : List ℕ) (y : Bytes s) (h : wellFormed s ≡ true) where
+  pub count-blocks : countOf s ≡ relocCount (decode s .blocks)
+  count-blocks = count-live s y h ∙ sym (live-is (start (decode s)) (decode s .blocks))
+
+  pub count-few : countOf s ≤ 8188
+  count-few = omega (arith, count-blocks, valid s y h .few)
+
+pub check-answer : (s : List ℕ) (ok : Bool) (count : ℕ) → ((i : ℕ) → Fits w8 (getD s i 0)) → ok ≡ wellFormed s → count ≡ countOf s
+    → answersTwo (cond ok 1 0) count ≡ (callBytes check s) .answer
+check-answer s ok count y e k = check-is s ok count (λ j. y j .fits) e k

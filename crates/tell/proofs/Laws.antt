@@ -1,0 +1,100 @@
+-- The laws that the proofs cite.
+use mathlib.Core.Path.{_≡_, refl, ap, ap₂, sym, _∙_}
+use mathlib.Core.Bool.{Bool, true, false, not}
+use mathlib.Core.List.{List}
+use Prim.Native.Nat.{ℕ, _+_, _≤_, _<_, max}
+use native.Mathlib.Omega.{arith}
+use lib.Dec.{eqb}
+use borrow.Author.Tests.{not-true}
+use lib.ListN.{length, getD, take, drop, length-drop, length-take}
+use mir.Val.{Fits}
+use mir.Syntax.{w8}
+use Rattle.access.specs.Edit.{IsZone, is-zone}
+use Rattle.release.proofs.Reach.{tiles-are}
+use Rattle.bigendian.specs.BigEndian.{fromBE, slice, Bytes}
+use Rattle.format.specs.WellFormed.{typeOf, sizeOf, handleOf, wellFormed, firstField, lengthField, zoneOf}
+use Rattle.format.specs.OneWalk.{blockOk}
+use Rattle.structure.specs.Structure.{free, fixed, reloc, decodeBlock, byType, decode, decodeZone, start, len}
+use Rattle.structure.proofs.Table.{by, whole, len-is}
+use Rattle.walk.specs.Walker.{blocksAt, Edge, edge, Seen, blockAt, freeAt, freeTotal}
+use Rattle.walk.proofs.Laws.{tiles-end, first-good}
+use Rattle.format.proofs.Walk.{is-first, kind-take}
+use Rattle.calls.specs.Calls.{sums, length-of, told}
+use Rattle.zone.specs.OnBytes.{callBytes}
+use Rattle.tell.specs.Largest.{largestOf, fixedB, summed, SumsIn, sums-in, Stepped}
+use Rattle.tell.proofs.SumLaws.{total-is, largest-is}
+use Rattle.tell.proofs.Opened.{well, fields-of}
+
+-- ---- the leaves
+
+pub fixed-law : (r : List ℕ) (k : ℕ) → k ≡ typeOf r → eqb k 1 ≡ eqb (typeOf r) 1
+fixed-law r k e = rw e
+
+-- ---- the walk
+
+fixed-dec : (z : List ℕ) (first : ℕ) (prev : Bool) (at : ℕ) (b : List ℕ) → blockOk z first prev at b ≡ true → fixedB (decodeBlock b) ≡ eqb (typeOf b) 1
+unfolding decodeBlock
+fixed-dec z first prev at b g =
+    by z first prev at b g (λ k. fixedB (byType k (free (sizeOf b)) (fixed (drop 2 b)) (reloc (handleOf b) (drop 4 b))) ≡ eqb k 1) (λ e. refl) (λ e. refl) (λ e. refl)
+
+fixed-seen : (z : List ℕ) (first p : ℕ) → Edge z first p → p < length z → fixedB (blockAt z p) ≡ eqb (typeOf (drop p z)) 1
+fixed-seen z first p (edge prev g) l =
+    let r = drop p z in
+    let g₀ = first-good z first prev p r (omega (arith, length-drop p z)) g in
+    let f = is-first z first prev p r g₀ in
+    fixed-dec z first prev p (take (sizeOf r) r) g₀ ∙ ap (λ (k : ℕ). eqb k 1) (kind-take (sizeOf r) r (f .low))
+
+module _ (z : List ℕ) (first p n cur best : ℕ) (s : Seen z first p n) (g : Edge z first p) (l : p < length z) (lc : cur ≤ p) (lb : best ≤ p) where
+  pub after-fixed : (b : ℕ) (f : Bool) → f ≡ eqb (typeOf (drop p z)) 1 → f ≡ true → b ≡ max best cur → Stepped z p n cur best 0 b
+  unfolding largestOf
+  after-fixed b f e q eb = record { same = rw (s .blocks, fixed-seen z first p g l, ← e, q, eb); cur-low = omega arith; best-low = omega arith }
+
+  pub after-other : (k : ℕ) (f : Bool) → f ≡ eqb (typeOf (drop p z)) 1 → f ≡ false → k ≡ freeAt z p n → k ≤ n → Stepped z p n cur best (cur + k) best
+  unfolding largestOf
+  after-other k f e q ek lk = record { same = rw (s .blocks, fixed-seen z first p g l, ← e, q, s .bytes, s .kind, ek); cur-low = omega arith; best-low = lb }
+
+pub largest-step : (z : List ℕ) (first p n cur best c b : ℕ) → Stepped z p n cur best c b → largestOf cur best (blocksAt z p) ≡ largestOf 0 0 (blocksAt z first)
+    → largestOf c b (blocksAt z (p + n)) ≡ largestOf 0 0 (blocksAt z first)
+largest-step z first p n cur best c b s inv = s .same ∙ inv
+
+pub largest-end : (z : List ℕ) (p cur best r w : ℕ) → length z ≤ p → r ≡ max best cur → largestOf cur best (blocksAt z p) ≡ w → r ≡ w
+unfolding largestOf
+largest-end z p cur best r w l e inv = e ∙ (rw (tiles-end z p l) at inv)
+
+-- ---- the sums of a zone
+
+pub sums-zone : (z : List ℕ) (first total most : ℕ) → first ≡ firstField z → total ≡ freeTotal (blocksAt z first) → most ≡ largestOf 0 0 (blocksAt z first) → SumsIn z 0 total most
+sums-zone z first total most e t m = sums-in refl (rw (← e) t) (rw (← e) m)
+
+-- ---- the calls
+
+pub sums-1 : (s : List ℕ) (ok : Bool) → ok ≡ wellFormed s → not ok ≡ true → summed 1 0 0 ≡ (callBytes sums s) .answer
+sums-1 s ok e q = rw (← e, not-true ok q)
+
+pub sums-0 : (s : List ℕ) (ok : Bool) (l n total most : ℕ) → ok ≡ wellFormed s → not ok ≡ false → l ≡ fromBE (slice s 0 4) → ((i : ℕ) → Fits w8 (getD s i 0)) → SumsIn (take l s) n total most
+    → summed n total most ≡ (callBytes sums s) .answer
+unfolding decode
+sums-0 s ok l n total most e q el y (sums-in a b c) =
+    let h : wellFormed s ≡ true = well s ok e q in
+    let i : IsZone (zoneOf s) = is-zone (whole s (λ j. y j .fits) h) in
+    let d = decodeZone (zoneOf s) in
+    rw (h, a, b, c, el)
+    (ap₂ (summed 0)
+    (ap freeTotal (tiles-are (zoneOf s) i) ∙ total-is (start d) (d .blocks))
+    (ap (largestOf 0 0) (tiles-are (zoneOf s) i) ∙ largest-is (start d) (d .blocks)))
+
+pub length-1 : (s : List ℕ) (ok : Bool) → ok ≡ wellFormed s → not ok ≡ true → told 1 0 ≡ (callBytes length-of s) .answer
+length-1 s ok e q = rw (← e, not-true ok q)
+
+-- the length of the structure is the length in the header
+pub length-is : (s : List ℕ) → Bytes s → wellFormed s ≡ true → len (decode s) ≡ lengthField s
+unfolding decode
+length-is s y h =
+    let w = whole s y h in
+    omega (arith, len-is (zoneOf s) w, w .all, length-take (lengthField s) s, fields-of s h .room)
+
+pub length-0 : (s : List ℕ) (ok : Bool) (l : ℕ) → ok ≡ wellFormed s → not ok ≡ false → l ≡ fromBE (slice s 0 4) → ((i : ℕ) → Fits w8 (getD s i 0))
+    → told 0 l ≡ (callBytes length-of s) .answer
+length-0 s ok l e q el y =
+    let h : wellFormed s ≡ true = well s ok e q in
+    rw (h, el) (ap (told 0) (sym (length-is s (λ j. y j .fits) h)))

@@ -1,0 +1,81 @@
+-- What the answers of sum, length and check say.
+use mathlib.Core.Path.{_≡_, refl, ap, sym, subst}
+use mathlib.Core.Bool.{Bool, true, false}
+use mathlib.Core.List.{List, List·Permᴰ, Permᴰ·refl}
+use Prim.Native.Nat.{ℕ, _%_, _≤_}
+use native.Mathlib.Omega.{arith}
+use lib.ListN.{length}
+use Rattle.bigendian.specs.BigEndian.{Bytes}
+use Rattle.format.specs.WellFormed.{wellFormed}
+use Rattle.structure.specs.Structure.{decode, start}
+use Rattle.zone.specs.Bays.{Bays, last, more, sumS, maxS}
+use Rattle.zone.specs.OnBytes.{callBytes, inBays}
+use Rattle.zone.specs.OnBays.{step}
+use Rattle.zone.specs.ZoneBays.{zoneBays}
+use Rattle.zone.specs.Promise.{Promise}
+use Rattle.zone.proofs.Run.{refused}
+use Rattle.zone.specs.Group.{group}
+use Rattle.zone.specs.Bay.{baySum}
+use Rattle.calls.specs.Calls.{Call, Answer, sums, length-of, check}
+use Rattle.tell.proofs.Opened.{fields-of}
+use Rattle.tell.proofs.Laws.{length-is}
+use Rattle.tell.proofs.CheckLaws.{count-live, count-few}
+
+most-total : {B F : Type 0} (μ : B → ℕ) (s : Bays B F) → maxS μ s ≤ sumS μ s
+most-total μ (last b) = omega arith
+most-total μ (more b x s) = omega (arith, most-total μ s)
+
+-- no bay has more free bytes than the zone
+pub largest-total : (s : List ℕ) → (callBytes sums s) .answer .second ≤ (callBytes sums s) .answer .value
+largest-total s = go (wellFormed s) refl
+  where
+    go : (t : Bool) → wellFormed s ≡ t → (callBytes sums s) .answer .second ≤ (callBytes sums s) .answer .value
+    go true h = rw h (most-total baySum (group (start (decode s)) (decode s .blocks)))
+    go false h = rw h (omega arith)
+
+-- the length of a zone is a multiple of 4 and within the buffer
+pub length-within : (s : List ℕ) → Bytes s → ((callBytes length-of s) .answer .value ≤ length s) × ((callBytes length-of s) .answer .value % 4 ≡ 0)
+length-within s y = go (wellFormed s) refl
+  where
+    go : (t : Bool) → wellFormed s ≡ t → ((callBytes length-of s) .answer .value ≤ length s) × ((callBytes length-of s) .answer .value % 4 ≡ 0)
+    go true h = let f = fields-of s h in let e = length-is s y h in (rw h (omega arith), rw h (omega arith))
+    go false h = (rw h (omega arith), rw h refl)
+
+-- no more handles are live than a zone can have masters
+pub check-few : (s : List ℕ) → Bytes s → (callBytes check s) .answer .second ≤ 8188
+check-few s y = go (wellFormed s) refl
+  where
+    go : (t : Bool) → wellFormed s ≡ t → (callBytes check s) .answer .second ≤ 8188
+    go true h = rw h (omega (arith, count-live s y h, count-few s y h))
+    go false h = rw h (omega arith)
+
+-- ---- no byte of the buffer changes
+
+pub unchanged : (c : Call) (s : List ℕ) → Bytes s → ((step zoneBays c (inBays (length s) (decode s))) .next ≡ inBays (length s) (decode s)) → (callBytes c s) .bytes ≡ s
+unchanged c s y e = go (wellFormed s) refl
+  where
+    go : (t : Bool) → wellFormed s ≡ t → (callBytes c s) .bytes ≡ s
+    go true h = refused s y h c e
+    go false h = rw h
+
+pub sum-bytes : (s : List ℕ) → Bytes s → (callBytes sums s) .bytes ≡ s
+sum-bytes s y = unchanged sums s y refl
+
+pub length-bytes : (s : List ℕ) → Bytes s → (callBytes length-of s) .bytes ≡ s
+length-bytes s y = unchanged length-of s y refl
+
+pub check-bytes : (s : List ℕ) → Bytes s → (callBytes check s) .bytes ≡ s
+check-bytes s y = unchanged check s y refl
+
+-- an answer that is the definition's, of a call that changes no byte, is what the call promises
+pub promised : (c : Call) (s : List ℕ) (a : Answer) → a ≡ (callBytes c s) .answer → (callBytes c s) .bytes ≡ s → Promise c s a s
+promised c s a e b = record {
+  answer = record {
+    number = ap (λ (x : Answer). x .number) e;
+    value = ap (λ (x : Answer). x .value) e;
+    second = ap (λ (x : Answer). x .second) e;
+    bytes = ap (λ (x : Answer). x .bytes) e;
+    records = subst (λ (x : Answer). List·Permᴰ (a .records) (x .records)) e (Permᴰ·refl (a .records));
+  };
+  bytes = sym b;
+}

@@ -1,0 +1,22 @@
+use Rattle.tell.proofs.Laws.{sums-zone}
+use Rattle.tell.proofs.Opened.{get-first}
+use Rattle.release.proofs.Reach.{zone-edge, zone-first}
+use borrow.Author.Needs.{needs}
+use Rattle.tell.proofs.sum_in.Statement.{statement}
+use Rattle.tell.proofs.sum_in.Tie as tie
+
+get4-requires : tie.Need-get4-requires
+get4-requires c κs = search get-first
+
+free-total-requires : tie.Need-free-total-requires
+free-total-requires c κs = (search zone-edge, search zone-first)
+
+largest-requires : tie.Need-largest-requires
+largest-requires c κs = (search zone-edge, search zone-first)
+
+returns : tie.Need-returns
+returns c = search sums-zone
+
+pub sum-in-spec : {M : Type 1} → statement M
+sum-in-spec =
+    tie.close (tie.spec get4-requires (λ c. search needs) free-total-requires largest-requires returns)

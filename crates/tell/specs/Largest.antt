@@ -1,0 +1,33 @@
+-- The sums of the bays, met by one walk.
+use mathlib.Core.Path.{_≡_}
+use mathlib.Core.Bool.{Bool, true, false, cond}
+use mathlib.Core.List.{List, [], _∷_}
+use Prim.Native.Nat.{ℕ, _+_, _≤_, max}
+use Rattle.format.specs.WellFormed.{firstField}
+use Rattle.structure.specs.Structure.{Block, free, fixed, reloc}
+use Rattle.walk.specs.Walker.{freeSize, freeTotal, blocksAt}
+use Rattle.calls.specs.Calls.{Answer}
+
+abbrev pub fixedB : Block → Bool
+fixedB (free n) = false
+fixedB (fixed d) = true
+fixedB (reloc h d) = false
+
+-- cur: the sum of this bay so far; best: the largest of the bays before
+unfoldable pub largestOf : ℕ → ℕ → List Block → ℕ
+largestOf cur best [] = max best cur
+largestOf cur best (b ∷ bs) = cond (fixedB b) (largestOf 0 (max best cur) bs) (largestOf (cur + freeSize b) best bs)
+
+-- the answer to `sum`: the refusal, the total of free bytes, the largest bay's sum
+abbrev pub summed : ℕ → ℕ → ℕ → Answer
+summed n total largest = record { number = n; value = total; second = largest; bytes = []; records = [] }
+
+-- the sums of a zone, with no bytes beyond its length
+pub data SumsIn (z : List ℕ) (n total largest : ℕ) : Type 0 where
+  sums-in : n ≡ 0 → total ≡ freeTotal (blocksAt z (firstField z)) → largest ≡ largestOf 0 0 (blocksAt z (firstField z)) → SumsIn z n total largest
+
+-- a block's step of the two
+pub record Stepped (z : List ℕ) (p n cur best c b : ℕ) : Type 0 where
+  pub same : largestOf c b (blocksAt z (p + n)) ≡ largestOf cur best (blocksAt z p)
+  pub cur-low : c ≤ p + n
+  pub best-low : b ≤ p

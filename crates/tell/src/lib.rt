@@ -1,0 +1,145 @@
+// The calls that only tell: the sums of the bays, the length of the zone, and whether it is well-formed.
+ghost use mathlib.Core.Path.{_≡_};
+ghost use mathlib.Core.Bool.{cond};
+ghost use Prim.Native.Nat.{_<_, _≤_, max};
+ghost use lib.ListN.{length, drop};
+ghost use lib.Dec.{eqb};
+ghost use Rattle.format.specs.WellFormed.{typeOf};
+ghost use Rattle.walk.specs.Walker.{blocksAt, Edge, Seen, freeAt};
+ghost use Rattle.access.specs.Edit.{IsZone};
+ghost use Rattle.zone.specs.OnBytes.{callBytes};
+ghost use Rattle.calls.specs.Calls.{told, answersTwo, sums, length-of, check};
+ghost use Rattle.tell.specs.Largest.{largestOf, summed, SumsIn, Stepped};
+
+fn is_fixed(z: &[u8], p: usize) -> bool
+    requires { ⌜ p < length (now z) ⌝ }
+    ensures { λ r. ⌜ r ≡ eqb (typeOf (drop p (now (z .entry)))) 1 ⌝ }
+{
+    block_check::type_at(z, p) == block_type::BlockType::FIXED_CODE
+}
+
+fn free_size(z: &[u8], p: usize, n: usize) -> usize
+    requires { ⌜ p < length (now z) ⌝ }
+    ensures { λ r. ⌜ (r ≡ freeAt (now (z .entry)) p n) × (r ≤ n) ⌝ }
+{
+    if block_check::is_free(z, p) {
+        return n;
+    }
+    0
+}
+
+fn larger(a: usize, b: usize) -> usize
+    ensures { λ r. ⌜ r ≡ max a b ⌝ }
+{
+    if a < b {
+        return b;
+    }
+    a
+}
+
+// The sum of the bay so far, and the largest sum of the bays before it.
+pub struct Run {
+    pub cur: usize,
+    pub best: usize,
+}
+
+// The two sums after the block at p: a fixed block ends the bay.
+fn after(z: &[u8], first: usize, p: usize, n: usize, cur: usize, best: usize) -> Run
+    requires { ⌜ (Seen (now z) first p n) × (Edge (now z) first p) × (p < length (now z)) × (cur ≤ p) × (best ≤ p) ⌝ }
+    ensures { λ r. ⌜ Stepped (now (z .entry)) p n cur best (r .cur) (r .best) ⌝ }
+{
+    if is_fixed(z, p) {
+        let most = larger(best, cur);
+        return Run { cur: 0, best: most };
+    }
+    let k = free_size(z, p, n);
+    let sum = cur + k;
+    Run { cur: sum, best }
+}
+
+// The largest sum of a bay.
+fn largest(z: &[u8], first: usize) -> usize
+    requires { ⌜ (Edge (now z) first first) × (first ≤ length (now z)) ⌝ }
+    ensures { λ r. ⌜ r ≡ largestOf 0 0 (blocksAt (now (z .entry)) first) ⌝ }
+{
+    let mut p = first;
+    let mut cur = 0;
+    let mut best = 0;
+    while p < z.len() {
+        let n = walk::step(z, first, p);
+        let r = after(z, first, p, n, cur, best);
+        cur = r.cur;
+        best = r.best;
+        p += n;
+    }
+    larger(best, cur)
+}
+
+pub struct Sums {
+    pub number: u32,
+    pub total: usize,
+    pub largest: usize,
+}
+
+// The sums of a well-formed zone, with no bytes beyond its length.
+fn sum_in(z: &[u8]) -> Sums
+    requires { ⌜ IsZone (now z) ⌝ }
+    ensures { λ r. ⌜ SumsIn (now (z .entry)) (r .number) (r .total) (r .largest) ⌝ }
+{
+    let first = bigendian::get4(z, 4) as usize;
+    let total = walk::free_total(z, first);
+    let most = largest(z, first);
+    Sums {
+        number: 0,
+        total,
+        largest: most,
+    }
+}
+
+// Total of free bytes and the largest bay's sum; 0 for each when refused.
+pub fn sum(zone: &[u8]) -> Sums
+    ensures { λ r. ⌜ summed (r .number) (r .total) (r .largest) ≡ (callBytes sums (now (zone .entry))) .answer ⌝ }
+{
+    let k = zone_check::check(zone);
+    let ok = k.ok;
+    if !ok {
+        return Sums {
+            number: 1,
+            total: 0,
+            largest: 0,
+        };
+    }
+    let l = bigendian::get4(zone, 0) as usize;
+    sum_in(&zone[..l])
+}
+
+// A refusal number, 0 for done, and a value.
+pub struct Told {
+    pub number: u32,
+    pub value: u32,
+}
+
+// The length of the zone.
+pub fn length(zone: &[u8]) -> Told
+    ensures { λ r. ⌜ told (r .number) (r .value) ≡ (callBytes length-of (now (zone .entry))) .answer ⌝ }
+{
+    let k = zone_check::check(zone);
+    let ok = k.ok;
+    if !ok {
+        return Told {
+            number: 1,
+            value: 0,
+        };
+    }
+    Told {
+        number: 0,
+        value: bigendian::get4(zone, 0),
+    }
+}
+
+// Yes or no, and the number of live handles; 0 for no.
+pub fn check(zone: &[u8]) -> zone_check::Checked
+    ensures { λ r. ⌜ answersTwo (cond (r .ok) 1 0) (r .count) ≡ (callBytes check (now (zone .entry))) .answer ⌝ }
+{
+    zone_check::check(zone)
+}

@@ -1,0 +1,16 @@
+use Rattle.walker.proofs.Laws.{start-1, start-0, has-first}
+use borrow.Author.Needs.{needs}
+use Rattle.walker.proofs.Walker.start.Statement.{statement}
+use Rattle.walker.proofs.Walker.start.Tie as tie
+
+returns : tie.Need-returns
+returns c = search start-1
+
+get4-requires : tie.Need-get4-requires
+get4-requires c κs = search has-first
+
+returns-2 : tie.Need-returns-2
+returns-2 c = search start-0
+
+pub start-spec : {M : Type 1} → statement M
+start-spec = tie.close (tie.spec (λ c κs. search needs) returns get4-requires (λ c. search needs) returns-2)
