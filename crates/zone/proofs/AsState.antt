@@ -138,7 +138,7 @@ change-fixed-as p f (Text.more b x l) = ap₂ (Bays.more (asRoom b)) (cond-ap as
 enter-as : (n : ℕ) (e : Entry) → n ≡ itemSize (asItem e) → (l : Line) → over asBays (Text.lowest (Text.reaches n) (Text.enter e) l) ≡ placeLow ledgerBays (asItem e) (asBays l)
 enter-as n e q = lowest-as _ _ _ _ (λ b. ap₂ leb q (sum-as b)) (λ b. refl)
 
-drop-as : (h : ℕ) (l : Line) → asBays (Text.onEntries (Text.without h) l) ≡ mapS (ledgerBays .drop h) (asBays l)
+drop-as : (h : ℕ) (l : Line) → asBays (Text.onEntries (Text.without h) l) ≡ mapS (ledgerBays .release h) (asBays l)
 drop-as h = on-entries-as _ _ (λ b. ap (room (b .capacity)) (without-as h (b .entries)))
 
 edit-as : (h : ℕ) (f : List ℕ → List ℕ) (l : Line) → asBays (Text.onEntries (map (Text.change h f)) l) ≡ mapS (ledgerBays .edit h f) (asBays l)
@@ -249,7 +249,7 @@ reshape-as h a l o =
 -- in another one
 move-as : (h a : ℕ) (e : Entry) (l : Line)
     → over asBays (Text.lowest (Text.reaches (relocHeader + a)) (Text.enter (record { handle = e .handle; bytes = sized a (e .bytes) })) (Text.onEntries (Text.without h) l))
-    ≡ placeLow ledgerBays (resized a (asItem e)) (mapS (ledgerBays .drop h) (asBays l))
+    ≡ placeLow ledgerBays (resized a (asItem e)) (mapS (ledgerBays .release h) (asBays l))
 move-as h a e l =
     enter-as (relocHeader + a) _ (ap (relocHeader +_) (sym (length-sized a (e .bytes)))) (Text.onEntries (Text.without h) l)
     ∙ ap (placeLow ledgerBays (resized a (asItem e))) (drop-as h l)

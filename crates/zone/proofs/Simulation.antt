@@ -52,7 +52,7 @@ pub record Agree {B C : Type 0} (o : BayKind B) (p : BayKind C) (L : Link B C) :
   pub new-size : (h a : ℕ) (x y : Item) → L .W h x y → L .W h (resized a x) (resized a y)
   pub empty : L .R (o .fresh 0) (p .fresh 0)
   pub put : (h : ℕ) (x y : Item) → L .W h x y → Block (itemSize x) → (b : B) (c : C) → L .R b c → itemSize x ≤ o .sum b → L .R (o .put x b) (p .put y c)
-  pub drop : (h : ℕ) (b : B) (c : C) → L .R b c → L .R (o .drop h b) (p .drop h c)
+  pub drop : (h : ℕ) (b : B) (c : C) → L .R b c → L .R (o .release h b) (p .release h c)
   pub edit : (h : ℕ) (f : List ℕ → List ℕ) → ((l : List ℕ) → length (f l) ≡ length l) → (b : B) (c : C) → L .R b c → L .R (o .edit h f b) (p .edit h f c)
   pub owner : (h a : ℕ) (b : B) (c : C) → L .R b c → own o h a b ≡ own p h a c
   pub reshape : (h a : ℕ) → a % 4 ≡ 0 → (b : B) (c : C) → L .R b c → own o h a b ≡ true → L .R (o .reshape h a b) (p .reshape h a c)
@@ -136,7 +136,7 @@ module _ {B C : Type 0} (o : BayKind B) (p : BayKind C) (L : Link B C) (agree : 
   resizeIn-same : (h a : ℕ) (x y : Item) → L .W h x y → a % 4 ≡ 0 → {s : Bays B Fixed} {t : Bays C Fixed} → Like R Q s t → Both (Like R Q) (resizeIn o h a x s) (resizeIn p h a y t)
   resizeIn-same h a x y w q l =
       orElse-both (onLow-like R Q (own o h a) (own p h a) (agree .owner h a) (o .reshape h a) (p .reshape h a) (λ b c r t. agree .reshape h a q b c r t) l)
-      (low-same h (resized a x) (resized a y) (agree .new-size h a x y w) (resized-block a x q) (mapS-like R Q (o .drop h) (p .drop h) (agree .drop h) l))
+      (low-same h (resized a x) (resized a y) (agree .new-size h a x y w) (resized-block a x q) (mapS-like R Q (o .release h) (p .release h) (agree .drop h) l))
 
   resize-same : (h c : ℕ) {s : State B} {t : State C} → AllS D (s .bays) → Sim s t → Same (resize h c) (resizeItem o h c s) (resizeItem p h c t)
   resize-same h c d (sim l) =
@@ -168,7 +168,7 @@ module _ {B C : Type 0} (o : BayKind B) (p : BayKind C) (L : Link B C) (agree : 
 
   free-same : (h : ℕ) {s : State B} {t : State C} → AllS D (s .bays) → Sim s t → Same (free-handle h) (freeHandle o h s) (freeHandle p h t)
   free-same h d (sim l) =
-      both-same 6 (sim l) (lookup-same h d l) (λ x y k. same refl (sim (mapS-like R Q (o .drop h) (p .drop h) (agree .drop h) l)))
+      both-same 6 (sim l) (lookup-same h d l) (λ x y k. same refl (sim (mapS-like R Q (o .release h) (p .release h) (agree .drop h) l)))
 
   freePointer-same : (q : ℕ) {s : State B} {t : State C} → Sim s t → Same (free-pointer q) (freePointer o q s) (freePointer p q t)
   freePointer-same q (sim l) =

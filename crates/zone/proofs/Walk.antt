@@ -59,7 +59,7 @@ pub record Closed {B : Type 0} (o : BayKind B) (K : (List ℕ → List ℕ) → 
       → Each (λ (b : Bays B Fixed). P (record { buf = s .buf; len = s .len; m = s .m; chain = hs; bays = b })) (placeLow o (newItem h c) (s .bays))
   pub high : (s : State B) (n : ℕ) → Block n → n ≤ fixedHeader + fixedLimit → P s → Each (λ (r : Fixed × Bays B Fixed). P (withBays (r .1) s)) (placeHigh o n (s .len) (s .bays))
   pub drop : (s : State B) (h : ℕ) → P s
-      → Each (λ (e : Item). P (record { buf = s .buf; len = s .len; m = s .m; chain = h ∷ s .chain; bays = mapS (o .drop h) (s .bays) })) (lookup o h s)
+      → Each (λ (e : Item). P (record { buf = s .buf; len = s .len; m = s .m; chain = h ∷ s .chain; bays = mapS (o .release h) (s .bays) })) (lookup o h s)
   pub join : (s : State B) (p : ℕ) → P s → Each (λ (b : Bays B Fixed). P (withBays b s)) (joinAt o p (s .bays))
   pub edit : (s : State B) (h : ℕ) (f : List ℕ → List ℕ) → ((l : List ℕ) → length (f l) ≡ length l) → K f → P s → P (withBays (mapS (o .edit h f) (s .bays)) s)
   pub edit-fixed : (s : State B) (p : ℕ) (f : List ℕ → List ℕ) → ((l : List ℕ) → length (f l) ≡ length l) → K f → P s → P (withBays (onFixed (alterFixed p f) (s .bays)) s)

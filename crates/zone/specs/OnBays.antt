@@ -34,7 +34,7 @@ pub record BayKind (B : Type 0) : Type 0 where
   -- a new block in it
   pub put : Item → B → B
   -- the block of a handle freed, its bytes changed, its data size changed
-  pub drop : ℕ → B → B
+  pub release : ℕ → B → B
   pub edit : ℕ → (List ℕ → List ℕ) → B → B
   pub reshape : ℕ → ℕ → B → B
   -- n bytes taken off its end
@@ -137,7 +137,7 @@ module _ {B : Type 0} (o : BayKind B) where
   -- "if its own bay's sum reaches a − b, it grows there", "Otherwise it moves to the lowest bay whose sum reaches 4 + a, as an
   -- allocation does, and the old place is freed"
   abbrev pub resizeIn : ℕ → ℕ → Item → Bays B Fixed → Option (Bays B Fixed)
-  resizeIn h a e s = orElse (onLow (own h a) (o .reshape h a) s) (placeLow (resized a e) (mapS (o .drop h) s))
+  resizeIn h a e s = orElse (onLow (own h a) (o .reshape h a) s) (placeLow (resized a e) (mapS (o .release h) s))
 
   -- ---- allocate, free, resize
 
@@ -163,7 +163,7 @@ module _ {B : Type 0} (o : BayKind B) where
   abbrev pub freeHandle : ℕ → State B → Out B
   freeHandle h s =
       orRefuse 6 s (lookup h s) (λ e.
-      done 0 (record { buf = s .buf; len = s .len; m = s .m; chain = h ∷ s .chain; bays = mapS (o .drop h) (s .bays) }))
+      done 0 (record { buf = s .buf; len = s .len; m = s .m; chain = h ∷ s .chain; bays = mapS (o .release h) (s .bays) }))
 
   abbrev pub freePointer : ℕ → State B → Out B
   freePointer p s = orRefuse 7 s (joinAt p (s .bays)) (λ b. done 0 (withBays b s))
@@ -193,7 +193,7 @@ module _ {B : Type 0} (o : BayKind B) where
   readBlock t i n buf s =
       orGive (says (shows (absentNumber t) buf) s) (content t (s .bays)) (λ v.
       cond (leb (i + n) (length v))
-      (cond (leb n (length buf)) (says (shows 0 (take n (lib.ListN.drop i v) ++ lib.ListN.drop n buf)) s) (says (shows 10 buf) s))
+      (cond (leb n (length buf)) (says (shows 0 (take n (drop i v) ++ drop n buf)) s) (says (shows 10 buf) s))
       (says (shows 8 buf) s))
 
   -- "copy count bytes .. from the start of a second buffer", which stays as it is
@@ -211,7 +211,7 @@ module _ {B : Type 0} (o : BayKind B) where
   abbrev pub viewBlock : Target → ℕ → ℕ → State B → Out B
   viewBlock t i n s =
       orGive (says (shows 0 []) s) (content t (s .bays)) (λ v.
-      cond (leb (i + n) (length v)) (says (shows 0 (take n (lib.ListN.drop i v))) s) (says (shows 0 []) s))
+      cond (leb (i + n) (length v)) (says (shows 0 (take n (drop i v))) s) (says (shows 0 []) s))
 
   -- ---- compact, sum, check, length, enlarge, shrink, roster
 
@@ -248,7 +248,7 @@ module _ {B : Type 0} (o : BayKind B) where
   abbrev pub rosterInto : List ℕ → State B → Out B
   rosterInto buf s =
       cond (leb (recordSize * liveCount s) (length buf))
-      (says (lists (liveCount s) (cards s) (lib.ListN.drop (recordSize * liveCount s) buf)) s)
+      (says (lists (liveCount s) (cards s) (drop (recordSize * liveCount s) buf)) s)
       (says (shows 10 buf) s)
 
   -- ---- one call
