@@ -9,9 +9,8 @@ use lib.ListN.{length}
 use lib.Dec.{leb, eqb}
 use borrow.Author.Tests.{leb-false, lt-leb}
 use Rattle.block_type.specs.Limits.{relocHeader, relocLimit, fixedLimit, up4, relocNeed, fixedNeed}
-use Rattle.calls.specs.Calls.{Call, allocate-relocatable, allocate-fixed, free-handle, free-pointer, resize, size, read, write, view, compact, sums, check, length-of, enlarge, shrink, roster}
 use Rattle.ledger.specs.Ledger.{Entry, Bay, Fixed, Line, last, more, Ledger, Lodged, Step, taken, sumOf, find, entryOf, orElse, before, lowest, reaches, without, onEntries, lodgedAfter, highest, roomIn, ownReaches, orRefuse, allocate, allocateFixed, resizeEntry, step}
-use Rattle.ledger.specs.Space.{resizeNeed, needOf, fits, asksSpace, noHandle, notLive, earlier}
+use Rattle.ledger.specs.Space.{Request, relocatable, fixed, resized, callOf, resizeNeed, needOf, fits, noHandle, notLive, earlier}
 
 -- how many entries have the handle, in a bay and in all
 abbrev pub countIn : ℕ → List Entry → ℕ
@@ -72,7 +71,7 @@ abbrev some-bay : (Bay → Bool) → Line → Bool
 some-bay ok (last b) = ok b
 some-bay ok (more b x l) = ok b || some-bay ok l
 
-fits-some-bay : (c : Call) (l : Line) → fits c l ≡ some-bay (λ b. leb (needOf c b) (sumOf b)) l
+fits-some-bay : (c : Request) (l : Line) → fits c l ≡ some-bay (λ b. leb (needOf c b) (sumOf b)) l
 fits-some-bay c (last b) = refl
 fits-some-bay c (more b x l) = ap (leb (needOf c b) (sumOf b) ||_) (fits-some-bay c l)
 
@@ -128,7 +127,7 @@ own-or-other h a b n = found (find h (b .entries)) (taken-without h (b .entries)
             sym (lt-leb (relocHeader + a) (b .capacity - taken (without h (b .entries))) (omega (arith, q, leb-false (a - length (e .bytes)) (sumOf b) p)))
 
 fits-resize : (h c : ℕ) (l : Line) → liveIn h l ≤ 1
-    → fits (resize h c) l ≡ some-bay (ownReaches h (up4 c)) l || some-bay (reaches (relocHeader + up4 c)) (onEntries (without h) l)
+    → fits (resized h c) l ≡ some-bay (ownReaches h (up4 c)) l || some-bay (reaches (relocHeader + up4 c)) (onEntries (without h) l)
 fits-resize h c (last b) n = own-or-other h (up4 c) b n
 fits-resize h c (more b x l) n =
     ap₂ _||_ (own-or-other h (up4 c) b (omega arith)) (fits-resize h c l (omega arith)) ∙ or-middle (ownReaches h (up4 c) b) _ _ _
@@ -136,56 +135,38 @@ fits-resize h c (more b x l) n =
 -- ---- the three calls
 
 allocate-number : (c h : ℕ) (hs : List ℕ) (l : Ledger) → leb c relocLimit ≡ true → l .stack ≡ h ∷ hs
-    → (allocate c l) .answer .number ≡ cond (fits (allocate-relocatable c) (l .line)) 0 5
+    → (allocate c l) .answer .number ≡ cond (fits (relocatable c) (l .line)) 0 5
 allocate-number c h hs l p q =
-    rw (p, q, fits-some-bay (allocate-relocatable c) (l .line)) (number-shown 5 _ _ (λ k. refl) (lowest-shown (reaches (relocNeed c)) _ (l .line)))
+    rw (p, q, fits-some-bay (relocatable c) (l .line)) (number-shown 5 _ _ (λ k. refl) (lowest-shown (reaches (relocNeed c)) _ (l .line)))
 
-fixed-number : (c : ℕ) (l : Ledger) → leb c fixedLimit ≡ true → (allocateFixed c l) .answer .number ≡ cond (fits (allocate-fixed c) (l .line)) 0 5
+fixed-number : (c : ℕ) (l : Ledger) → leb c fixedLimit ≡ true → (allocateFixed c l) .answer .number ≡ cond (fits (fixed c) (l .line)) 0 5
 fixed-number c l p =
-    rw (p, fits-some-bay (allocate-fixed c) (l .line)) (number-shown 5 _ _ (λ r. refl) (highest-shown (fixedNeed c) (l .len) (l .line)))
+    rw (p, fits-some-bay (fixed c) (l .line)) (number-shown 5 _ _ (λ r. refl) (highest-shown (fixedNeed c) (l .len) (l .line)))
 
 resize-number : (h c : ℕ) (e : Entry) (l : Ledger) → liveIn h (l .line) ≤ 1 → leb c relocLimit ≡ true → entryOf h (l .line) ≡ some e
-    → (resizeEntry h c l) .answer .number ≡ cond (fits (resize h c) (l .line)) 0 5
+    → (resizeEntry h c l) .answer .number ≡ cond (fits (resized h c) (l .line)) 0 5
 resize-number h c e l n p q =
     rw (q, p, fits-resize h c (l .line) n)
     (number-shown 5 _ _ (λ k. refl) (or-else-shown (lowest-shown (ownReaches h (up4 c)) _ (l .line)) (lowest-shown (reaches (relocHeader + up4 c)) _ (onEntries (without h) (l .line)))))
 
--- the other calls ask for no space
-refuted : {A : Type 0} → false ≡ true → A
-refuted q = let z : _≡_ {A = ℕ} 0 1 = cc in absurd (omega arith)
-
 -- an allocation or a resize that nothing earlier refuses, where no handle is live twice
-pub space : (c : Call) (l : Ledger) → ((h : ℕ) → liveIn h (l .line) ≤ 1) → asksSpace c ≡ true → earlier c l ≡ 0
-    → (step c l) .answer .number ≡ cond (fits c (l .line)) 0 5
-space (allocate-relocatable c) l o a e = go (leb c relocLimit) (l .stack) refl refl e
+pub space : (q : Request) (l : Ledger) → ((h : ℕ) → liveIn h (l .line) ≤ 1) → earlier q l ≡ 0 → (step (callOf q) l) .answer .number ≡ cond (fits q (l .line)) 0 5
+space (relocatable c) l o e = go (leb c relocLimit) (l .stack) refl refl e
   where
     go : (t : Bool) (s : List ℕ) → leb c relocLimit ≡ t → l .stack ≡ s → cond t (noHandle s) 3 ≡ 0
-        → (allocate c l) .answer .number ≡ cond (fits (allocate-relocatable c) (l .line)) 0 5
+        → (allocate c l) .answer .number ≡ cond (fits (relocatable c) (l .line)) 0 5
     go true (h ∷ hs) p q e = allocate-number c h hs l p q
     go true [] p q e = absurd (omega arith)
     go false s p q e = absurd (omega arith)
-space (allocate-fixed c) l o a e = go (leb c fixedLimit) refl e
+space (fixed c) l o e = go (leb c fixedLimit) refl e
   where
-    go : (t : Bool) → leb c fixedLimit ≡ t → _≡_ {A = ℕ} (cond t 0 3) 0 → (allocateFixed c l) .answer .number ≡ cond (fits (allocate-fixed c) (l .line)) 0 5
+    go : (t : Bool) → leb c fixedLimit ≡ t → _≡_ {A = ℕ} (cond t 0 3) 0 → (allocateFixed c l) .answer .number ≡ cond (fits (fixed c) (l .line)) 0 5
     go true p e = fixed-number c l p
     go false p e = absurd (omega arith)
-space (resize h c) l o a e = go (entryOf h (l .line)) (leb c relocLimit) refl refl e
+space (resized h c) l o e = go (entryOf h (l .line)) (leb c relocLimit) refl refl e
   where
     go : (f : Option Entry) (t : Bool) → entryOf h (l .line) ≡ f → leb c relocLimit ≡ t → notLive c f ≡ 0
-        → (resizeEntry h c l) .answer .number ≡ cond (fits (resize h c) (l .line)) 0 5
+        → (resizeEntry h c l) .answer .number ≡ cond (fits (resized h c) (l .line)) 0 5
     go none t q p e = absurd (omega arith)
     go (some f) true q p e = resize-number h c f l (o h) p q
     go (some f) false q p e = absurd (omega (arith, rw p at e))
-space (free-handle h) l o a e = refuted a
-space (free-pointer p) l o a e = refuted a
-space (size t) l o a e = refuted a
-space (read t i n second) l o a e = refuted a
-space (write t i n second) l o a e = refuted a
-space (view t i n) l o a e = refuted a
-space compact l o a e = refuted a
-space sums l o a e = refuted a
-space check l o a e = refuted a
-space length-of l o a e = refuted a
-space (enlarge k) l o a e = refuted a
-space (shrink k) l o a e = refuted a
-space (roster second) l o a e = refuted a

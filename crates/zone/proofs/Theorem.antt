@@ -17,7 +17,7 @@ use Rattle.structure.proofs.Round.{length-is}
 use Rattle.calls.specs.Calls.{Call, allocate-relocatable, allocate-fixed, free-handle, free-pointer, read, write, view, size, roster, check, length-of, resize, compact, sums, enlarge, shrink, Answer, answers, refusal}
 use Rattle.ledger.specs.Ledger as Text
 use Rattle.ledger.specs.Ledger.{Entry, Ledger, Line, entryOf, fixedOf}
-use Rattle.ledger.specs.Space.{Spot, spot, fixedSpots, asksSpace, earlier, fits}
+use Rattle.ledger.specs.Space.{Spot, spot, fixedSpots, callOf}
 use Rattle.ledger.proofs.Space.{space}
 use Rattle.zone.specs.Bays.{Bays, AllS, findF, over}
 use Rattle.zone.specs.Bay.{Item, Cell, gap}
@@ -208,10 +208,10 @@ claim {m} {b₀} {end} {cs} {as′} buf n z p o r =
       never-1 = a .1;
       bytes = a .2;
       stands = λ u v e. stands (at u v e);
-      space = λ u v c e s k.
-          let x = at u (c ∷ v) e in
-          next c (afterBytes u b₀) (OnBays.after zoneBays u z) (Text.after u l₀) (head-fed (fed-back u (c ∷ v) (subst Feed (sym e) f))) x .alike .number
-          ∙ space c (Text.after u l₀) (live-once x) s k;
+      space = λ u v q e k.
+          let x = at u (callOf q ∷ v) e in
+          next (callOf q) (afterBytes u b₀) (OnBays.after zoneBays u z) (Text.after u l₀) (head-fed (fed-back u (callOf q ∷ v) (subst Feed (sym e) f))) x .alike .number
+          ∙ space q (Text.after u l₀) (live-once x) k;
     }
 
 -- ---- from initialization on

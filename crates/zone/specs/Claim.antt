@@ -1,7 +1,7 @@
 -- Demand 3: THE CLAIM about every list of calls. Calls that keep their promises, one after the other on one buffer, answer as the
 -- ledger does, and the zone holds what the ledger holds.
 use mathlib.Core.Path.{_≡_}
-use mathlib.Core.Bool.{Bool, true, false, cond}
+use mathlib.Core.Bool.{true, cond}
 use mathlib.Core.List.{List, [], _∷_, _++_}
 use mathlib.Core.Option.{Option, none, some}
 use Prim.Native.Nat.{ℕ, _+_, _<_}
@@ -12,7 +12,7 @@ use Rattle.block_type.specs.Limits.{fixedCode}
 use Rattle.format.specs.WellFormed.{lengthField, firstField, typeOf, sizeOf, splitBlocks, masterAt, zoneOf, wellFormed}
 use Rattle.calls.specs.Calls.{Call, allocate-relocatable, allocate-fixed, free-handle, free-pointer, resize, size, read, write, view, compact, sums, check, length-of, enlarge, shrink, roster, Answer}
 use Rattle.ledger.specs.Ledger.{Ledger, Entry, Fixed, Line, entryOf, fixedOf, run, after, initial}
-use Rattle.ledger.specs.Space.{Spot, spot, fixedSpots, asksSpace, earlier, fits}
+use Rattle.ledger.specs.Space.{Spot, spot, fixedSpots, Request, callOf, earlier, fits}
 use Rattle.zone.specs.OnBytes.{callBytes, afterBytes}
 use Rattle.zone.specs.Promise.{Alike, Promise, InitPromise}
 
@@ -103,8 +103,8 @@ pub record Claim (buf n m : ℕ) (b₀ : List ℕ) (cs : List Call) (as′ : Lis
   pub stands : (p q : List Call) → p ++ q ≡ cs → Stands (afterBytes p b₀) (after p (initial buf n m))
   -- "Where nothing earlier in the order refuses an allocation or a resize, it gets "no space" exactly when no bay's sum reaches what
   -- the ledger needs of that bay"
-  pub space : (p q : List Call) (c : Call) → p ++ (c ∷ q) ≡ cs → asksSpace c ≡ true → earlier c (after p (initial buf n m)) ≡ 0
-      → (callBytes c (afterBytes p b₀)) .answer .number ≡ cond (fits c (after p (initial buf n m) .line)) 0 5
+  pub space : (p q : List Call) (r : Request) → p ++ (callOf r ∷ q) ≡ cs → earlier r (after p (initial buf n m)) ≡ 0
+      → (callBytes (callOf r) (afterBytes p b₀)) .answer .number ≡ cond (fits r (after p (initial buf n m) .line)) 0 5
 
 -- Its only premise is an accepted initialization of any buffer.
 abbrev pub TheList : Type 0
