@@ -1,0 +1,4 @@
+pub mod Last
+pub mod Bytes
+pub mod Call
+pub mod Outcome

@@ -1,0 +1,38 @@
+use Rattle.call_laws.proofs.Plan.{take-len}
+use Rattle.enlarge.proofs.Call.{call-fits, call-limit, call-idle, call-room, call-end, call-no}
+use borrow.Author.Needs.{needs}
+use Rattle.enlarge.proofs.enlarge.Statement.{statement}
+use Rattle.enlarge.proofs.enlarge.Tie as tie
+
+returns : tie.Need-returns
+returns c = search call-idle
+
+slice-relend-prefix-extend : tie.Need-slice-relend-prefix-extend
+slice-relend-prefix-extend c = search call-fits
+
+slice-aggregate-extend : tie.Need-slice-aggregate-extend
+slice-aggregate-extend c = search (take-len, call-fits)
+
+extend-requires : tie.Need-extend-requires
+extend-requires c κs = (search call-room, search call-limit)
+
+returns-2 : tie.Need-returns-2
+returns-2 c = search call-end
+
+returns-3 : tie.Need-returns-3
+returns-3 c = search call-no
+
+pub enlarge-spec : {M : Type 1} → statement M
+enlarge-spec =
+    tie.close
+    (tie.spec
+    (λ c κs. search needs)
+    (λ c. search needs)
+    returns
+    slice-relend-prefix-extend
+    slice-aggregate-extend
+    extend-requires
+    (λ c. search needs)
+    returns-2
+    (λ c. search needs)
+    returns-3)

@@ -1,0 +1,101 @@
+// Enlarge: the zone grows by k bytes of its buffer, which become zero and free, merged with a free last block.
+ghost use mathlib.Core.Path.{_≡_};
+ghost use Prim.Native.Nat.{_+_, _-_, _≤_};
+ghost use lib.ListN.{length};
+ghost use Rattle.bigendian.specs.BigEndian.{toBE, overwrite};
+ghost use Rattle.structure.specs.Structure.{encodeBlock, free};
+ghost use Rattle.access.specs.Edit.{IsZone};
+ghost use Rattle.calls.specs.Calls.{told, enlarge};
+ghost use Rattle.zone.specs.OnBytes.{result, callBytes};
+ghost use Rattle.enlarge.specs.Enlarge.{accepts, TailIn, Planned};
+
+// Whether a zone of n bytes, k of them new, is possible in a buffer of `buf` bytes.
+fn is_accepted(buf: usize, n: usize, k: usize) -> bool
+    ensures { λ r. ⌜ r ≡ accepts buf n k ⌝ }
+{
+    (k % 4 == 0) & (n <= buf) & (n <= 1048576)
+}
+
+// Where the last block starts if it is free, else where the blocks end.
+fn last_free(z: &[u8]) -> usize
+    requires { ⌜ IsZone (now z) ⌝ }
+    ensures { λ r. ⌜ TailIn (now (z .entry)) r ⌝ }
+{
+    let first = bigendian::get4(z, 4) as usize;
+    walk::low(z, first, z.len())
+}
+
+pub struct EnlargePlan {
+    pub number: u32,
+    pub len: usize,
+    pub from: usize,
+}
+
+// The plan: the refusal, 0 for none, and then the new length and where its last free block starts.
+fn enlarge_plan(zone: &[u8], k: u32) -> EnlargePlan
+    ensures { λ r. ⌜ Planned (now (zone .entry)) k (r .number) (r .len) (r .from) ⌝ }
+{
+    let c = zone_check::check(zone);
+    let ok = c.ok;
+    if !ok {
+        return EnlargePlan {
+            number: 1,
+            len: 0,
+            from: 0,
+        };
+    }
+    let l = bigendian::get4(zone, 0) as usize;
+    let n = l + k as usize;
+    if is_accepted(zone.len(), n, k as usize) {
+        let from = last_free(&zone[..l]);
+        return EnlargePlan {
+            number: 0,
+            len: n,
+            from,
+        };
+    }
+    EnlargePlan {
+        number: 9,
+        len: 0,
+        from: 0,
+    }
+}
+
+// The zone's length is that of z, and from `from` on z is one free block.
+fn extend(z: &mut [u8], from: usize)
+    requires { ⌜ (from + 4 ≤ length (now z)) × (length (now z) ≤ 1048576) ⌝ }
+    ensures { λ _. ⌜ now (z .exit) ≡ overwrite (overwrite (now (z .entry)) 0 (toBE 4 (length (now (z .entry))))) from (encodeBlock (free (length (now (z .entry)) - from))) ⌝ }
+{
+    let n = z.len();
+    bigendian::put4(z, 0, n as u32);
+    release::blank(z, from, n);
+}
+
+pub struct Told {
+    pub number: u32,
+    pub value: u32,
+}
+
+// Lengthens the zone by k bytes. Answers the refusal number, 0 if done, and 0.
+pub fn enlarge(zone: &mut [u8], k: u32) -> Told
+    ensures { λ r. ⌜ result (told (r .number) (r .value)) (now (zone .exit)) ≡ callBytes (enlarge k) (now (zone .entry)) ⌝ }
+{
+    let p = enlarge_plan(zone, k);
+    let number = p.number;
+    let n = p.len;
+    let from = p.from;
+    if number == 0 {
+        if k == 0 {
+            return Told {
+                number: 0,
+                value: 0,
+            };
+        }
+        extend(&mut zone[..n], from);
+        return Told {
+            number: 0,
+            value: 0,
+        };
+    }
+    Told { number, value: 0 }
+}

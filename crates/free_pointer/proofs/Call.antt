@@ -1,0 +1,239 @@
+-- The plan and the call.
+use mathlib.Core.Path.{_≡_, refl, sym, ap, ap₂, _∙_, subst}
+use mathlib.Core.Bool.{Bool, true, false, cond}
+use mathlib.Core.Option.{Option, none, some}
+use mathlib.Core.List.{List, [], _∷_, _++_, append-nil}
+use Prim.Native.Nat.{ℕ, _+_, _-_, _%_, _≤_}
+use native.Mathlib.Omega.{arith}
+use lib.ListN.{length, getD, take, drop}
+use mir.Val.{Fits}
+use mir.Syntax.{w8}
+use Rattle.bigendian.specs.BigEndian.{fromBE, slice, overwrite, Bytes}
+use Rattle.format.specs.WellFormed.{wellFormed, zoneOf, lengthField}
+use Rattle.structure.specs.Structure.{Block, free, Structure, sizes, start, encodeBlock, encode, decode, decodeZone, join}
+use Rattle.structure.proofs.Valid.{handlesOf, Valid}
+use Rattle.structure.proofs.Table.{Whole, len-is, encode-zone}
+use Rattle.structure.proofs.Sound.{valid-zone}
+use Rattle.access.specs.Edit.{IsZone, whole-of}
+use Rattle.row.specs.Row.{Sound}
+use Rattle.row.proofs.Laws.{low-of, sound-left, sound-right}
+use Rattle.release.proofs.Freed.{sizes-append}
+use Rattle.surgery.proofs.Sound.{valid-sound}
+use Rattle.surgery.proofs.Plain.{plain}
+use Rattle.calls.specs.Calls.{told, refusal, by-pointer, free-pointer}
+use Rattle.zone.specs.Bays.{Bays, last, more, over, findF, onJoin}
+use Rattle.zone.specs.Bay.{Cell}
+use Rattle.zone.specs.OnBays.{Fixed, orRefuse, done, withBays, joinAt}
+use Rattle.zone.specs.ZoneBays.{zoneBays}
+use Rattle.zone.specs.Group.{flatten}
+use Rattle.zone.specs.OnBytes.{Zone, inBays, result, callBytes}
+use Rattle.call_laws.proofs.Plan.{bytes-of, has-length, has-zone, has-whole}
+use Rattle.call_laws.proofs.Outcome.{call-ill, call-same, call-done}
+use Rattle.locate.specs.Locate as Locate
+use Rattle.locate.specs.Locate.{Located, targetPlace, targetData}
+use Rattle.locate.proofs.Data.{content-none}
+use Rattle.free_pointer.specs.Free.{joined, Span, SpanIn, span-of, Planned, ill-formed, absent, planned}
+
+-- ---- the plan
+
+module _ (s : List ℕ) (p number at size : ℕ) (f : Located s (by-pointer p) number at size) where
+  pub plan-no : (number ≡ 0 → ⊥) → Planned s p number 0 0 0
+  plan-no ne = go f
+    where
+      go : Located s (by-pointer p) number at size → Planned s p number 0 0 0
+      go (Locate.ill-formed y w k a n) = ill-formed w k
+      go (Locate.absent y w t k a n) = absent w t k
+      go (Locate.present y w a l n k) = absurd (ne k)
+
+  module _ (z : number ≡ 0) where
+    is-well : wellFormed s ≡ true
+    is-well = go f
+      where
+        go : Located s (by-pointer p) number at size → wellFormed s ≡ true
+        go (Locate.ill-formed y w k a n) = let x : ⊥ = omega arith in absurd x
+        go (Locate.absent y w t k a n) = w
+        go (Locate.present y w a l n k) = w
+
+    bytes : Bytes s
+    bytes = go f
+      where
+        go : Located s (by-pointer p) number at size → Bytes s
+        go (Locate.ill-formed y w k a n) = y
+        go (Locate.absent y w t k a n) = y
+        go (Locate.present y w a l n k) = y
+
+    pub plan-length : 4 ≤ length s
+    plan-length = has-length s true (sym is-well) refl
+
+    pub plan-live : at ≡ 0 → ⊥
+    plan-live = go f
+      where
+        go : Located s (by-pointer p) number at size → at ≡ 0 → ⊥
+        go (Locate.ill-formed y w k a n) e = omega arith
+        go (Locate.absent y w t k a n) e = omega arith
+        go (Locate.present y w a l n k) e = l e
+
+    module _ (l : ℕ) (el : l ≡ fromBE (slice s 0 4)) where
+      pub plan-fits : l ≤ length s
+      plan-fits = has-zone s true (sym is-well) refl l el
+
+      pub plan-zone : IsZone (take l s)
+      plan-zone = has-whole s true (sym is-well) refl l el bytes
+
+      pub plan-place : at ≡ targetPlace (by-pointer p) (take l s)
+      plan-place = go f
+        where
+          go : Located s (by-pointer p) number at size → at ≡ targetPlace (by-pointer p) (take l s)
+          go (Locate.ill-formed y w k a n) = let x : ⊥ = omega arith in absurd x
+          go (Locate.absent y w t k a n) = let x : ⊥ = omega arith in absurd x
+          go (Locate.present y w a g n k) = rw el a
+
+      pub plan-data : size ≡ length (targetData (by-pointer p) (take l s))
+      plan-data = go f
+        where
+          go : Located s (by-pointer p) number at size → size ≡ length (targetData (by-pointer p) (take l s))
+          go (Locate.ill-formed y w k a n) = let x : ⊥ = omega arith in absurd x
+          go (Locate.absent y w t k a n) = let x : ⊥ = omega arith in absurd x
+          go (Locate.present y w a g n k) = rw el n
+
+      pub plan-yes : (from to : ℕ) → SpanIn (take l s) p from to → Planned s p 0 l from to
+      plan-yes from to sp = planned is-well refl el plan-fits plan-zone sp
+
+-- ---- one write
+
+sound-four : (bs : List Block) → Sound bs → sizes bs % 4 ≡ 0
+unfolding sizes
+sound-four [] s = refl
+sound-four (b ∷ bs) s = omega (arith, low-of b (s .0) .1, sound-four bs (s .1))
+
+module _ (z : List ℕ) (i : IsZone z) (p from to : ℕ) (sp : SpanIn z p from to) where
+  w : Whole z
+  w = whole-of z i
+
+  abbrev d : Structure
+  d = decodeZone z
+
+  v : Valid d
+  v = valid-zone z w
+
+  abbrev q : Span p (start d) (d .blocks) from to
+  q = span-of z p from to sp
+
+  abbrev n : ℕ
+  n = sizes (q .mid)
+
+  four : n % 4 ≡ 0
+  four = sound-four (q .mid) (sound-left (q .mid) (q .post) (sound-right (q .pre) (q .mid ++ q .post) (subst Sound (q .parts) (valid-sound d v))))
+
+  pub act-low : from + 4 ≤ to
+  act-low = omega (arith, four, q .low, q .is-to)
+
+  pub act-high : to ≤ length z
+  act-high = omega (arith, q .is-to, q .is-from, len-is z w, w .all, ap sizes (q .parts), sizes-append (q .pre) (q .mid ++ q .post), sizes-append (q .mid) (q .post))
+
+  pub act-limit : length z ≤ 1048576
+  act-limit = omega (arith, w .limit, w .all)
+
+  freed : (y : List ℕ) → y ≡ overwrite z from (encodeBlock (free (to - from))) → y ≡ encode (record { links = d .links; blocks = q .pre ++ free n ∷ q .post })
+  unfolding sizes handlesOf join
+  freed y e =
+      let k : to - from ≡ n = omega (arith, q .is-to) in
+      let b = plain d v (q .pre) (q .mid) (free n ∷ []) (q .post) (q .parts) (omega arith) ((omega (arith, four, q .low), four, omega (arith, act-high, act-limit, q .is-to)), tt) (q .masters) refl in
+      e
+      ∙ ap₂ (λ (o : ℕ) (x : List ℕ). overwrite z o x) (q .is-from) (ap (λ (j : ℕ). encodeBlock (free j)) k ∙ sym (append-nil (encodeBlock (free n))))
+      ∙ ap (λ (x : List ℕ). overwrite x (start d + sizes (q .pre)) (encodeBlock (free n) ++ [])) (sym (encode-zone z w))
+      ∙ b
+
+-- ---- the call
+
+join-none : (t : Fixed → Bool) (j : List Cell → Fixed → List Cell → List Cell) (s : Bays (List Cell) Fixed) → over (λ (x : Fixed). x .bytes) (findF t s) ≡ none → onJoin t j s ≡ none
+join-none t j (last b) e = refl
+join-none t j (more b x s) e = go (t x) refl e (join-none t j s)
+  where
+    go : (u : Bool) → t x ≡ u → over (λ (x : Fixed). x .bytes) (cond u (some x) (findF t s)) ≡ none → (over (λ (x : Fixed). x .bytes) (findF t s) ≡ none → onJoin t j s ≡ none)
+        → onJoin t j (more b x s) ≡ none
+    go true g e f = let z : _≡_ {A = ℕ} 0 1 = cc in let x : ⊥ = omega arith in absurd x
+    go false g e f = rw g (ap (over (more b x)) (f e))
+
+module _ (s : List ℕ) (y : Bytes s) (wf : wellFormed s ≡ true) (p : ℕ) where
+  abbrev z₀ : Zone
+  z₀ = inBays (length s) (decode s)
+
+  call-7 : targetPlace (by-pointer p) (zoneOf s) ≡ 0 → callBytes (free-pointer p) s ≡ result (refusal 7) s
+  call-7 e =
+      call-same s y wf (free-pointer p) (refusal 7)
+      (ap (λ (o : Option (Bays (List Cell) Fixed)). orRefuse 7 z₀ o (λ b. done 0 (withBays b z₀))) (join-none _ _ (z₀ .bays) (content-none (by-pointer p) s e)))
+
+  call-0 : (bs : List Block) → joined p (start (decode s)) (decode s .blocks) ≡ some bs
+      → callBytes (free-pointer p) s ≡ result (told 0 0) (encode (record { links = decode s .links; blocks = bs }) ++ drop (lengthField s) s)
+  unfolding joined
+  call-0 bs e = go (joinAt zoneBays p (z₀ .bays)) refl e
+    where
+      go : (o : Option (Bays (List Cell) Fixed)) → joinAt zoneBays p (z₀ .bays) ≡ o → over flatten o ≡ some bs
+          → callBytes (free-pointer p) s ≡ result (told 0 0) (encode (record { links = decode s .links; blocks = bs }) ++ drop (lengthField s) s)
+      go none q e = let z : _≡_ {A = ℕ} 0 1 = cc in let x : ⊥ = omega arith in absurd x
+      go (some b) q e =
+          let k : flatten b ≡ bs = cc in
+          call-done s y wf (free-pointer p) tt (done 0 (withBays b z₀)) (ap (λ (o : Option (Bays (List Cell) Fixed)). orRefuse 7 z₀ o (λ b. done 0 (withBays b z₀))) q) refl
+          (record { links = decode s .links; blocks = bs }) (λ i. record { links = decode s .links; blocks = k i })
+
+  done-is : (from to : ℕ) (x : List ℕ) → IsZone (zoneOf s) → SpanIn (zoneOf s) p from to → x ≡ overwrite (zoneOf s) from (encodeBlock (free (to - from)))
+      → result (told 0 0) (x ++ drop (lengthField s) s) ≡ callBytes (free-pointer p) s
+  unfolding decode
+  done-is from to x i sp e =
+      let q = span-of (zoneOf s) p from to sp in
+      ap (λ (b : List ℕ). result (told 0 0) (b ++ drop (lengthField s) s)) (freed (zoneOf s) i p from to sp x e)
+      ∙ sym (call-0 (q .pre ++ free (sizes (q .mid)) ∷ q .post) (q .result))
+
+module _ (s : List ℕ) (p number l from to : ℕ) (f : Planned s p number l from to) where
+  module _ (z : number ≡ 0) where
+    pub call-fits : l ≤ length s
+    call-fits = go f
+      where
+        go : Planned s p number l from to → l ≤ length s
+        go (ill-formed w k) = let x : ⊥ = omega arith in absurd x
+        go (absent w t k) = let x : ⊥ = omega arith in absurd x
+        go (planned w k el g i sp) = g
+
+    call-zone : IsZone (take l s)
+    call-zone = go f
+      where
+        go : Planned s p number l from to → IsZone (take l s)
+        go (ill-formed w k) = let x : ⊥ = omega arith in absurd x
+        go (absent w t k) = let x : ⊥ = omega arith in absurd x
+        go (planned w k el g i sp) = i
+
+    call-span : SpanIn (take l s) p from to
+    call-span = go f
+      where
+        go : Planned s p number l from to → SpanIn (take l s) p from to
+        go (ill-formed w k) = let x : ⊥ = omega arith in absurd x
+        go (absent w t k) = let x : ⊥ = omega arith in absurd x
+        go (planned w k el g i sp) = sp
+
+    pub call-low : from + 4 ≤ to
+    call-low = act-low (take l s) call-zone p from to call-span
+
+    pub call-high : to ≤ length (take l s)
+    call-high = act-high (take l s) call-zone p from to call-span
+
+    pub call-limit : length (take l s) ≤ 1048576
+    call-limit = act-limit (take l s) call-zone p from to call-span
+
+    pub call-end : (y : List ℕ) → ((i : ℕ) → Fits w8 (getD s i 0)) → y ≡ overwrite (take l s) from (encodeBlock (free (to - from))) → result (told 0 0) (y ++ drop l s) ≡ callBytes (free-pointer p) s
+    call-end y b e = go f
+      where
+        go : Planned s p number l from to → result (told 0 0) (y ++ drop l s) ≡ callBytes (free-pointer p) s
+        go (ill-formed w k) = let x : ⊥ = omega arith in absurd x
+        go (absent w t k) = let x : ⊥ = omega arith in absurd x
+        go (planned w k el g i sp) =
+            subst (λ (j : ℕ). IsZone (take j s) → SpanIn (take j s) p from to → y ≡ overwrite (take j s) from (encodeBlock (free (to - from))) → result (told 0 0) (y ++ drop j s) ≡ callBytes (free-pointer p) s)
+            (sym el) (done-is s (bytes-of s b) w p from to y) i sp e
+
+  pub call-no : ((i : ℕ) → Fits w8 (getD s i 0)) → (number ≡ 0 → ⊥) → result (told number 0) s ≡ callBytes (free-pointer p) s
+  call-no b ne = go f
+    where
+      go : Planned s p number l from to → result (told number 0) s ≡ callBytes (free-pointer p) s
+      go (ill-formed w k) = rw k (sym (call-ill s (free-pointer p) w))
+      go (absent w t k) = rw k (sym (call-7 s (bytes-of s b) w p t))
+      go (planned w k el g i sp) = absurd (ne k)

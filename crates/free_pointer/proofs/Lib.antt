@@ -1,0 +1,5 @@
+pub mod Steps
+pub mod Find
+pub mod Reach
+pub mod Call
+pub mod Outcome

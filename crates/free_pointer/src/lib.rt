@@ -1,0 +1,91 @@
+// Free by pointer: the fixed block becomes free, merged with free neighbours. No master changes.
+ghost use mathlib.Core.Path.{_≡_};
+ghost use lib.ListN.{length};
+ghost use Rattle.access.specs.Edit.{IsZone};
+ghost use Rattle.calls.specs.Calls.{by-pointer, told, free-pointer};
+ghost use Rattle.zone.specs.OnBytes.{result, callBytes};
+ghost use Rattle.locate.specs.Locate.{targetPlace, targetData};
+ghost use Rattle.free_pointer.specs.Free.{SpanIn, Planned};
+use block_type::BlockType;
+
+pub struct Extent {
+    pub from: usize,
+    pub to: usize,
+}
+
+// Where the fixed block of pointer p and its free neighbours lie; its n bytes of data lie at `at`.
+fn find_extent(z: &[u8], p: usize, at: usize, n: usize) -> Extent
+    requires { ⌜ (IsZone (now z)) × (at ≡ targetPlace (by-pointer p) (now z)) × (at ≡ 0 → ⊥) × (n ≡ length (targetData (by-pointer p) (now z))) ⌝ }
+    ensures { λ r. ⌜ SpanIn (now (z .entry)) p (r .from) (r .to) ⌝ }
+{
+    let first = bigendian::get4(z, 4) as usize;
+    let from = walk::low(z, first, at - BlockType::FIXED_HEADER);
+    let end = at + n;
+    if z.len() <= end {
+        return Extent { from, to: end };
+    }
+    let k = walk::step(z, first, end);
+    if block_check::is_free(z, end) {
+        return Extent { from, to: end + k };
+    }
+    Extent { from, to: end }
+}
+
+pub struct FreePlan {
+    pub number: u32,
+    pub len: usize,
+    pub from: usize,
+    pub to: usize,
+}
+
+// The plan: the refusal, 0 for none, and then the zone's length and the extent that becomes one free block.
+fn free_plan(zone: &[u8], p: u32) -> FreePlan
+    ensures { λ r. ⌜ Planned (now (zone .entry)) p (r .number) (r .len) (r .from) (r .to) ⌝ }
+{
+    let f = locate::find_pointer(zone, p);
+    let number = f.number;
+    let at = f.at;
+    let size = f.size;
+    if number == 0 {
+        let l = bigendian::get4(zone, 0) as usize;
+        let e = find_extent(&zone[..l], p as usize, at, size);
+        let from = e.from;
+        let to = e.to;
+        return FreePlan {
+            number: 0,
+            len: l,
+            from,
+            to,
+        };
+    }
+    FreePlan {
+        number,
+        len: 0,
+        from: 0,
+        to: 0,
+    }
+}
+
+pub struct Told {
+    pub number: u32,
+    pub value: u32,
+}
+
+// Frees a pointer's block. Answers the refusal number, 0 if done, and 0.
+pub fn free_pointer(zone: &mut [u8], p: u32) -> Told
+    ensures { λ r. ⌜ result (told (r .number) (r .value)) (now (zone .exit)) ≡ callBytes (free-pointer p) (now (zone .entry)) ⌝ }
+{
+    let f = free_plan(zone, p);
+    let number = f.number;
+    let l = f.len;
+    let from = f.from;
+    let to = f.to;
+    if number == 0 {
+        release::blank(&mut zone[..l], from, to);
+        return Told {
+            number: 0,
+            value: 0,
+        };
+    }
+    Told { number, value: 0 }
+}
