@@ -1,0 +1,5 @@
+pub mod Bays
+pub mod Call
+pub mod Outcome
+pub mod Placed
+pub mod Zone

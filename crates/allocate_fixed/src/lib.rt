@@ -1,0 +1,130 @@
+// Allocate fixed: a block at the high end of the highest bay whose sum reaches its size.
+ghost use mathlib.Core.Path.{_≡_};
+ghost use Prim.Native.Nat.{_+_};
+ghost use Rattle.structure.specs.Structure.{encode, decodeZone};
+ghost use Rattle.access.specs.Edit.{IsZone};
+ghost use Rattle.calls.specs.Calls.{told, allocate-fixed};
+ghost use Rattle.zone.specs.OnBytes.{result, callBytes};
+ghost use Rattle.allocate_fixed.specs.Fixed.{allocated};
+ghost use Rattle.allocate_fixed.specs.Site.{SiteIn, PlannedIn, Planned};
+use block_type::BlockType;
+
+// The new block of need bytes at the end of the bay from a to e. Its data are zero, also where a free block's header stood.
+fn place(z: &mut [u8], need: usize, a: usize, e: usize, sum: usize, tail: usize)
+    requires { ⌜ SiteIn (now z) need a e sum tail ⌝ }
+    ensures { λ _. ⌜ now (z .exit) ≡ encode (allocated need (decodeZone (now (z .entry)))) ⌝ }
+{
+    take_high::take_high(z, need, a, e, sum, tail);
+    bigendian::put2(
+        z,
+        e - need,
+        (BlockType::FIXED_CODE as usize * 16384 + need / 2) as u32,
+    );
+}
+
+pub struct Plan {
+    pub number: u32,
+    pub len: usize,
+    pub need: usize,
+    pub start: usize,
+    pub end: usize,
+    pub sum: usize,
+    pub tail: usize,
+}
+
+fn no_plan(number: u32) -> Plan
+    ensures { λ r. ⌜ (r .number ≡ number) × (r .len ≡ 0) ⌝ }
+{
+    Plan {
+        number,
+        len: 0,
+        need: 0,
+        start: 0,
+        end: 0,
+        sum: 0,
+        tail: 0,
+    }
+}
+
+// The plan in a well-formed zone.
+fn plan_in(z: &[u8], c: u32) -> Plan
+    requires { ⌜ IsZone (now z) ⌝ }
+    ensures { λ r. ⌜ PlannedIn (now (z .entry)) c (r .number) (r .need) (r .start) (r .end) (r .sum) (r .tail) ⌝ }
+{
+    if BlockType::FIXED_LIMIT < c {
+        return no_plan(3);
+    }
+    let need = (BlockType::FIXED_HEADER + c as usize + 3) / 4 * 4;
+    let first = bigendian::get4(z, 4) as usize;
+    let b = take_high::find_high(z, first, need);
+    let found = b.found;
+    let start = b.start;
+    let end = b.end;
+    let sum = b.sum;
+    let tail = b.tail;
+    if found {
+        return Plan {
+            number: 0,
+            len: 0,
+            need,
+            start,
+            end,
+            sum,
+            tail,
+        };
+    }
+    no_plan(5)
+}
+
+// The plan: the refusal, 0 for none, and then where the new block goes.
+fn plan_zone(zone: &[u8], c: u32) -> Plan
+    ensures { λ r. ⌜ Planned (now (zone .entry)) c (r .number) (r .len) (r .need) (r .start) (r .end) (r .sum) (r .tail) ⌝ }
+{
+    let k = zone_check::check(zone);
+    let ok = k.ok;
+    if !ok {
+        return no_plan(1);
+    }
+    let l = bigendian::get4(zone, 0) as usize;
+    let p = plan_in(&zone[..l], c);
+    let number = p.number;
+    let need = p.need;
+    let start = p.start;
+    let end = p.end;
+    let sum = p.sum;
+    let tail = p.tail;
+    Plan {
+        number,
+        len: l,
+        need,
+        start,
+        end,
+        sum,
+        tail,
+    }
+}
+
+pub struct Told {
+    pub number: u32,
+    pub value: u32,
+}
+
+// Allocates a fixed block for c data bytes. Answers the refusal number, 0 if done, and the offset of its data, its pointer.
+pub fn allocate_fixed(zone: &mut [u8], c: u32) -> Told
+    ensures { λ r. ⌜ result (told (r .number) (r .value)) (now (zone .exit)) ≡ callBytes (allocate-fixed c) (now (zone .entry)) ⌝ }
+{
+    let p = plan_zone(zone, c);
+    let number = p.number;
+    let l = p.len;
+    let need = p.need;
+    let start = p.start;
+    let end = p.end;
+    let sum = p.sum;
+    let tail = p.tail;
+    if number == 0 {
+        place(&mut zone[..l], need, start, end, sum, tail);
+        let value = (end - need + BlockType::FIXED_HEADER) as u32;
+        return Told { number: 0, value };
+    }
+    Told { number, value: 0 }
+}

@@ -1,0 +1,37 @@
+use Rattle.call_laws.proofs.Plan.{take-len}
+use Rattle.shrink.proofs.Call.{call-fits, call-site, call-word, call-end, call-no}
+use borrow.Author.Needs.{needs}
+use Rattle.shrink.proofs.shrink.Statement.{statement}
+use Rattle.shrink.proofs.shrink.Tie as tie
+
+returns : tie.Need-returns
+returns c = search call-no
+
+slice-relend-prefix-strip : tie.Need-slice-relend-prefix-strip
+slice-relend-prefix-strip c = search call-fits
+
+slice-aggregate-strip : tie.Need-slice-aggregate-strip
+slice-aggregate-strip c = search (take-len, call-fits)
+
+strip-requires : tie.Need-strip-requires
+strip-requires c κs = search call-site
+
+cast-value : tie.Need-cast-value
+cast-value c = search call-word
+
+returns-2 : tie.Need-returns-2
+returns-2 c = search call-end
+
+pub shrink-spec : {M : Type 1} → statement M
+shrink-spec =
+    tie.close
+    (tie.spec
+    (λ c κs. search needs)
+    (λ c. search needs)
+    returns
+    slice-relend-prefix-strip
+    slice-aggregate-strip
+    strip-requires
+    cast-value
+    (λ c. search needs)
+    returns-2)

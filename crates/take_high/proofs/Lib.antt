@@ -1,0 +1,5 @@
+pub mod Numbers
+pub mod Taken
+pub mod Trimmed
+pub mod Walk
+pub mod Zone
