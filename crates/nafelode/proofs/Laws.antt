@@ -12,7 +12,8 @@ same e = record {
   value = ap (λ (x : Answer). x .value) e;
   second = ap (λ (x : Answer). x .second) e;
   bytes = ap (λ (x : Answer). x .bytes) e;
-  records = rw (← e) (Permᴰ·refl _) }
+  records = rw (← e) (Permᴰ·refl _);
+}
 
 pub promised : (c : Call) (s e : List ℕ) (a : Answer) → result a e ≡ callBytes c s → Promise c s a e
 promised c s e a q = record { answer = same (ap (λ (r : Result). r .answer) q); bytes = ap (λ (r : Result). r .bytes) q }
