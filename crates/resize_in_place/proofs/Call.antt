@@ -1,0 +1,208 @@
+-- The call resize: its first two refusals, and a block that changes its size where it stands.
+use mathlib.Core.Path.{_≡_, refl, sym, ap, ap₂, _∙_, subst}
+use mathlib.Core.Bool.{Bool, true, false, cond}
+use mathlib.Core.Option.{Option, none, some, Option·getD}
+use mathlib.Core.List.{List, [], _∷_, _++_, append-assoc}
+use Prim.Native.Nat.{ℕ, _+_, _-_, _<_, _≤_}
+use native.Mathlib.Omega.{arith}
+use lib.ListN.{length, drop}
+use lib.Dec.{eqb, leb}
+use borrow.Author.Tests.{le-leb, lt-leb}
+use Rattle.bigendian.specs.BigEndian.{Bytes}
+use Rattle.block_type.specs.Limits.{relocLimit, up4}
+use Rattle.format.specs.WellFormed.{wellFormed, zoneOf, lengthField}
+use Rattle.format.proofs.Count.{occurs, one-same, occurs-append}
+use Rattle.structure.specs.Structure.{Block, reloc, Structure, start, encode, decode, decodeZone}
+use Rattle.structure.proofs.Valid.{handlesOf, Tiled, Valid}
+use Rattle.structure.proofs.Sound.{valid}
+use Rattle.access.specs.Edit.{placeIn, dataIn, dataOf}
+use Rattle.compact_bay.proofs.Squeeze.{handles-append}
+use Rattle.find_bay.specs.Spots.{Spot, put, Choice, none as noSpot, some as theSpot, bays, gapOf}
+use Rattle.release.proofs.Find.{leadOf, Mid, mid-of}
+use Rattle.surgery.proofs.Sound.{handle-once, lastFree, tiled-left, tiled-right}
+use Rattle.surgery.proofs.Spots.{IsBay}
+use Rattle.calls.specs.Calls.{told, refusal, resize}
+use Rattle.zone.specs.Bays.{Bays, onLow, over, orElse, mapS}
+use Rattle.zone.specs.Bay as Bay
+use Rattle.zone.specs.Bay.{Item, Cell, growHere, inPlace, sized}
+use Rattle.zone.specs.OnBays.{Fixed, Out, own, lookup, placeLow, resizeIn, orRefuse, done, refuse, withBays, step}
+use Rattle.zone.specs.ZoneBays.{zoneBays}
+use Rattle.zone.specs.Group.{flatten}
+use Rattle.zone.specs.OnBytes.{Zone, inBays, inLine, result, callBytes}
+use Rattle.zone.proofs.Sound.{Sound}
+use Rattle.zone.proofs.BaysLaws.{Both, absent, present}
+use Rattle.zone.proofs.Bytes.{whereS}
+use Rattle.zone.proofs.GroupLaws.{flatten-group}
+use Rattle.zone.proofs.Run.{well-whole}
+use Rattle.call_laws.proofs.Outcome.{call-same, call-done}
+use Rattle.bay_spots.proofs.Spots.{blocksIn, Paired, neither, both, firstBy}
+use Rattle.bay_spots.proofs.Low.{BayAt, low-spot}
+use Rattle.bay_changes.proofs.Own.{ownBlocks, count-flat, own-flat}
+use Rattle.bay_changes.proofs.Edges.{low-bay}
+use Rattle.bay_changes.proofs.Grow.{Stands, stands}
+use Rattle.free_handle.proofs.Bays.{found-strip, place-is}
+use Rattle.resize_in_place.specs.InPlace.{pastLead, leadAfter, leadIn, atSize, resizedIn}
+use Rattle.resize_in_place.proofs.Shape.{size-at, lead-at, data-at, lead-join, past-join}
+use Rattle.resize_in_place.proofs.Cells.{Sized, sized-here, given, own-once, has-own}
+
+-- ---- where the own bay is, in the flat list: the block of handle h among the blocks of the bay p
+
+pub record Owns (h a : ℕ) (bs : List Block) (p : Spot) (bay : List Cell) : Type 0 where
+  pub edges : IsBay bs p
+  pub inside : p .inside ≡ blocksIn bay
+  pub once : occurs h (handlesOf (blocksIn bay)) ≡ 1
+  pub at : Stands h a bay
+  pub none : occurs h (handlesOf (p .before ++ at .pre)) ≡ 0
+  pub parts : bs ≡ (p .before ++ at .pre) ++ (reloc h (at .item .bytes) ∷ (blocksIn (at .rest) ++ p .after))
+
+occurs-two : (h : ℕ) (a b : List Block) → occurs h (handlesOf (a ++ b)) ≡ occurs h (handlesOf a) + occurs h (handlesOf b)
+occurs-two h a b = ap (occurs h) (handles-append a b) ∙ occurs-append h (handlesOf a) (handlesOf b)
+
+pub owns : (h a : ℕ) (bs : List Block) (p : Spot) (bay : List Cell) → occurs h (handlesOf bs) ≤ 1 → IsBay bs p → p .inside ≡ blocksIn bay → ownBlocks h a (blocksIn bay) ≡ true → Owns h a bs p bay
+owns h a bs p bay l i e t =
+    let o = own-once h a (blocksIn bay) t in
+    let st = stands h a bay (omega (arith, o, count-flat h bay)) in
+    let all : bs ≡ p .before ++ (blocksIn bay ++ p .after) = i .parts ∙ ap (put p) e in
+    record {
+      edges = i;
+      inside = e;
+      once = o;
+      at = st;
+      none = omega (arith, l, o, ap (λ (x : List Block). occurs h (handlesOf x)) all, occurs-two h (p .before) (blocksIn bay ++ p .after), occurs-two h (blocksIn bay) (p .after), st .first, occurs-two h (p .before) (st .pre));
+      parts = all ∙ ap (put p) (st .parts ∙ ap (λ (k : ℕ). st .pre ++ (reloc k (st .item .bytes) ∷ blocksIn (st .rest))) (sym (st .its))) ∙ (simp append-assoc);
+    }
+
+regroup : (a b g x e : List Block) (n : Block) → a ++ ((b ++ (n ∷ (g ++ x))) ++ e) ≡ (a ++ b) ++ (n ∷ (g ++ (x ++ e)))
+regroup a b g x e n = simp append-assoc
+
+-- ---- the new size in the own bay is the new size in the flat list
+
+module _ (h a : ℕ) (bs : List Block) (p : Spot) (bay : List Cell) (w : Owns h a bs p bay) (t : Tiled false bs) (l : a ≤ length (dataOf h bs) + leadAfter h bs) where
+  abbrev st : Stands h a bay
+  st = w .at
+
+  abbrev pre : List Block
+  pre = p .before ++ st .pre
+
+  abbrev d : List ℕ
+  d = st .item .bytes
+
+  abbrev rest : List Block
+  rest = blocksIn (st .rest)
+
+  tiled : Tiled false (rest ++ p .after)
+  tiled = tiled-right false pre (reloc h d ∷ (rest ++ p .after)) (subst (Tiled false) (w .parts) t) .3
+
+  lead-is : leadAfter h bs ≡ leadOf rest
+  lead-is = ap (leadAfter h) (w .parts) ∙ lead-at h pre d (rest ++ p .after) (w .none) ∙ lead-join rest (p .after) (w .edges .right)
+
+  data-is : dataOf h bs ≡ d
+  data-is = ap (dataOf h) (w .parts) ∙ data-at h pre d (rest ++ p .after) (w .none)
+
+  now-sized : Sized (st .item) a (st .rest)
+  now-sized = sized-here (st .item) a (st .rest) (tiled-left false rest (p .after) tiled) (omega (arith, l, lead-is, ap length data-is))
+
+  new-bay : blocksIn (Bay.reshape h a bay) ≡ st .pre ++ (reloc h (sized a d) ∷ (gapOf (length d + leadOf rest - a) ++ pastLead rest))
+  new-bay =
+      given (growHere h a bay) (st .pre ++ blocksIn (now-sized .cells)) _ (st .grows ∙ ap (over (λ (ds : List Cell). st .pre ++ blocksIn ds)) (now-sized .is))
+      ∙ ap (st .pre ++_) (now-sized .blocks ∙ ap (λ (k : ℕ). reloc k (sized a d) ∷ (gapOf (length d + leadOf rest - a) ++ pastLead rest)) (sym (st .its)))
+
+  pub reshaped : put p (blocksIn (Bay.reshape h a bay)) ≡ atSize h a bs
+  reshaped =
+      ap (put p) new-bay
+      ∙ regroup (p .before) (st .pre) (gapOf (length d + leadOf rest - a)) (pastLead rest) (p .after) (reloc h (sized a d))
+      ∙ sym (ap (atSize h a) (w .parts) ∙ size-at h a pre d (rest ++ p .after) (w .none)
+      ∙ ap₂ (λ (n : ℕ) (x : List Block). pre ++ (reloc h (sized a d) ∷ (gapOf (length d + n - a) ++ x))) (lead-join rest (p .after) (w .edges .right)) (past-join rest (p .after) (w .edges .right)))
+
+-- ---- the call
+
+module _ (s : List ℕ) (h c : ℕ) (y : Bytes s) (wf : wellFormed s ≡ true) where
+  abbrev u : Structure
+  u = decode s
+
+  abbrev z : Zone
+  z = inBays (length s) (decode s)
+
+  abbrev a : ℕ
+  a = up4 c
+
+  v : Valid u
+  v = valid s y wf
+
+  flat : flatten (z .bays) ≡ u .blocks
+  flat = flatten-group (start u) (u .blocks)
+
+  -- what the call does, by what the handle names, whether c is small, and the bays that it leaves
+  abbrev pub with : Option Item → Bool → Out (List Cell)
+  with o t = orRefuse 6 z o (λ e. cond t (orRefuse 5 z (resizeIn zoneBays h (up4 c) e (z .bays)) (λ b. done 0 (withBays b z))) (refuse 3 z))
+
+  pub live : (placeIn (zoneOf s) h ≡ 0 → ⊥) → (e : Item) × (lookup zoneBays h z ≡ some e)
+  live ne = go (lookup zoneBays h z) (whereS h (start u) (z .bays)) refl refl (found-strip h (start u) (z .bays))
+    where
+      go : (o : Option Item) (w : Option ℕ) → lookup zoneBays h z ≡ o → whereS h (start u) (z .bays) ≡ w → Both (λ (e : Item) (q : ℕ). 4 ≤ q) o w → (e : Item) × (lookup zoneBays h z ≡ some e)
+      go none none p q absent = absurd (ne (place-is s y h wf ∙ ap (λ (o : Option ℕ). Option·getD o 0) q))
+      go (some e) (some k) p q (present l) = (e, p)
+
+  pub gone : placeIn (zoneOf s) h ≡ 0 → lookup zoneBays h z ≡ none
+  gone e = go (lookup zoneBays h z) (whereS h (start u) (z .bays)) refl refl (found-strip h (start u) (z .bays))
+    where
+      go : (o : Option Item) (w : Option ℕ) → lookup zoneBays h z ≡ o → whereS h (start u) (z .bays) ≡ w → Both (λ (e : Item) (q : ℕ). 4 ≤ q) o w → lookup zoneBays h z ≡ none
+      go none none p q absent = p
+      go (some i) (some k) p q (present l) =
+          let r : placeIn (zoneOf s) h ≡ k = place-is s y h wf ∙ ap (λ (o : Option ℕ). Option·getD o 0) q in
+          let x : ⊥ = omega arith in
+          absurd x
+
+  -- "handle not live": 6
+  pub resize-6 : placeIn (zoneOf s) h ≡ 0 → callBytes (resize h c) s ≡ result (refusal 6) s
+  resize-6 e = call-same s y wf (resize h c) (refusal 6) (ap (λ (o : Option Item). with o (leb c relocLimit)) (gone e))
+
+  -- "size above the limit": 3
+  pub resize-3 : (placeIn (zoneOf s) h ≡ 0 → ⊥) → 32760 < c → callBytes (resize h c) s ≡ result (refusal 3) s
+  resize-3 ne l = call-same s y wf (resize h c) (refusal 3) (ap₂ with (live ne .1) (lt-leb c relocLimit l))
+
+  module _ (ne : placeIn (zoneOf s) h ≡ 0 → ⊥) (small : c ≤ 32760) where
+    m : Mid h (start u) (u .blocks)
+    unfolding placeIn decode
+    m = mid-of h (start u) (u .blocks) (let k : (placeIn (zoneOf s) h ≡ 0 → ⊥) = ne in omega arith)
+
+    -- the own bay has room: the bays w
+    pub resize-own : (w : Bays (List Cell) Fixed) → onLow (own zoneBays h (up4 c)) (Bay.reshape h (up4 c)) (z .bays) ≡ some w → (r : Structure) → inLine (withBays w z) ≡ r
+        → callBytes (resize h c) s ≡ result (told 0 0) (encode r ++ drop (lengthField s) s)
+    resize-own w e r q =
+        call-done s y wf (resize h c) tt (done 0 (withBays w z))
+        (ap₂ with (live ne .1) (le-leb c relocLimit small)
+        ∙ ap (λ (o : Option (Bays (List Cell) Fixed)). orRefuse 5 z (orElse o (placeLow zoneBays (Bay.resized (up4 c) (live ne .0)) (mapS (Bay.release h) (z .bays)))) (λ b. done 0 (withBays b z))) e)
+        refl r q
+
+    once : occurs h (handlesOf (u .blocks)) ≡ 1
+    unfolding handlesOf occurs
+    once =
+        let o = ap (λ (bs : List Block). occurs h (handlesOf bs)) (m .parts) ∙ occurs-two h (m .pre) (reloc h (dataOf h (u .blocks)) ∷ m .post) in
+        omega (arith, handle-once u v h, o, one-same h h refl)
+
+    -- there is room right after the block
+    pub resize-here : up4 c ≤ length (dataOf h (u .blocks)) + leadAfter h (u .blocks) → callBytes (resize h c) s ≡ result (told 0 0) (encode (resizedIn h (up4 c) u) ++ drop (lengthField s) s)
+    unfolding resizedIn
+    resize-here l =
+        go (onLow (own zoneBays h a) (Bay.reshape h a) (z .bays)) (firstBy (ownBlocks h a) (bays (flatten (z .bays)))) refl refl
+        (low-spot Sound (own zoneBays h a) (ownBlocks h a) (own-flat h a) (Bay.reshape h a) (z .bays) (well-whole s y wf .sound))
+      where
+        room : a ≤ length (dataOf h (flatten (z .bays))) + leadAfter h (flatten (z .bays))
+        room = subst (λ (bs : List Block). a ≤ length (dataOf h bs) + leadAfter h bs) (sym flat) l
+
+        one : occurs h (handlesOf (flatten (z .bays))) ≡ 1
+        one = ap (λ (bs : List Block). occurs h (handlesOf bs)) flat ∙ once
+
+        go : (o : Option (Bays (List Cell) Fixed)) (ch : Choice) → onLow (own zoneBays h a) (Bay.reshape h a) (z .bays) ≡ o → firstBy (ownBlocks h a) (bays (flatten (z .bays))) ≡ ch
+            → Paired (BayAt Sound (own zoneBays h a) (Bay.reshape h a) [] (z .bays)) o ch
+            → callBytes (resize h c) s ≡ result (told 0 0) (encode (resizedIn h a u) ++ drop (lengthField s) s)
+        go none noSpot e q neither = absurd (has-own h a (Bay.reshape h a) (z .bays) one room e)
+        go (some w) (theSpot p) e q (both r) =
+            resize-own w e (record { links = u .links; blocks = atSize h a (u .blocks) }) (λ i. record { links = u .links; blocks = line i })
+          where
+            mine : Owns h a (flatten (z .bays)) p (r .bay)
+            mine = owns h a (flatten (z .bays)) p (r .bay) (omega (arith, one)) (low-bay (ownBlocks h a) (flatten (z .bays)) p q .0) (r .inside) (sym (own-flat h a (r .bay)) ∙ r .passes)
+
+            line : flatten w ≡ atSize h a (u .blocks)
+            line = r .after ∙ reshaped h a (flatten (z .bays)) p (r .bay) mine (subst (Tiled false) (sym flat) (v .tiled)) room ∙ ap (atSize h a) flat

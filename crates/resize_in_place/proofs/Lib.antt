@@ -1,0 +1,5 @@
+pub mod Shape
+pub mod Lead
+pub mod Writes
+pub mod Cells
+pub mod Call

@@ -1,0 +1,101 @@
+-- The block of a handle in the flat list, and what its new size leaves.
+use mathlib.Core.Path.{_≡_, refl, sym, ap, ap₂, _∙_}
+use mathlib.Core.List.{List, [], _∷_, _++_, append-assoc}
+use mathlib.Core.Bool.{Bool, true, false, cond}
+use Prim.Native.Nat.{ℕ, _+_, _-_, _%_, _<_, _≤_}
+use native.Mathlib.Omega.{arith}
+use lib.Dec.{eqb}
+use borrow.Author.Tests.{eqb-true, eqb-false, eq-eqb, ne-eqb}
+use lib.ListN.{length}
+use Rattle.format.proofs.Count.{one, occurs, one-same}
+use Rattle.structure.specs.Structure.{Block, free, fixed, reloc}
+use Rattle.structure.proofs.Valid.{handlesOf, Tiled}
+use Rattle.access.specs.Edit.{dataOf}
+use Rattle.find_bay.specs.Spots.{gapOf, freeTotal}
+use Rattle.release.proofs.Find.{leadOf}
+use Rattle.surgery.proofs.Sound.{firstFree}
+use Rattle.zone.specs.Bay.{sized}
+use Rattle.resize_in_place.specs.InPlace.{pastLead, leadAfter, atSize}
+
+-- a block without the handle
+other : (h k : ℕ) (n : ℕ) → one h k + n ≡ 0 → h ≡ k → ⊥
+other h k n e q = omega (arith, one-same h k q)
+
+rest : (h k : ℕ) (n : ℕ) → one h k + n ≡ 0 → n ≡ 0
+rest h k n e = omega arith
+
+-- past blocks without the handle
+pub size-at : (h a : ℕ) (pre : List Block) (d : List ℕ) (post : List Block) → occurs h (handlesOf pre) ≡ 0
+    → atSize h a (pre ++ reloc h d ∷ post) ≡ pre ++ (reloc h (sized a d) ∷ (gapOf (length d + leadOf post - a) ++ pastLead post))
+unfolding atSize handlesOf occurs
+size-at h a [] d post e = rw (eq-eqb h h refl)
+size-at h a (free n ∷ pre) d post e = ap (free n ∷_) (size-at h a pre d post e)
+size-at h a (fixed x ∷ pre) d post e = ap (fixed x ∷_) (size-at h a pre d post e)
+size-at h a (reloc k x ∷ pre) d post e = rw (ne-eqb h k (other h k _ e)) (ap (reloc k x ∷_) (size-at h a pre d post (rest h k _ e)))
+
+pub lead-at : (h : ℕ) (pre : List Block) (d : List ℕ) (post : List Block) → occurs h (handlesOf pre) ≡ 0 → leadAfter h (pre ++ reloc h d ∷ post) ≡ leadOf post
+unfolding leadAfter handlesOf occurs
+lead-at h [] d post e = rw (eq-eqb h h refl)
+lead-at h (free n ∷ pre) d post e = lead-at h pre d post e
+lead-at h (fixed x ∷ pre) d post e = lead-at h pre d post e
+lead-at h (reloc k x ∷ pre) d post e = rw (ne-eqb h k (other h k _ e)) (lead-at h pre d post (rest h k _ e))
+
+pub data-at : (h : ℕ) (pre : List Block) (d : List ℕ) (post : List Block) → occurs h (handlesOf pre) ≡ 0 → dataOf h (pre ++ reloc h d ∷ post) ≡ d
+unfolding dataOf handlesOf occurs
+data-at h [] d post e = rw (eq-eqb h h refl)
+data-at h (free n ∷ pre) d post e = data-at h pre d post e
+data-at h (fixed x ∷ pre) d post e = data-at h pre d post e
+data-at h (reloc k x ∷ pre) d post e = rw (ne-eqb h k (other h k _ e)) (data-at h pre d post (rest h k _ e))
+
+-- ---- the free block in front
+
+pub lead-split : (prev : Bool) (post : List Block) → Tiled prev post → post ≡ gapOf (leadOf post) ++ pastLead post
+unfolding leadOf pastLead
+lead-split prev [] t = refl
+lead-split prev (free n ∷ bs) t = rw (ne-eqb n 0 (λ e. omega (arith, t .1)))
+lead-split prev (fixed d ∷ bs) t = refl
+lead-split prev (reloc h d ∷ bs) t = refl
+
+pub lead-join : (a b : List Block) → firstFree b ≡ false → leadOf (a ++ b) ≡ leadOf a
+unfolding leadOf
+lead-join [] [] e = refl
+lead-join [] (free n ∷ b) e = let z : _≡_ {A = ℕ} 0 1 = cc in let x : ⊥ = omega arith in absurd x
+lead-join [] (fixed d ∷ b) e = refl
+lead-join [] (reloc h d ∷ b) e = refl
+lead-join (free n ∷ a) b e = refl
+lead-join (fixed d ∷ a) b e = refl
+lead-join (reloc h d ∷ a) b e = refl
+
+pub past-join : (a b : List Block) → firstFree b ≡ false → pastLead (a ++ b) ≡ pastLead a ++ b
+unfolding pastLead
+past-join [] [] e = refl
+past-join [] (free n ∷ b) e = let z : _≡_ {A = ℕ} 0 1 = cc in let x : ⊥ = omega arith in absurd x
+past-join [] (fixed d ∷ b) e = refl
+past-join [] (reloc h d ∷ b) e = refl
+past-join (free n ∷ a) b e = refl
+past-join (fixed d ∷ a) b e = refl
+past-join (reloc h d ∷ a) b e = refl
+
+pub lead-four : (prev : Bool) (post : List Block) → Tiled prev post → leadOf post % 4 ≡ 0
+unfolding leadOf
+lead-four prev [] t = refl
+lead-four prev (free n ∷ bs) t = t .2
+lead-four prev (fixed d ∷ bs) t = refl
+lead-four prev (reloc h d ∷ bs) t = refl
+
+pub lead-total : (h : ℕ) (bs : List Block) → leadAfter h bs ≤ freeTotal bs
+unfolding leadAfter leadOf freeTotal
+lead-total h [] = omega arith
+lead-total h (free n ∷ bs) = omega (arith, lead-total h bs)
+lead-total h (fixed d ∷ bs) = omega (arith, lead-total h bs)
+lead-total h (reloc k d ∷ bs) = go (eqb h k) (lead-total h bs) (front bs)
+  where
+    front : (bs : List Block) → leadOf bs ≤ freeTotal bs
+    front [] = omega arith
+    front (free n ∷ bs) = omega arith
+    front (fixed d ∷ bs) = omega arith
+    front (reloc h d ∷ bs) = omega arith
+
+    go : (t : Bool) → leadAfter h bs ≤ freeTotal bs → leadOf bs ≤ freeTotal bs → cond t (leadOf bs) (leadAfter h bs) ≤ 0 + freeTotal bs
+    go true p q = omega arith
+    go false p q = omega arith

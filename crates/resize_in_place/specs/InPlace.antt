@@ -1,0 +1,55 @@
+-- A block at another size where it stands, in the flat list of blocks: its tail is freed, or it grows into the free block right after
+-- it; what is left between it and the next used block is one free block.
+use mathlib.Core.Path.{_≡_}
+use mathlib.Core.List.{List, [], _∷_, _++_}
+use mathlib.Core.Bool.{cond}
+use Prim.Native.Nat.{ℕ, _+_, _-_, _%_, _<_, _≤_}
+use lib.ListN.{length}
+use lib.Dec.{eqb}
+use Rattle.structure.specs.Structure.{Block, free, fixed, reloc, Structure, decodeZone}
+use Rattle.access.specs.Edit.{IsZone, placeIn, dataIn}
+use Rattle.find_bay.specs.Spots.{gapOf}
+use Rattle.release.proofs.Find.{leadOf}
+use Rattle.zone.specs.Bay.{sized}
+
+-- what stands behind a free block in front
+unfoldable pub pastLead : List Block → List Block
+pastLead [] = []
+pastLead (free n ∷ bs) = bs
+pastLead (fixed d ∷ bs) = fixed d ∷ bs
+pastLead (reloc h d ∷ bs) = reloc h d ∷ bs
+
+-- the size of the free block right after the block of handle h, 0 for none
+unfoldable pub leadAfter : ℕ → List Block → ℕ
+leadAfter h [] = 0
+leadAfter h (free n ∷ bs) = leadAfter h bs
+leadAfter h (fixed d ∷ bs) = leadAfter h bs
+leadAfter h (reloc k d ∷ bs) = cond (eqb h k) (leadOf bs) (leadAfter h bs)
+
+unfoldable pub leadIn : List ℕ → ℕ → ℕ
+leadIn z h = leadAfter h (decodeZone z .blocks)
+
+-- the block of handle h has a data bytes: "the common first bytes stay, added bytes are zero"
+unfoldable pub atSize : ℕ → ℕ → List Block → List Block
+atSize h a [] = []
+atSize h a (free n ∷ bs) = free n ∷ atSize h a bs
+atSize h a (fixed d ∷ bs) = fixed d ∷ atSize h a bs
+atSize h a (reloc k d ∷ bs) = cond (eqb h k) (reloc k (sized a d) ∷ (gapOf (length d + leadOf bs - a) ++ pastLead bs)) (reloc k d ∷ atSize h a bs)
+
+unfoldable pub resizedIn : ℕ → ℕ → Structure → Structure
+resizedIn h a s = record { links = s .links; blocks = atSize h a (s .blocks) }
+
+-- handle h is live in z: its b data bytes lie at `at`, and f free bytes follow
+pub data LiveIn (z : List ℕ) (h at b f : ℕ) : Type 0 where
+  live-in : IsZone z → at ≡ placeIn z h → (at ≡ 0 → ⊥) → b ≡ length (dataIn z h) → f ≡ leadIn z h → LiveIn z h at b f
+
+-- and there is room for a data bytes
+pub record Here (z : List ℕ) (h at b f a : ℕ) : Type 0 where
+  pub known : LiveIn z h at b f
+  pub low : 4 ≤ at
+  pub end : at + b + f ≤ length z
+  pub short : length z ≤ 1048576
+  pub four : a % 4 ≡ 0
+  pub four-end : (b + f) % 4 ≡ 0
+  pub high : a ≤ 32760
+  pub fits : a ≤ b + f

@@ -1,0 +1,4 @@
+pub mod Swap
+pub mod Moved
+pub mod Writes
+pub mod NoRoom
