@@ -1,4 +1,5 @@
--- The numbers of document 01, each written once: block types, header lengths, limits, the header of a zone.
+-- The numbers of document 01: block types, header lengths, limits, the header of a zone. (Where a field lies in its header, and the
+-- powers of two that cut a type from a size, stand at the fields' own definitions.)
 use Prim.Native.Nat.{ℕ, _+_, _*_, _/_}
 
 -- ---- block types: "0 free, 1 fixed (non-relocatable), 2 relocatable"

@@ -42,7 +42,8 @@ pub record Answer : Type 0 where
   -- the values: "A call for which no answer is named answers 0", "A call with several answers gives 0 for each when refused"
   pub value : ℕ
   pub second : ℕ
-  -- the second buffer after the call (a roster's from behind its records on), or what a view shows
+  -- the second buffer after the call (of a roster that is done, from behind its records on; of a refused one, all of it), or what a
+  -- view shows
   pub bytes : List ℕ
   -- a roster's records
   pub records : List Card

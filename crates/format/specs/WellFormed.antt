@@ -1,6 +1,6 @@
 -- Document 01, 'Bytes of a zone': the fields, the blocks, and what a well-formed zone is, rule by rule, as a test that computes.
--- A block is the list of its own bytes. A definition about a block reads its first bytes alone, so it serves the block and the
--- bytes from the block on.
+-- A block is the list of its own bytes; `splitBlocks` cuts them out. Type, size and handle read a block's first bytes alone, so they
+-- can be asked of the bytes from a block on, too.
 use Prim.Native.Nat.{ℕ, zero, suc, _+_, _*_, _-_, _/_, _%_}
 use mathlib.Core.List.{List, [], _∷_}
 use mathlib.Core.Bool.{Bool, true, false, cond, not, _&&_, _||_}

@@ -1,4 +1,4 @@
--- What a ledger says of space and of places: which bay's sum reaches what is needed of it, and where fixed blocks are.
+-- What a ledger says of space and of places: each bay's sum, which of them reaches what is needed of it, and where fixed blocks are.
 use mathlib.Core.Bool.{Bool, cond, _||_}
 use mathlib.Core.Option.{Option, none, some}
 use mathlib.Core.List.{List, [], _∷_}
@@ -22,6 +22,11 @@ spot p n = record { place = p; amount = n }
 abbrev pub fixedSpots : Line → List Spot
 fixedSpots (last b) = []
 fixedSpots (more b x l) = spot (x .place) (fixedSize x) ∷ fixedSpots l
+
+-- each bay's sum, in address order
+abbrev pub baySums : Line → List ℕ
+baySums (last b) = sumOf b ∷ []
+baySums (more b x l) = sumOf b ∷ baySums l
 
 -- ---- the calls that ask for space
 

@@ -175,7 +175,7 @@ module _ (s : List ℕ) (h c : ℕ) (y : Bytes s) (wf : wellFormed s ≡ true) w
         ∙ ap (λ (o : Option (Bays (List Cell) Fixed)). orRefuse 5 z (orElse o (placeLow zoneBays (Bay.resized (up4 c) (live ne .0)) (mapS (Bay.release h) (z .bays)))) (λ b. done 0 (withBays b z))) e)
         refl r q
 
-    once : occurs h (handlesOf (u .blocks)) ≡ 1
+    pub once : occurs h (handlesOf (u .blocks)) ≡ 1
     unfolding handlesOf occurs
     once =
         let o = ap (λ (bs : List Block). occurs h (handlesOf bs)) (m .parts) ∙ occurs-two h (m .pre) (reloc h (dataOf h (u .blocks)) ∷ m .post) in

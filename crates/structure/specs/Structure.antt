@@ -74,8 +74,8 @@ unfoldable pub nextOf : ℕ → List ℕ → ℕ
 nextOf h [] = 0
 nextOf h (k ∷ ks) = cond (eqb h k) (headOf ks) (nextOf h ks)
 
--- "A live master holds the offset of the block's first data byte, a free one the next free master's offset or 0": of the two
--- numbers one is 0
+-- "A live master holds the offset of the block's first data byte, a free one the next free master's offset or 0": a master
+-- is a block's or in the chain, so one of the two numbers is 0
 abbrev pub value : Structure → ℕ → ℕ
 value s h = placeOf h (start s) (s .blocks) + nextOf h (s .links)
 

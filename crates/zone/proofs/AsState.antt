@@ -63,7 +63,7 @@ change-as h f (e ∷ es) = ap₂ _∷_ (cond-ap asItem (eqb h (e .handle)) refl 
 
 -- ---- a bay
 
-sum-as : (b : Text.Bay) → Text.sumOf b ≡ ledgerBays .sum (asRoom b)
+pub sum-as : (b : Text.Bay) → Text.sumOf b ≡ ledgerBays .sum (asRoom b)
 sum-as b = ap (b .capacity -_) (taken-as (b .entries))
 
 reaches-as : (n : ℕ) (b : Text.Bay) → Text.reaches n b ≡ OnBays.reaches ledgerBays n (asRoom b)

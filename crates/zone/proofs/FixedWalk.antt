@@ -1,14 +1,14 @@
--- A walk through a zone's bytes meets the fixed blocks of its bays, and no others.
+-- A walk through a zone's bytes meets the fixed blocks of its bays, and no others, and between them each bay's free bytes.
 use mathlib.Core.Path.{_≡_, refl, ap, ap₂, sym, _∙_}
 use mathlib.Core.Bool.{Bool, true, false, cond, _&&_}
 use mathlib.Core.List.{List, [], _∷_, map}
 use Prim.Native.Nat.{ℕ, _+_, _-_, _*_, _≤_}
 use native.Mathlib.Omega.{arith}
-use native.Mathlib.Nat.{add-zero, add-assoc}
+use native.Mathlib.Nat.{add-zero, zero-add, add-assoc}
 use lib.ListN.{length, drop}
 use lib.Seq.{take-take}
 use lib.Dec.{eqb}
-use Rattle.block_type.specs.Limits.{fixedCode}
+use Rattle.block_type.specs.Limits.{freeCode, fixedCode}
 use Rattle.format.specs.WellFormed.{headerOk, lengthField, firstField, mastersField, chainField, typeOf, sizeOf, handleOf, isFree, splitBlocks, zoneOf}
 use Rattle.format.specs.OneWalk.{blockOk, blocksOk, bodyOk}
 use Rattle.format.proofs.Bool.{and-left, and-right}
@@ -21,11 +21,11 @@ use Rattle.structure.proofs.Table.{by, size-dec}
 use Rattle.structure.proofs.Round.{heads}
 use Rattle.ledger.specs.Space.{Spot, spot}
 use Rattle.zone.specs.Bays.{Bays, last, more}
-use Rattle.zone.specs.Bay.{Cell, free as gapCell, held, itemSize, baySize}
+use Rattle.zone.specs.Bay.{Cell, free as gapCell, held, itemSize, baySize, baySum}
 use Rattle.zone.specs.OnBays.{Fixed, fsize}
 use Rattle.zone.specs.Group.{flatBay, flatten}
 use Rattle.zone.specs.OnBytes.{Zone, inLine}
-use Rattle.zone.specs.Claim.{fixedMet, fixedIn}
+use Rattle.zone.specs.Claim.{fixedMet, freeMet, fixedIn, freeIn}
 use Rattle.zone.proofs.Places.{Tiled, tile-last, tile-more}
 use Rattle.zone.proofs.Keep.{Whole, valid-line, count-line}
 use Rattle.zone.proofs.Run.{Stored, stored-well, stored-decode}
@@ -44,6 +44,21 @@ isFixed (reloc h d) = false
 abbrev spotsB : ℕ → List Block → List Spot
 spotsB at [] = []
 spotsB at (b ∷ bs) = cond (isFixed b) (spot at (size b) ∷ spotsB (at + size b) bs) (spotsB (at + size b) bs)
+
+-- each bay's free bytes, in address order
+abbrev pub sumsS : {B : Type 0} → (B → ℕ) → Bays B Fixed → List ℕ
+sumsS μ (last b) = μ b ∷ []
+sumsS μ (more b x s) = μ b ∷ sumsS μ s
+
+abbrev freeSize : Block → ℕ
+freeSize (free n) = n
+freeSize (fixed d) = 0
+freeSize (reloc h d) = 0
+
+-- the same of a structure's blocks; n of this bay have been met
+abbrev sumsB : ℕ → List Block → List ℕ
+sumsB n [] = n ∷ []
+sumsB n (b ∷ bs) = cond (isFixed b) (n ∷ sumsB 0 bs) (sumsB (n + freeSize b) bs)
 
 -- ---- from bytes to blocks
 
@@ -68,6 +83,21 @@ module _ (z : List ℕ) (first : ℕ) where
         spots-decs (isFree b) (at + length b) bs (and-right (blockOk z first prev at b) _ g),
       )
 
+  free-dec : (prev : Bool) (at : ℕ) (b : List ℕ) → blockOk z first prev at b ≡ true → freeSize (decodeBlock b) ≡ cond (eqb (typeOf b) freeCode) (sizeOf b) 0
+  unfolding decodeBlock
+  free-dec prev at b g =
+      by z first prev at b g (λ k. freeSize (byType k (free (sizeOf b)) (fixed (drop 2 b)) (reloc (handleOf b) (drop 4 b))) ≡ cond (eqb k freeCode) (sizeOf b) 0)
+      (λ e. refl) (λ e. refl) (λ e. refl)
+
+  sums-decs : (prev : Bool) (at n : ℕ) (bs : List (List ℕ)) → blocksOk z first prev at bs ≡ true → freeMet n bs ≡ sumsB n (map decodeBlock bs)
+  unfolding blocksOk freeMet
+  sums-decs prev at n [] g = refl
+  sums-decs prev at n (b ∷ bs) g =
+      let g₀ = and-left _ (blocksOk z first (isFree b) (at + length b) bs) g in
+      let rest = and-right (blockOk z first prev at b) _ g in
+      rw (fixed-dec prev at b g₀, free-dec prev at b g₀)
+      (ap₂ (cond (eqb (typeOf b) fixedCode)) (ap (n ∷_) (sums-decs (isFree b) (at + length b) 0 bs rest)) (sums-decs (isFree b) (at + length b) (n + cond (eqb (typeOf b) freeCode) (sizeOf b) 0) bs rest))
+
 -- ---- from blocks to bays
 
 -- the cells of a bay are no fixed blocks
@@ -83,6 +113,15 @@ spots-strip (tile-more {p = p} {b = b} {x = x} {s = s} e t) =
     spots-bay p b (fixed (x .bytes) ∷ flatten s)
     ∙ ap (λ (q : ℕ). spot q (fsize x) ∷ spotsB (q + fsize x) (flatten s)) e
     ∙ ap (spot (x .place) (fsize x) ∷_) (spots-strip t)
+
+sums-bay : (n : ℕ) (cs : List Cell) (r : List Block) → sumsB n (flatBay cs r) ≡ sumsB (n + baySum cs) r
+sums-bay n [] r = ap (λ (q : ℕ). sumsB q r) (sym (add-zero n))
+sums-bay n (gapCell k ∷ cs) r = sums-bay (n + k) cs r ∙ ap (λ (q : ℕ). sumsB q r) (add-assoc n k (baySum cs))
+sums-bay n (held e ∷ cs) r = sums-bay (n + 0) cs r ∙ ap (λ (q : ℕ). sumsB (q + baySum cs) r) (add-zero n)
+
+sums-strip : (s : Bays (List Cell) Fixed) → sumsB 0 (flatten s) ≡ sumsS baySum s
+sums-strip (last b) = sums-bay 0 b [] ∙ ap (_∷ []) (zero-add (baySum b))
+sums-strip (more b x s) = sums-bay 0 b (fixed (x .bytes) ∷ flatten s) ∙ ap₂ _∷_ (zero-add (baySum b)) (sums-strip s)
 
 -- ---- the buffer
 
@@ -117,3 +156,8 @@ fixed-walk bs z w s =
     spots-decs (zoneOf bs) (firstField bs) false (firstField bs) _ (p .walk)
     ∙ ap₂ spotsB (first-is bs z w s) (blocks-are bs z w s)
     ∙ spots-strip (w .placed .tiled)
+
+pub free-walk : (bs : List ℕ) (z : Zone) → Whole z → Stored bs z → freeIn bs ≡ sumsS baySum (z .bays)
+free-walk bs z w s =
+    let p = body-parts (zoneOf bs) (firstField bs) (mastersField bs) (chainField bs) (and-right (headerOk bs) _ (stored-walk bs z w s)) in
+    sums-decs (zoneOf bs) (firstField bs) false (firstField bs) 0 _ (p .walk) ∙ ap (sumsB 0) (blocks-are bs z w s) ∙ sums-strip (z .bays)

@@ -29,5 +29,6 @@ pub mod Sound
 pub mod Stands
 pub mod Sums
 pub mod Theorem
+pub mod Unchanged
 pub mod Walk
 pub mod Shown

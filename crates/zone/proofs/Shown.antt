@@ -13,16 +13,16 @@ use Rattle.calls.specs.Calls.{Call, Answer}
 use Rattle.ledger.specs.Ledger.{run, initial}
 use Rattle.zone.specs.OnBytes.{callBytes, initBytes, runBytes, afterBytes}
 use Rattle.zone.specs.Promise.{Promise, InitPromise}
-use Rattle.zone.specs.Claim.{Chain, stop, then, brought, OfBytes, no-call, a-call, Claim}
+use Rattle.zone.specs.Claim.{History, stop, then, brought, WritesBytes, no-call, a-call, Claim}
 use Rattle.zone.specs.ReelB.{calls, numbers}
 use Rattle.zone.proofs.Theorem.{the-list}
 
 promise-of : (c : Call) (bs : List ℕ) → Promise c bs ((callBytes c bs) .answer) ((callBytes c bs) .bytes)
 promise-of c bs = record { answer = record { number = refl; value = refl; second = refl; bytes = refl; records = Permᴰ·refl _ }; bytes = refl }
 
-pub chain-of : (cs : List Call) (bs : List ℕ) → Chain bs cs (runBytes cs bs) (afterBytes cs bs)
-chain-of [] bs = stop
-chain-of (c ∷ cs) bs = then (promise-of c bs) (chain-of cs ((callBytes c bs) .bytes))
+pub history-of : (cs : List Call) (bs : List ℕ) → History bs cs (runBytes cs bs) (afterBytes cs bs)
+history-of [] bs = stop
+history-of (c ∷ cs) bs = then (promise-of c bs) (history-of cs ((callBytes c bs) .bytes))
 
 -- any bytes, 72 of them
 abbrev before : List ℕ
@@ -47,17 +47,17 @@ allBelow : List Call → Bool
 allBelow [] = true
 allBelow (c ∷ cs) = below (brought c) && allBelow cs
 
-written-bytes : (cs : List Call) → allBelow cs ≡ true → OfBytes cs
+written-bytes : (cs : List Call) → allBelow cs ≡ true → WritesBytes cs
 unfolding allBelow
 written-bytes [] e = no-call
 written-bytes (c ∷ cs) e = a-call {c = c} (bytes-of (brought c) (and-left _ _ e)) (written-bytes cs (and-right (below (brought c)) _ e))
 
-written : OfBytes calls
+written : WritesBytes calls
 unfolding allBelow below
 written = written-bytes calls refl
 
 pub reel-b : Claim 72 64 4 fresh calls (runBytes calls fresh) (afterBytes calls fresh)
-reel-b = the-list before fresh (afterBytes calls fresh) 64 4 ((initBytes 64 4 before) .answer) calls (runBytes calls fresh) (record { answer = refl; bytes = refl }) refl written (chain-of calls fresh)
+reel-b = the-list before fresh (afterBytes calls fresh) 64 4 ((initBytes 64 4 before) .answer) calls (runBytes calls fresh) (record { answer = refl; bytes = refl }) refl written (history-of calls fresh)
 
 pub ledger-numbers : map (λ (a : Answer). a .number) (run calls (initial 72 64 4)) ≡ numbers
 ledger-numbers = refl

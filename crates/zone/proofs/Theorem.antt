@@ -1,7 +1,7 @@
 -- Demand 3 is proved: the claim holds of every list of calls from an accepted initialization.
 use mathlib.Core.Path.{_≡_, refl, ap, ap₂, sym, _∙_, subst}
 use mathlib.Core.Bool.{Bool, true, false, cond, _&&_}
-use mathlib.Core.List.{List, [], _∷_, _++_, List·Permᴰ, List·Permᴰ·trans}
+use mathlib.Core.List.{List, [], _∷_, _++_, append-assoc, List·Permᴰ, List·Permᴰ·trans}
 use mathlib.Core.Option.{Option, none, some}
 use Prim.Native.Nat.{ℕ, zero, suc, _+_, _-_, _*_, _%_, _≤_}
 use native.Mathlib.Omega.{arith}
@@ -17,17 +17,19 @@ use Rattle.structure.proofs.Round.{length-is}
 use Rattle.calls.specs.Calls.{Call, allocate-relocatable, allocate-fixed, free-handle, free-pointer, read, write, view, size, roster, check, length-of, resize, compact, sums, enlarge, shrink, Answer, answers, refusal}
 use Rattle.ledger.specs.Ledger as Text
 use Rattle.ledger.specs.Ledger.{Entry, Ledger, Line, entryOf, fixedOf}
-use Rattle.ledger.specs.Space.{Spot, spot, fixedSpots, callOf}
+use Rattle.ledger.specs.Space.{Spot, spot, fixedSpots, baySums, callOf}
 use Rattle.ledger.proofs.Space.{space}
+use Rattle.ledger.specs.Still.{Has}
+use Rattle.ledger.proofs.Still.{stays-put}
 use Rattle.zone.specs.Bays.{Bays, AllS, findF, over}
-use Rattle.zone.specs.Bay.{Item, Cell, gap}
+use Rattle.zone.specs.Bay.{Item, Cell, baySum, total, gap}
 use Rattle.zone.specs.OnBays as OnBays
 use Rattle.zone.specs.OnBays.{State, Fixed, pointer, lookup, step, initial}
 use Rattle.zone.specs.OnBytes.{Zone, inLine, Result, accepts, initBytes, callBytes, afterBytes}
 use Rattle.zone.specs.Promise.{Alike, Promise, InitPromise}
-use Rattle.zone.specs.Claim.{Chain, stop, then, brought, OfBytes, no-call, a-call, AllAlike, none-left, one-more, Never, never-nil, never-cons, Where, nowhere, here, Stands, fixedIn, Claim, TheList}
+use Rattle.zone.specs.Claim.{History, stop, then, brought, WritesBytes, no-call, a-call, AllAlike, none-left, one-more, Never, never-nil, never-cons, Where, nowhere, here, Stands, fixedIn, Claim, TheList}
 use Rattle.zone.proofs.BayKinds.{Room, zoneBays, ledgerBays}
-use Rattle.zone.proofs.BayLaws.{Each, nothing, just, items-gap}
+use Rattle.zone.proofs.BayLaws.{Each, nothing, just, items-gap, bsize-split, perm-total}
 use Rattle.zone.proofs.BaysLaws.{Like, like-last, like-more}
 use Rattle.zone.proofs.Walk.{Fed}
 use Rattle.zone.proofs.Clean.{Feeds, fed-write, e-last, i-nil}
@@ -40,9 +42,9 @@ use Rattle.zone.proofs.Keep.{Whole, valid-line, len-line}
 use Rattle.zone.proofs.Grouped.{whole-step, same-buffer}
 use Rattle.zone.proofs.Run.{Stored, call-is, stored-after, stored-well}
 use Rattle.zone.proofs.InBuffer.{length-read, live-read, fixed-read}
-use Rattle.zone.proofs.FixedWalk.{spotsS, fixed-walk}
+use Rattle.zone.proofs.FixedWalk.{spotsS, sumsS, fixed-walk, free-walk}
 use Rattle.zone.proofs.Refusals.{step-other, number-other}
-use Rattle.zone.proofs.AsState.{asItem, asFixed, asBays, asState, entry-as, fixed-as, text, initial-as}
+use Rattle.zone.proofs.AsState.{sum-as, asItem, asFixed, asBays, asState, entry-as, fixed-as, text, initial-as}
 use Rattle.zone.proofs.Point.{Point, alike-of, once, live-once}
 
 -- ---- premises
@@ -117,6 +119,18 @@ spots-as (Text.more b x l) = ap (spot (x .place) (Text.fixedSize x) ∷_) (spots
 spots-match : {z : Zone} {l : State Room} → Matches z l → spotsS (z .bays) ≡ spotsS (l .bays)
 spots-match (sim k) = spots-like k
 
+-- the same sums
+sums-like : {s : Bays (List Cell) Fixed} {t : Bays Room Fixed} → Like Fits Equal s t → sumsS baySum s ≡ sumsS (ledgerBays .sum) t
+sums-like (like-last {b = b} r) = ap (_∷ []) (omega (arith, bsize-split b, perm-total (r .perm), r .size))
+sums-like (like-more {b = b} r e k) = ap₂ _∷_ (omega (arith, bsize-split b, perm-total (r .perm), r .size)) (sums-like k)
+
+sums-as : (l : Line) → sumsS (ledgerBays .sum) (asBays l) ≡ baySums l
+sums-as (Text.last b) = ap (_∷ []) (sym (sum-as b))
+sums-as (Text.more b x l) = ap₂ _∷_ (sym (sum-as b)) (sums-as l)
+
+sums-match : {z : Zone} {l : State Room} → Matches z l → sumsS baySum (z .bays) ≡ sumsS (ledgerBays .sum) (l .bays)
+sums-match (sim k) = sums-like k
+
 same-len : {z : Zone} {l : State Room} → Matches z l → z .len ≡ l .len
 same-len (sim k) = refl
 
@@ -155,6 +169,7 @@ stands {m} {bs} {z} {l} p = record {
   live = λ h. where-over asItem (λ (e : Item). slice bs (masterAt bs h) (length (e .bytes)) ≡ e .bytes) (entryOf h (l .line)) (rw (entry-as h m l) (live-read bs z (p .whole) (p .stored) (asState m l) (p .matches) h));
   still = λ q. where-over asFixed (λ (x : Fixed). slice bs q (length (x .bytes)) ≡ x .bytes) (fixedOf q (l .line)) (rw (fixed-as q (l .line)) (fixed-read bs z (p .whole) (p .stored) (asState m l) (p .matches) q));
   places = fixed-walk bs z (p .whole) (p .stored) ∙ spots-match (p .matches) ∙ spots-as (l .line);
+  sums = free-walk bs z (p .whole) (p .stored) ∙ sums-match (p .matches) ∙ sums-as (l .line);
   long = length-read bs z (p .whole) (p .stored) ∙ same-len (p .matches);
   buffer = p .stored .buffer ∙ same-buf (p .matches);
   well = stored-well bs z (p .whole) (p .stored);
@@ -166,12 +181,12 @@ data Feed : List Call → Type 0 where
   f-nil : Feed []
   f-cons : {c : Call} {cs : List Call} → Fed Feeds c → Feed cs → Feed (c ∷ cs)
 
-all-fed : {cs : List Call} → OfBytes cs → Feed cs
+all-fed : {cs : List Call} → WritesBytes cs → Feed cs
 all-fed no-call = f-nil
 all-fed (a-call {c = c} y o) = f-cons (fed-of c y) (all-fed o)
 
--- the chain starts at bs, which is the point's buffer
-answered : {m : ℕ} {bs end : List ℕ} {cs : List Call} {as′ : List Answer} (b : List ℕ) (z : Zone) (l : Ledger) → bs ≡ b → Chain bs cs as′ end → Feed cs → Point m b z l
+-- the history starts at bs, which is the point's buffer
+answered : {m : ℕ} {bs end : List ℕ} {cs : List Call} {as′ : List Answer} (b : List ℕ) (z : Zone) (l : Ledger) → bs ≡ b → History bs cs as′ end → Feed cs → Point m b z l
     → AllAlike as′ (Text.run cs l) × Never 1 as′ × (end ≡ afterBytes cs b)
 answered b z l e stop f p = (none-left, never-nil, e)
 answered {m} {bs} {end} b z l e (then {mid = mid} {c = c} {cs = cs} {a = a} k r) (f-cons f fs) p =
@@ -193,10 +208,14 @@ fed-back : (p q : List Call) → Feed (p ++ q) → Feed q
 fed-back [] q f = f
 fed-back (c ∷ p) q (f-cons f fs) = fed-back p q fs
 
+after-both : (p q : List Call) (l : Ledger) → Text.after (p ++ q) l ≡ Text.after q (Text.after p l)
+after-both [] q l = refl
+after-both (c ∷ p) q l = after-both p q ((Text.step c l) .next)
+
 head-fed : {c : Call} {cs : List Call} → Feed (c ∷ cs) → Fed Feeds c
 head-fed (f-cons f fs) = f
 
-claim : {m : ℕ} {b₀ end : List ℕ} {cs : List Call} {as′ : List Answer} (buf n : ℕ) (z : Zone) → Point m b₀ z (Text.initial buf n m) → OfBytes cs → Chain b₀ cs as′ end → Claim buf n m b₀ cs as′ end
+claim : {m : ℕ} {b₀ end : List ℕ} {cs : List Call} {as′ : List Answer} (buf n : ℕ) (z : Zone) → Point m b₀ z (Text.initial buf n m) → WritesBytes cs → History b₀ cs as′ end → Claim buf n m b₀ cs as′ end
 claim {m} {b₀} {end} {cs} {as′} buf n z p o r =
     let f = all-fed o in
     let l₀ : Ledger = Text.initial buf n m in
@@ -208,6 +227,9 @@ claim {m} {b₀} {end} {cs} {as′} buf n z p o r =
       never-1 = a .1;
       bytes = a .2;
       stands = λ u v e. stands (at u v e);
+      unmoved = λ u v w e x g h.
+          let put = stays-put v (Text.after u l₀) x g (subst (Has x) (stands (at u (v ++ w) (sym (append-assoc u v w) ∙ e)) .places) h) in
+          subst (Has x) (ap (λ (l : Ledger). fixedSpots (l .line)) (sym (after-both u v l₀)) ∙ sym (stands (at (u ++ v) w e) .places)) put;
       space = λ u v q e k.
           let x = at u (callOf q ∷ v) e in
           next (callOf q) (afterBytes u b₀) (OnBays.after zoneBays u z) (Text.after u l₀) (head-fed (fed-back u (callOf q ∷ v) (subst Feed (sym e) f))) x .alike .number

@@ -24,7 +24,8 @@ unfoldable pub countIf : (ℕ → Bool) → List ℕ → ℕ
 countIf ok [] = 0
 countIf ok (w ∷ ws) = cond (ok w) 1 0 + countIf ok ws
 
--- for each stratum how many of the sizes ws lie from its lower limit up to the next one's; the last has no upper limit
+-- for each stratum how many of the sizes ws lie from its lower limit up to the next one's. The last needs no upper limit: no free
+-- block has 2^19 words, for that is the longest zone with its header
 unfoldable pub countsOf : List ℕ → List ℕ → List ℕ
 countsOf [] ws = []
 countsOf (lo ∷ []) ws = countIf (leb lo) ws ∷ []

@@ -8,11 +8,12 @@ use Prim.Native.Nat.{ℕ, _+_, _<_}
 use lib.ListN.{length, drop}
 use lib.Dec.{eqb}
 use Rattle.bigendian.specs.BigEndian.{Bytes, slice}
-use Rattle.block_type.specs.Limits.{fixedCode}
+use Rattle.block_type.specs.Limits.{freeCode, fixedCode}
 use Rattle.format.specs.WellFormed.{lengthField, firstField, typeOf, sizeOf, splitBlocks, masterAt, zoneOf, wellFormed}
 use Rattle.calls.specs.Calls.{Call, allocate-relocatable, allocate-fixed, free-handle, free-pointer, resize, size, read, write, view, compact, sums, check, length-of, enlarge, shrink, roster, Answer}
 use Rattle.ledger.specs.Ledger.{Ledger, Entry, Fixed, Line, entryOf, fixedOf, run, after, initial}
-use Rattle.ledger.specs.Space.{Spot, spot, fixedSpots, Request, callOf, earlier, fits}
+use Rattle.ledger.specs.Still.{Has, NotFreed}
+use Rattle.ledger.specs.Space.{Spot, spot, fixedSpots, baySums, Request, callOf, earlier, fits}
 use Rattle.zone.specs.OnBytes.{callBytes, afterBytes}
 use Rattle.zone.specs.Promise.{Alike, Promise, InitPromise}
 
@@ -20,10 +21,10 @@ use Rattle.zone.specs.Promise.{Alike, Promise, InitPromise}
 
 -- calls made one after the other, "where each gets the zone as the last one left it and nobody else writes to it": from the buffer
 -- bs, the calls cs, their answers, and the buffer at the end
-pub data Chain : List ℕ → List Call → List Answer → List ℕ → Type 0 where
-  stop : {bs : List ℕ} → Chain bs [] [] bs
+pub data History : List ℕ → List Call → List Answer → List ℕ → Type 0 where
+  stop : {bs : List ℕ} → History bs [] [] bs
   then : {bs mid end : List ℕ} {c : Call} {cs : List Call} {a : Answer} {as′ : List Answer}
-      → Promise c bs a mid → Chain mid cs as′ end → Chain bs (c ∷ cs) (a ∷ as′) end
+      → Promise c bs a mid → History mid cs as′ end → History bs (c ∷ cs) (a ∷ as′) end
 
 -- what a call brings to be written
 abbrev pub brought : Call → List ℕ
@@ -45,9 +46,9 @@ brought (shrink k) = []
 brought (roster second) = []
 
 -- what is written are bytes
-pub data OfBytes : List Call → Type 0 where
-  no-call : OfBytes []
-  a-call : {c : Call} {cs : List Call} → Bytes (brought c) → OfBytes cs → OfBytes (c ∷ cs)
+pub data WritesBytes : List Call → Type 0 where
+  no-call : WritesBytes []
+  a-call : {c : Call} {cs : List Call} → Bytes (brought c) → WritesBytes cs → WritesBytes (c ∷ cs)
 
 -- ---- the answers
 
@@ -68,9 +69,21 @@ fixedMet at [] = []
 fixedMet at (b ∷ bs) =
     cond (eqb (typeOf b) fixedCode) (spot at (sizeOf b) ∷ fixedMet (at + sizeOf b) bs) (fixedMet (at + sizeOf b) bs)
 
+-- the free bytes that the walk meets between fixed blocks, bay after bay; n of this bay have been met
+unfoldable pub freeMet : ℕ → List (List ℕ) → List ℕ
+freeMet n [] = n ∷ []
+freeMet n (b ∷ bs) =
+    cond (eqb (typeOf b) fixedCode) (n ∷ freeMet 0 bs) (freeMet (n + cond (eqb (typeOf b) freeCode) (sizeOf b) 0) bs)
+
 -- from bkFst to L
+abbrev pub blocksIn : List ℕ → List (List ℕ)
+blocksIn bs = splitBlocks (drop (firstField bs) (zoneOf bs))
+
 abbrev pub fixedIn : List ℕ → List Spot
-fixedIn bs = fixedMet (firstField bs) (splitBlocks (drop (firstField bs) (zoneOf bs)))
+fixedIn bs = fixedMet (firstField bs) (blocksIn bs)
+
+abbrev pub freeIn : List ℕ → List ℕ
+freeIn bs = freeMet 0 (blocksIn bs)
 
 -- where something is found, P holds of it
 pub data Where {A : Type 0} (P : A → Type 0) : Option A → Type 0 where
@@ -85,6 +98,8 @@ pub record Stands (bs : List ℕ) (l : Ledger) : Type 0 where
   pub still : (p : ℕ) → Where (λ (x : Fixed). slice bs p (length (x .bytes)) ≡ x .bytes) (fixedOf p (l .line))
   -- a walk meets a fixed block of the ledger's size at each place where the ledger has one, and no other fixed block
   pub places : fixedIn bs ≡ fixedSpots (l .line)
+  -- and between them the free bytes that the ledger counts, bay by bay: what its sums say is there
+  pub sums : freeIn bs ≡ baySums (l .line)
   pub long : lengthField bs ≡ l .len
   pub buffer : length bs ≡ l .buf
   pub well : wellFormed bs ≡ true
@@ -99,14 +114,18 @@ pub record Claim (buf n m : ℕ) (b₀ : List ℕ) (cs : List Call) (as′ : Lis
   pub never-1 : Never 1 as′
   -- the buffer at the end is what the definitions make of the list
   pub bytes : end ≡ afterBytes cs b₀
-  -- after the list, and after every prefix p of it, the zone holds what the ledger holds, and no fixed block has moved
+  -- after the list, and after every prefix p of it, the zone holds what the ledger holds
   pub stands : (p q : List Call) → p ++ q ≡ cs → Stands (afterBytes p b₀) (after p (initial buf n m))
+  -- "No fixed block moves until it is freed": what a walk meets after the calls p, it meets at the same place and of the same size
+  -- after p and q, unless a call of q frees it
+  pub unmoved : (p q r : List Call) → (p ++ q) ++ r ≡ cs → (x : Spot) → NotFreed x q → Has x (fixedIn (afterBytes p b₀)) → Has x (fixedIn (afterBytes (p ++ q) b₀))
   -- "Where nothing earlier in the order refuses an allocation or a resize, it gets "no space" exactly when no bay's sum reaches what
   -- the ledger needs of that bay"
   pub space : (p q : List Call) (r : Request) → p ++ (callOf r ∷ q) ≡ cs → earlier r (after p (initial buf n m)) ≡ 0
       → (callBytes (callOf r) (afterBytes p b₀)) .answer .number ≡ cond (fits r (after p (initial buf n m) .line)) 0 5
 
--- Its only premise is an accepted initialization of any buffer.
+-- Of any buffer, any accepted initialization and any list of calls that keep their promises. (`WritesBytes` is no condition: what a
+-- lent buffer holds are bytes. The definitions take any numbers, so it has to be said.)
 abbrev pub TheList : Type 0
 TheList = (bs b₀ end : List ℕ) (n m : ℕ) (a : Answer) (cs : List Call) (as′ : List Answer)
-    → InitPromise n m bs a b₀ → a .number ≡ 0 → OfBytes cs → Chain b₀ cs as′ end → Claim (length bs) n m b₀ cs as′ end
+    → InitPromise n m bs a b₀ → a .number ≡ 0 → WritesBytes cs → History b₀ cs as′ end → Claim (length bs) n m b₀ cs as′ end

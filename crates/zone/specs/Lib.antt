@@ -6,6 +6,7 @@ pub mod Group
 pub mod OnBays
 pub mod OnBytes
 pub mod Promise
+pub mod Refused
 pub mod RigSheet
 pub mod Roster
 pub mod Walker

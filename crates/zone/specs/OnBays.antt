@@ -130,12 +130,14 @@ module _ {B : Type 0} (o : BayKind B) where
   abbrev pub joinAt : ℕ → Bays B Fixed → Option (Bays B Fixed)
   joinAt p s = onJoin (λ (x : Fixed). eqb p (pointer x)) (λ (b : B) (x : Fixed) (c : B). o .join b (fsize x) c) s
 
-  -- the bay has the handle (once), and its sum reaches a − b
+  -- the bay has the handle, and its sum reaches a − b. (Once: in a well-formed zone no handle stands twice. The test says so because
+  -- the two kinds of bay list their blocks in different orders, and only of a handle that stands once they find the same one.)
   abbrev pub own : ℕ → ℕ → B → Bool
   own h a b = cond (eqb (count h (o .all b)) 1) (roomFor a (o .sum b) (get h (o .all b))) false
 
   -- "if its own bay's sum reaches a − b, it grows there", "Otherwise it moves to the lowest bay whose sum reaches 4 + a, as an
-  -- allocation does, and the old place is freed"
+  -- allocation does, and the old place is freed": the own bay is out of the question either way, since its sum lacks a − b and with
+  -- the freed 4 + b bytes still lacks 4 + a, so the old place may be freed first
   abbrev pub resizeIn : ℕ → ℕ → Item → Bays B Fixed → Option (Bays B Fixed)
   resizeIn h a e s = orElse (onLow (own h a) (o .reshape h a) s) (placeLow (resized a e) (mapS (o .release h) s))
 

@@ -1,0 +1,5 @@
+pub mod Freed
+pub mod Aside
+pub mod Choice
+pub mod Settled
+pub mod Call
