@@ -1,0 +1,32 @@
+"""Reads zones: handles, fixed blocks and bays, as document 01 lays them down.
+
+    from nafelode import Zone, ZoneError
+
+    try:
+        zone = Zone(image)              # bytes, bytearray or memoryview
+    except ZoneError as error:
+        print(error.rule, error.offset)
+    else:
+        data = zone.read_handle(16)
+"""
+
+from .bays import Bay, Scatter, Sum
+from .format import Block, BlockType
+from .roster import Record, decode_roster
+from .rules import ZoneError
+from .zone import Zone, check, fault, read
+
+__all__ = [
+    "Bay",
+    "Block",
+    "BlockType",
+    "Record",
+    "Scatter",
+    "Sum",
+    "Zone",
+    "ZoneError",
+    "check",
+    "decode_roster",
+    "fault",
+    "read",
+]

@@ -1,0 +1,7 @@
+"""python3 -m nafelode is zone-print."""
+
+import sys
+
+from .cli import main
+
+sys.exit(main())

@@ -1,0 +1,218 @@
+"""Well-formedness, exactly as document 01 has it.
+
+When several rules are broken, the first in reading order is named: the header
+by its fields' offsets, then the blocks by address (for each its type, size,
+end, left neighbour, zeros, handle and master), then the chain from link to
+link, at last the count of masters. Masters have no rule of their own: they
+are looked at from the block or the link that leads to them.
+"""
+
+from typing import List, NamedTuple, Sequence, Tuple, Union
+
+from . import rules
+from .format import (
+    AT_BK_FST,
+    AT_H_FST_FREE,
+    AT_LENGTH,
+    AT_M,
+    AT_ZEROS,
+    HEADER_LENGTH,
+    LENGTH_LIMIT,
+    MASTER_LENGTH,
+    MASTER_LIMIT,
+    SIZE_BITS,
+    WORD,
+    Block,
+    BlockType,
+    Header,
+    number,
+)
+from .rules import ZoneError
+
+Image = Union[bytes, bytearray, memoryview]
+
+
+class Reading(NamedTuple):
+    """What a well-formed image holds; `data` is a copy of its L bytes."""
+
+    data: bytes
+    header: Header
+    blocks: Tuple[Block, ...]
+    chain: Tuple[int, ...]
+
+
+def read_image(image: Image) -> Reading:
+    """Read an image whole, or raise ZoneError for its first broken rule."""
+    data, buffer_length = _first_bytes(image)
+    header = _read_header(data, buffer_length)
+    data = data[:header.length]
+    blocks = _read_blocks(data, header)
+    chain = _read_chain(data, header)
+    _check_count(header, blocks, chain)
+    return Reading(data, header, blocks, chain)
+
+
+def _first_bytes(image: Image) -> Tuple[bytes, int]:
+    """A copy of all bytes that any rule can touch, and the buffer's length."""
+    view = memoryview(image)
+    if view.ndim == 1 and view.itemsize == 1:
+        return view[:LENGTH_LIMIT].tobytes(), view.nbytes
+    return view.tobytes()[:LENGTH_LIMIT], view.nbytes
+
+
+# -- header ----------------------------------------------------------------
+
+
+def _read_header(data: bytes, buffer_length: int) -> Header:
+    if buffer_length < HEADER_LENGTH:
+        raise ZoneError(rules.BUFFER, buffer_length,
+                        f"the buffer ends after {buffer_length} bytes")
+    header = Header(
+        length=number(data, AT_LENGTH, 4),
+        bk_fst=number(data, AT_BK_FST, 4),
+        m=number(data, AT_M, 4),
+        h_fst_free=number(data, AT_H_FST_FREE, 2),
+    )
+    _check_length(header.length, buffer_length)
+    _check_bk_fst(header)
+    if header.m > MASTER_LIMIT:
+        raise ZoneError(rules.M_LIMIT, AT_M, f"m is {header.m}")
+    for at in range(AT_ZEROS, HEADER_LENGTH):
+        if data[at] != 0:
+            raise ZoneError(rules.HEADER_ZEROS, at,
+                            f"header byte {at} is 0x{data[at]:02X}")
+    return header
+
+
+def _check_length(length: int, buffer_length: int) -> None:
+    if length % 4 != 0:
+        raise ZoneError(rules.LENGTH_MULTIPLE, AT_LENGTH, f"L is {length}")
+    if length > LENGTH_LIMIT:
+        raise ZoneError(rules.LENGTH_LIMIT, AT_LENGTH, f"L is {length}")
+    if length > buffer_length:
+        raise ZoneError(rules.LENGTH_BUFFER, AT_LENGTH,
+                        f"L is {length}, the buffer has {buffer_length} bytes")
+
+
+def _check_bk_fst(header: Header) -> None:
+    expected = HEADER_LENGTH + MASTER_LENGTH * header.m
+    if header.bk_fst != expected:
+        raise ZoneError(rules.BK_FST, AT_BK_FST,
+                        f"bkFst is {header.bk_fst}, m is {header.m}, "
+                        f"16 + 4m is {expected}")
+    if header.bk_fst > header.length:
+        raise ZoneError(rules.BK_FST_LIMIT, AT_BK_FST,
+                        f"bkFst is {header.bk_fst}, L is {header.length}")
+
+
+# -- blocks ----------------------------------------------------------------
+
+
+def _read_blocks(data: bytes, header: Header) -> Tuple[Block, ...]:
+    blocks: List[Block] = []
+    offset = header.bk_fst
+    after_free = False
+    while offset < header.length:
+        block = _read_block(data, offset, header.length)
+        free = block.type is BlockType.FREE
+        if free and after_free:
+            raise ZoneError(rules.NEIGHBOURS, offset,
+                            f"the free block at {offset} follows the free "
+                            f"block at {blocks[-1].offset}")
+        if free:
+            _check_zeros(data, block)
+        elif block.handle is not None:
+            _check_master(data, header, block, block.handle)
+        blocks.append(block)
+        after_free = free
+        offset = block.end
+    return tuple(blocks)
+
+
+def _read_block(data: bytes, offset: int, length: int) -> Block:
+    # Offsets and L are multiples of 4, so four bytes are always there.
+    bits = data[offset] >> 6
+    if bits > BlockType.RELOCATABLE:
+        raise ZoneError(rules.TYPES, offset,
+                        f"the block at {offset} has type {bits}")
+    kind = BlockType(bits)
+    if kind is BlockType.FREE:
+        words = number(data, offset, 4)
+    else:
+        words = number(data, offset, 2) & SIZE_BITS
+    size = WORD * words
+    if size < 4 or size % 4 != 0:
+        raise ZoneError(rules.SIZES, offset,
+                        f"the block at {offset} has size {size}")
+    if size > length - offset:
+        raise ZoneError(rules.TILE, offset,
+                        f"the block at {offset} of size {size} ends at "
+                        f"{offset + size}, L is {length}")
+    handle = None
+    if kind is BlockType.RELOCATABLE:
+        handle = number(data, offset + 2, 2)
+    return Block(offset, kind, size, handle)
+
+
+def _check_zeros(data: bytes, block: Block) -> None:
+    rest = data[block.offset + block.type.header_length:block.end]
+    rest = rest.lstrip(b"\0")
+    if rest:
+        at = block.end - len(rest)
+        raise ZoneError(rules.FREE_ZEROS, at,
+                        f"byte 0x{data[at]:02X} stands in the free block at "
+                        f"{block.offset}")
+
+
+def _check_master(data: bytes, header: Header, block: Block,
+                  handle: int) -> None:
+    if not header.is_master(handle):
+        raise ZoneError(rules.HANDLE, block.offset + 2,
+                        f"the block at {block.offset} has handle {handle}, "
+                        f"which is no master's offset")
+    held = number(data, handle, MASTER_LENGTH)
+    if held != block.data_offset:
+        # The master's offset is named: a slide that left it is the likely
+        # cause, and the detail names the block.
+        raise ZoneError(rules.MASTER, handle,
+                        f"the master at {handle} holds {held}, its block at "
+                        f"{block.offset} has data offset {block.data_offset}")
+
+
+# -- chain -----------------------------------------------------------------
+
+
+def _read_chain(data: bytes, header: Header) -> Tuple[int, ...]:
+    chain: List[int] = []
+    visited = set()
+    link_at, master = AT_H_FST_FREE, header.h_fst_free
+    while master != 0:
+        if not header.is_master(master):
+            raise ZoneError(rules.CHAIN_MASTERS, link_at,
+                            f"the link at {link_at} leads to {master}, "
+                            f"which is no master's offset")
+        if master in visited:
+            raise ZoneError(rules.CHAIN_END, link_at,
+                            f"the link at {link_at} leads back to the master "
+                            f"at {master}")
+        visited.add(master)
+        chain.append(master)
+        link_at, master = master, number(data, master, MASTER_LENGTH)
+    return tuple(chain)
+
+
+def _check_count(header: Header, blocks: Sequence[Block],
+                 chain: Sequence[int]) -> None:
+    # A live master holds a data offset, which is neither 0 nor a master's
+    # offset: it is in no chain and belongs to one block alone. So the counts
+    # differ exactly when some master is in neither place.
+    live = {block.handle for block in blocks if block.handle is not None}
+    if len(live) + len(chain) == header.m:
+        return
+    accounted = live.union(chain)
+    masters = range(HEADER_LENGTH, header.bk_fst, MASTER_LENGTH)
+    lost = next(master for master in masters if master not in accounted)
+    raise ZoneError(rules.COUNT, lost,
+                    f"{len(live)} relocatable blocks and a chain of "
+                    f"{len(chain)}, m is {header.m}; the master at {lost} "
+                    f"is in neither")

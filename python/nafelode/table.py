@@ -1,0 +1,107 @@
+"""The zone as text: header, blocks, bays, free bytes and scatter."""
+
+from typing import Iterable, Iterator, List, Sequence
+
+from .census import LOWER_LIMITS
+from .format import WORD, Block, BlockType
+from .zone import Zone
+
+FIRST_BYTES = 16  # data bytes shown of each block
+
+SCATTER_COUNT = (
+    "scatter is counted as the free bytes outside the largest free block of\n"
+    "their own bay: 0 when every bay's sum lies in one piece")
+
+
+def lines(zone: Zone) -> Iterator[str]:
+    """All lines of the print, without line ends."""
+    yield from _header_lines(zone)
+    yield ""
+    yield from _block_lines(zone)
+    yield ""
+    yield from _bay_lines(zone)
+    yield ""
+    yield from _free_lines(zone)
+
+
+def _header_lines(zone: Zone) -> Iterator[str]:
+    yield (f"zone: L {zone.length}, bkFst {zone.bk_fst}, m {zone.m}, "
+           f"hFstFree {zone.h_fst_free}")
+    yield (f"masters: {zone.live_handles} live, {len(zone.chain)} in the "
+           f"chain{_chain_words(zone.chain)}")
+
+
+def _chain_words(chain: Sequence[int], shown: int = 8) -> str:
+    if not chain:
+        return ""
+    words = " ".join(str(master) for master in chain[:shown])
+    return f" ({words}{' ...' if len(chain) > shown else ''})"
+
+
+def _block_lines(zone: Zone) -> Iterator[str]:
+    counts = ", ".join(f"{zone.count(kind)} {kind.name.lower()}"
+                       for kind in reversed(BlockType))
+    yield f"blocks: {len(zone.blocks)} ({counts})"
+    if zone.blocks:
+        rows = ([str(block.offset), block.type.name.lower(), str(block.size),
+                 _place(block), _data_size(block), _first_bytes(zone, block)]
+                for block in zone.blocks)
+        yield from _table(["offset", "type", "size", "handle or pointer",
+                           "data size", "first data bytes"], rows,
+                          left={1, 3, 5})
+
+
+def _place(block: Block) -> str:
+    if block.handle is not None:
+        return f"handle {block.handle}"
+    if block.pointer is not None:
+        return f"pointer {block.pointer}"
+    return "-"
+
+
+def _data_size(block: Block) -> str:
+    return "-" if block.type is BlockType.FREE else str(block.data_size)
+
+
+def _first_bytes(zone: Zone, block: Block) -> str:
+    shown = min(block.data_size, FIRST_BYTES)
+    if shown == 0:
+        return "-"
+    # Groups of four bytes from the data's start, as the rig sheet writes them.
+    text = zone.read_block(block, 0, shown).hex().upper()
+    groups = " ".join(text[i:i + 8] for i in range(0, len(text), 8))
+    return groups + (" ..." if block.data_size > shown else "")
+
+
+def _bay_lines(zone: Zone) -> Iterator[str]:
+    yield f"bays: {len(zone.bays)}"
+    rows = ([str(index), str(bay.start), str(bay.end), str(bay.capacity),
+             str(bay.sum), str(bay.pieces), str(bay.largest), str(bay.apart)]
+            for index, bay in enumerate(zone.bays))
+    yield from _table(["bay", "start", "end", "capacity", "sum", "free blocks",
+                       "largest", "scatter"], rows, left=set())
+
+
+def _free_lines(zone: Zone) -> Iterator[str]:
+    total, largest_bay = zone.sum()
+    scatter = zone.scatter()
+    yield f"free bytes: {total}; largest bay's sum {largest_bay}"
+    yield (f"scatter: {scatter.apart}; free blocks: {scatter.pieces}, the "
+           f"largest of {scatter.largest} bytes")
+    yield f"({SCATTER_COUNT})"
+    for low, count in zip(LOWER_LIMITS, zone.census()):
+        if count:
+            yield (f"census: {count} of {WORD * low} to "
+                   f"{2 * WORD * low - WORD} bytes")
+
+
+def _table(heads: List[str], rows: Iterable[List[str]],
+           left: Iterable[int]) -> Iterator[str]:
+    """Rows in columns, flush right but for the columns in `left`."""
+    cells = [heads, *rows]
+    widths = [max(map(len, column)) for column in zip(*cells)]
+    flush_left = set(left)
+    for row in cells:
+        padded = (text.ljust(width) if i in flush_left else text.rjust(width)
+                  for i, (text, width) in enumerate(zip(row, widths)))
+        yield "  " + "  ".join(padded).rstrip()

@@ -1,0 +1,126 @@
+"""Zones for the tests, built from document 01 without the package.
+
+A Plan lists the blocks of a zone; its image is laid down byte by byte. The
+tests compare what the package reads with what the plan says.
+"""
+
+import random
+from typing import Dict, List, NamedTuple, Optional, Tuple
+
+FREE, FIXED, RELOCATABLE = 0, 1, 2
+
+
+class Part(NamedTuple):
+    """A block of the plan: data for live ones, a size in bytes for all."""
+
+    kind: int
+    size: int
+    handle: int = 0
+    data: bytes = b""
+
+
+class Plan(NamedTuple):
+    m: int
+    parts: Tuple[Part, ...]
+    chain: Tuple[int, ...]
+    beyond: bytes = b""
+
+    @property
+    def bk_fst(self) -> int:
+        return 16 + 4 * self.m
+
+    @property
+    def length(self) -> int:
+        return self.bk_fst + sum(part.size for part in self.parts)
+
+    def offsets(self) -> List[int]:
+        offsets, at = [], self.bk_fst
+        for part in self.parts:
+            offsets.append(at)
+            at += part.size
+        return offsets
+
+    def image(self) -> bytearray:
+        """The zone's bytes, then those beyond L."""
+        masters = self._masters()
+        head = self.chain[0] if self.chain else 0
+        out = bytearray()
+        for value in (self.length, self.bk_fst, self.m):
+            out += value.to_bytes(4, "big")
+        out += head.to_bytes(2, "big") + b"\0\0"
+        for i in range(self.m):
+            out += masters.get(16 + 4 * i, 0).to_bytes(4, "big")
+        for part in self.parts:
+            out += block_bytes(part)
+        return out + self.beyond
+
+    def _masters(self) -> Dict[int, int]:
+        masters = dict(zip(self.chain, self.chain[1:] + (0,)))
+        for offset, part in zip(self.offsets(), self.parts):
+            if part.kind == RELOCATABLE:
+                masters[part.handle] = offset + 4
+        return masters
+
+
+def block_bytes(part: Part) -> bytes:
+    words = part.size // 2
+    if part.kind == FREE:
+        return words.to_bytes(4, "big") + bytes(part.size - 4)
+    head = (part.kind << 14 | words).to_bytes(2, "big")
+    if part.kind == RELOCATABLE:
+        head += part.handle.to_bytes(2, "big")
+    return head + part.data
+
+
+def free(size: int) -> Part:
+    return Part(FREE, size)
+
+
+def fixed(data: bytes) -> Part:
+    return Part(FIXED, 2 + len(data), 0, data)
+
+
+def relocatable(handle: int, data: bytes) -> Part:
+    return Part(RELOCATABLE, 4 + len(data), handle, data)
+
+
+def random_plan(rng: random.Random, blocks: int, largest: int = 64,
+                fixed_blocks: int = 0, spare: int = 3,
+                length: Optional[int] = None) -> Plan:
+    """A random zone of about so many blocks.
+
+    `fixed_blocks` of them are fixed, `spare` masters are free. With `length`
+    the last block is a free one that fills the zone up to it, if it can.
+    """
+    kinds = [FIXED] * fixed_blocks
+    kinds += rng.choices((FREE, RELOCATABLE), (1, 2), k=blocks - fixed_blocks)
+    rng.shuffle(kinds)
+    kinds = [kind for i, kind in enumerate(kinds)
+             if kind != FREE or i == 0 or kinds[i - 1] != FREE]
+    m = kinds.count(RELOCATABLE) + spare
+    masters = [16 + 4 * i for i in range(m)]
+    rng.shuffle(masters)
+    parts = [_random_part(rng, kind, largest, masters) for kind in kinds]
+    if length is not None:
+        _fill(parts, length - 16 - 4 * m)
+    beyond = rng.randbytes(rng.choice((0, 0, 1, 7, 64)))
+    return Plan(m, tuple(parts), tuple(masters), beyond)
+
+
+def _random_part(rng: random.Random, kind: int, largest: int,
+                 masters: List[int]) -> Part:
+    size = 4 * rng.randint(1, max(1, largest // 4))
+    if kind == FREE:
+        return free(size)
+    if kind == FIXED:
+        return fixed(rng.randbytes(size - 2))
+    return relocatable(masters.pop(), rng.randbytes(size - 4))
+
+
+def _fill(parts: List[Part], room: int) -> None:
+    rest = room - sum(part.size for part in parts)
+    if rest <= 0:
+        return
+    if parts and parts[-1].kind == FREE:
+        rest += parts.pop().size
+    parts.append(free(rest))

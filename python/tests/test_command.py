@@ -1,0 +1,139 @@
+"""The command zone-print, run as a program."""
+
+import os
+import subprocess
+import sys
+import tempfile
+import unittest
+import xml.etree.ElementTree as tree
+from typing import Optional
+
+import builder
+import support
+
+
+class Command(unittest.TestCase):
+    def setUp(self) -> None:
+        holder = tempfile.TemporaryDirectory()
+        self.addCleanup(holder.cleanup)
+        self.place = holder.name
+
+    def file(self, name: str, data: bytes) -> str:
+        path = os.path.join(self.place, name)
+        with open(path, "wb") as stream:
+            stream.write(data)
+        return path
+
+    def run_it(self, *arguments: str, data: Optional[bytes] = None):
+        return subprocess.run([sys.executable, support.COMMAND, *arguments],
+                              input=data, stdout=subprocess.PIPE,
+                              stderr=subprocess.PIPE, timeout=60)
+
+    def fails(self, done, *words: str, status: int = 1) -> None:
+        message = done.stderr.decode()
+        self.assertEqual(done.returncode, status, message)
+        self.assertEqual(done.stdout, b"")
+        self.assertNotIn("Traceback", message)
+        self.assertEqual(message.count("\n"), 1 if status == 1 else 2)
+        for word in words:
+            self.assertIn(word, message)
+
+    def test_table(self) -> None:
+        plan = builder.Plan(4, (builder.relocatable(20, b"recipe01"),
+                                builder.free(8), builder.fixed(b"splice"),
+                                builder.free(4)), (16, 28, 24), b"beyond")
+        done = self.run_it(self.file("zone.bin", plan.image()))
+        self.assertEqual((done.returncode, done.stderr), (0, b""))
+        text = done.stdout.decode("ascii")
+        rows = [line.split() for line in text.splitlines()]
+        self.assertIn(
+            "32 relocatable 12 handle 20 8 72656369 70653031".split(), rows)
+        self.assertIn("44 free 8 - - -".split(), rows)
+        self.assertIn("52 fixed 8 pointer 54 6 73706C69 6365".split(), rows)
+        self.assertIn("0 32 52 20 8 1 8 0".split(), rows)
+        self.assertIn("1 60 64 4 4 1 4 0".split(), rows)
+        self.assertIn("free bytes: 12; largest bay's sum 8", text)
+        self.assertIn("scatter is counted as", text)
+
+    def test_standard_input(self) -> None:
+        done = self.run_it("-", data=support.R1)
+        self.assertEqual((done.returncode, done.stderr), (0, b""))
+        self.assertIn(b"zone: L 64, bkFst 32, m 4, hFstFree 16", done.stdout)
+
+    def test_runs_by_itself(self) -> None:
+        done = subprocess.run([support.COMMAND, "--help"],
+                              stdout=subprocess.PIPE, timeout=60)
+        self.assertEqual(done.returncode, 0)
+        self.assertIn(b"--map", done.stdout)
+
+    def test_runs_as_a_module(self) -> None:
+        done = subprocess.run([sys.executable, "-m", "nafelode", "-"],
+                              input=support.R1, stdout=subprocess.PIPE,
+                              cwd=support.PYTHON, timeout=60)
+        self.assertEqual(done.returncode, 0)
+
+    def test_map(self) -> None:
+        svg = os.path.join(self.place, "map.svg")
+        done = self.run_it("--map", svg, self.file("zone.bin", support.R1))
+        self.assertEqual((done.returncode, done.stderr), (0, b""))
+        self.assertIn(b"bays: 1", done.stdout)
+        self.assertTrue(tree.parse(svg).getroot().tag.endswith("svg"))
+
+    def test_damaged_image(self) -> None:
+        image = bytearray(support.R1)
+        image[40] = 1
+        path = self.file("bad.bin", image)
+        svg = os.path.join(self.place, "map.svg")
+        self.fails(self.run_it(path, "--map", svg), path, "offset 40",
+                   "the zeros of free blocks as above")
+        self.assertFalse(os.path.exists(svg))
+        self.fails(self.run_it("-", data=b""), "standard input", "offset 0",
+                   "the buffer has at least 16 bytes")
+
+    def test_no_such_image(self) -> None:
+        self.fails(self.run_it(os.path.join(self.place, "none")), "none")
+        self.fails(self.run_it(self.place), self.place)
+
+    def test_map_that_cannot_be_written(self) -> None:
+        path = self.file("zone.bin", support.R1)
+        for target in (self.place, os.path.join(self.place, "no", "map.svg")):
+            self.fails(self.run_it(path, "--map", target), target)
+
+    def test_map_spares_the_image(self) -> None:
+        path = self.file("zone.bin", support.R1)
+        self.fails(self.run_it(path, "--map", path), "overwrite")
+        with open(path, "rb") as stream:
+            self.assertEqual(stream.read(), support.R1)
+
+    def test_wrong_arguments(self) -> None:
+        self.fails(self.run_it(), "usage", status=2)
+        self.fails(self.run_it("--mop", "a", "b"), "usage", status=2)
+
+    def test_broken_pipe(self) -> None:
+        parts = (builder.free(4), builder.fixed(bytes(2))) * 3000
+        path = self.file("long.bin", builder.Plan(0, parts, ()).image())
+        for argument in (path, "--help"):
+            read_end, write_end = os.pipe()
+            os.close(read_end)
+            done = subprocess.run([sys.executable, support.COMMAND, argument],
+                                  stdout=write_end, stderr=subprocess.PIPE,
+                                  timeout=60)
+            os.close(write_end)
+            self.assertEqual(done.stderr, b"")
+            # Unbuffered, argparse itself passes over the lost help.
+            allowed = (1,) if argument == path else (0, 1)
+            self.assertIn(done.returncode, allowed)
+
+    @unittest.skipUnless(os.path.exists("/dev/full"), "no /dev/full")
+    def test_full_output(self) -> None:
+        path = self.file("zone.bin", support.R1)
+        with open("/dev/full", "wb") as full:
+            done = subprocess.run([sys.executable, support.COMMAND, path],
+                                  stdout=full, stderr=subprocess.PIPE,
+                                  timeout=60)
+        self.assertEqual(done.returncode, 1)
+        self.assertEqual(done.stderr.count(b"\n"), 1)
+
+
+if __name__ == "__main__":
+    unittest.main()

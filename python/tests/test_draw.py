@@ -1,0 +1,73 @@
+"""The map: that it is well-formed XML and leaves no block out."""
+
+import random
+import unittest
+import xml.etree.ElementTree as tree
+
+import builder
+import support
+from nafelode import Zone
+from nafelode.draw import draw
+from nafelode.rows import BAR_WIDTH, MOST_ROWS, wrap
+
+SVG = "{http://www.w3.org/2000/svg}"
+
+
+class Map(unittest.TestCase):
+    def tips(self, zone: Zone):
+        root = tree.fromstring(draw(zone, "image"))
+        return {title.text for title in root.iter(SVG + "title")}
+
+    def words(self, zone: Zone, name: str = ""):
+        root = tree.fromstring(draw(zone, name))
+        return [text.text for text in root.iter(SVG + "text")]
+
+    def test_every_block_is_there(self) -> None:
+        rng = random.Random(7)
+        for blocks, length in ((0, 16), (3, 64), (40, 65536), (900, 65536)):
+            plan = builder.random_plan(rng, blocks, 80, blocks // 50, 3,
+                                       length)
+            zone = Zone(plan.image())
+            tips = " | ".join(self.tips(zone))
+            for block in zone.blocks:
+                self.assertIn(f"block at {block.offset}, size {block.size}",
+                              tips)
+
+    def test_small_zone_words(self) -> None:
+        words = self.words(Zone(support.R1))
+        for expected in ("Zone of 64 bytes", "header", "next 20", "free 32",
+                         "bay 0: sum 32", "L", "fixed block", "free master"):
+            self.assertIn(expected, words)
+
+    def test_least_zones(self) -> None:
+        chain = tuple(16 + 4 * i for i in range(17))
+        for plan in (builder.Plan(0, (), ()), builder.Plan(17, (), chain),
+                     builder.Plan(0, (builder.fixed(bytes(2)),) * 3, ())):
+            self.assertTrue(self.words(Zone(plan.image())))
+
+    def test_strange_names(self) -> None:
+        words = self.words(Zone(support.R1), "a<b>&\"\x00\udcff\n.bin")
+        self.assertIn("Zone of 64 bytes \u2014 a<b>&\"???.bin", words)
+
+
+class Rows(unittest.TestCase):
+    def test_pieces_tile_a_stretch(self) -> None:
+        rows = wrap(65536, [200] * 100)
+        pieces = list(rows.pieces(1000, 30000))
+        self.assertAlmostEqual(sum(piece.width for piece in pieces),
+                               29000 * rows.scale)
+        self.assertEqual([piece.first for piece in pieces].count(True), 1)
+        self.assertEqual([piece.last for piece in pieces].count(True), 1)
+        for piece in pieces:
+            self.assertLessEqual(piece.x + piece.width, BAR_WIDTH + 0.001)
+
+    def test_number_of_rows(self) -> None:
+        self.assertEqual(wrap(64, [32]).rows, 1)
+        self.assertEqual(wrap(16, []).rows, 1)
+        for length in (1024, 65536, 1_048_576):
+            for size in (4, 64, 4096):
+                self.assertLessEqual(wrap(length, [size] * 50).rows, MOST_ROWS)
+
+
+if __name__ == "__main__":
+    unittest.main()

@@ -1,0 +1,237 @@
+"""What is read from well-formed zones."""
+
+import random
+import unittest
+
+import builder
+import support
+from nafelode import BlockType, Zone, ZoneError, check, decode_roster, read
+
+
+def r2() -> bytearray:
+    """Rig sheet, R2: relocatable 6 on a fresh zone."""
+    plan = builder.Plan(4, (builder.relocatable(16, bytes(8)),
+                            builder.free(20)), (20, 24, 28))
+    return plan.image()
+
+
+class RigSheet(unittest.TestCase):
+    def test_r1_fresh(self) -> None:
+        zone = Zone(support.R1)
+        self.assertEqual((zone.length, zone.bk_fst, zone.m, zone.h_fst_free),
+                         (64, 32, 4, 16))
+        self.assertEqual(zone.chain, (16, 20, 24, 28))
+        self.assertEqual([tuple(block) for block in zone.blocks],
+                         [(32, BlockType.FREE, 32, None)])
+        self.assertEqual(zone.sum(), (32, 32))
+        self.assertEqual(check(support.R1), (True, 0))
+
+    def test_r2_relocatable(self) -> None:
+        image = r2()
+        self.assertEqual(image[32:36].hex(), "80060010")
+        zone = Zone(image)
+        block = zone.by_handle(16)
+        self.assertEqual((block.data_offset, block.data_size), (36, 8))
+        self.assertEqual(check(image), (True, 1))
+
+    def test_r3_compacted(self) -> None:
+        # Handle 20 slid to 36, the new handle 16 stands at 48 with size 16.
+        plan = builder.Plan(4, (builder.relocatable(20, b"recipe!!"),
+                                builder.relocatable(16, bytes(16))), (24, 28))
+        zone = Zone(plan.image())
+        self.assertEqual(zone.read_handle(20), b"recipe!!")
+        self.assertEqual(zone.by_handle(20).data_offset, 36)
+        self.assertEqual(zone.by_handle(16).data_offset, 48)
+        self.assertEqual(zone.sum(), (0, 0))
+
+    def test_r5_fixed(self) -> None:
+        plan = builder.Plan(4, (builder.free(24), builder.fixed(b"splice")),
+                            (16, 20, 24, 28))
+        image = plan.image()
+        self.assertEqual(image[56:58].hex(), "4004")
+        zone = Zone(image)
+        self.assertEqual(zone.pointers, (58,))
+        self.assertEqual(zone.by_pointer(58).data_size, 6)
+        self.assertEqual(zone.read_pointer(58), b"splice")
+
+    def test_r6_bays_are_not_added(self) -> None:
+        # Fixed 0, 10, 0 at 62, 50, 46; then the one at 50 is freed.
+        plan = builder.Plan(4, (builder.free(12), builder.fixed(bytes(2)),
+                                builder.free(12), builder.fixed(bytes(2))),
+                            (16, 20, 24, 28))
+        zone = Zone(plan.image())
+        self.assertEqual(zone.pointers, (46, 62))
+        self.assertEqual([(bay.start, bay.end, bay.sum) for bay in zone.bays],
+                         [(32, 44, 12), (48, 60, 12), (64, 64, 0)])
+        self.assertEqual(zone.sum(), (24, 12))
+
+
+class RandomZones(unittest.TestCase):
+    def test_as_planned(self) -> None:
+        rng = random.Random(1983)
+        for blocks in [0, 1, 2, 3, 5, 8] * 12 + [200]:
+            plan = builder.random_plan(rng, blocks, 64, blocks // 4,
+                                       rng.randint(0, 4))
+            with self.subTest(plan=plan):
+                self.compare(plan)
+
+    def compare(self, plan: builder.Plan) -> None:
+        zone = Zone(plan.image())
+        self.assertEqual(zone.length, plan.length)
+        self.assertEqual(zone.chain, plan.chain)
+        self.assertEqual([(b.offset, b.type, b.size) for b in zone.blocks],
+                         [(offset, part.kind, part.size) for offset, part
+                          in zip(plan.offsets(), plan.parts)])
+        for block, part in zip(zone.blocks, plan.parts):
+            self.compare_block(zone, block, part)
+        self.compare_free(zone, plan)
+        self.compare_roster(zone, plan)
+
+    def compare_block(self, zone, block, part) -> None:
+        self.assertEqual(zone.read_block(block), part.data)
+        self.assertEqual(block.data_size, len(part.data))
+        if part.kind == builder.RELOCATABLE:
+            self.assertEqual(zone.read_handle(part.handle), part.data)
+            self.assertEqual(zone.by_handle(part.handle), block)
+            self.assertIsNone(block.pointer)
+        elif part.kind == builder.FIXED:
+            self.assertEqual(block.pointer, block.offset + 2)
+            self.assertEqual(zone.read_pointer(block.pointer), part.data)
+            self.assertIsNone(block.handle)
+        else:
+            self.assertIsNone(block.data_offset)
+            self.assertIsNone(block.handle)
+            self.assertIsNone(block.pointer)
+
+    def compare_free(self, zone: Zone, plan: builder.Plan) -> None:
+        bays = [[]]
+        for part in plan.parts:
+            if part.kind == builder.FIXED:
+                bays.append([])
+            elif part.kind == builder.FREE:
+                bays[-1].append(part.size)
+        self.assertEqual([bay.sum for bay in zone.bays],
+                         [sum(b) for b in bays])
+        self.assertEqual(zone.bays[0].start, plan.bk_fst)
+        self.assertEqual(zone.bays[-1].end, plan.length)
+        total = sum(map(sum, bays))
+        self.assertEqual(zone.sum(), (total, max(map(sum, bays))))
+        apart = sum(sum(b) - max(b, default=0) for b in bays)
+        self.assertEqual(zone.scatter().apart, apart)
+        self.assertEqual(zone.scatter().pieces, sum(map(len, bays)))
+
+    def compare_roster(self, zone: Zone, plan: builder.Plan) -> None:
+        expected = {(part.handle, len(part.data)) for part in plan.parts
+                    if part.kind == builder.RELOCATABLE}
+        self.assertEqual(zone.live_handles, len(expected))
+        self.assertEqual(set(zone.roster()), expected)
+        self.assertEqual(list(zone.handles), sorted(h for h, _ in expected))
+
+
+class Census(unittest.TestCase):
+    def counts(self, *sizes: int):
+        parts = []
+        for size in sizes:
+            parts += [builder.free(size), builder.fixed(bytes(2))]
+        return Zone(builder.Plan(0, tuple(parts), ()).image()).census()
+
+    def test_strata(self) -> None:
+        counts = self.counts(4, 8, 12, 16, 28, 32)
+        self.assertEqual(len(counts), 19)
+        self.assertEqual(counts, (0, 1, 2, 2, 1) + (0,) * 14)
+
+    def test_largest(self) -> None:
+        plan = builder.Plan(0, (builder.free(1_048_560),), ())
+        self.assertEqual(Zone(plan.image()).census(), (0,) * 18 + (1,))
+
+
+class Limits(unittest.TestCase):
+    def test_no_master_and_no_block(self) -> None:
+        zone = Zone(builder.Plan(0, (), ()).image())
+        self.assertEqual((zone.blocks, zone.chain), ((), ()))
+        self.assertEqual([tuple(bay) for bay in zone.bays],
+                         [(16, 16, (), 0, 0, 0)])
+        self.assertEqual(zone.census(), (0,) * 19)
+
+    def test_most_masters(self) -> None:
+        chain = tuple(16 + 4 * i for i in range(8188))
+        zone = Zone(builder.Plan(8188, (), chain).image())
+        self.assertEqual(zone.chain, chain)
+
+    def test_largest_blocks(self) -> None:
+        plan = builder.Plan(1, (builder.relocatable(16, bytes(32_760)),
+                                builder.fixed(bytes(32_762))), ())
+        zone = Zone(plan.image())
+        self.assertEqual([b.data_size for b in zone.blocks], [32_760, 32_762])
+
+    def test_bytes_beyond_the_limit_are_not_read(self) -> None:
+        image = support.R1 + b"\xff" * 1_100_000
+        self.assertEqual(Zone(image).data, support.R1)
+
+
+class Images(unittest.TestCase):
+    def test_kinds_of_image(self) -> None:
+        views = [support.R1, bytearray(support.R1), memoryview(support.R1),
+                 memoryview(support.R1).cast("I"),
+                 memoryview(bytes(b for x in support.R1 for b in (x, 9)))[::2]]
+        for image in views:
+            self.assertEqual(read(image).data, support.R1)
+
+    def test_zone_keeps_its_own_bytes(self) -> None:
+        image = bytearray(support.R1)
+        zone = Zone(image)
+        image[:] = bytes(64)
+        self.assertEqual(zone.data, support.R1)
+
+
+class Questions(unittest.TestCase):
+    def setUp(self) -> None:
+        plan = builder.Plan(3, (builder.relocatable(20, b"abcd"),
+                                builder.free(4), builder.fixed(b"123456")),
+                            (24, 16))
+        self.zone = Zone(plan.image())
+
+    def refused(self, rule: str, call, *arguments) -> None:
+        with self.assertRaises(ZoneError) as caught:
+            call(*arguments)
+        self.assertEqual(caught.exception.rule, rule)
+
+    def test_stretches(self) -> None:
+        self.assertEqual(self.zone.read_handle(20, 1, 2), b"bc")
+        self.assertEqual(self.zone.read_handle(20, 4), b"")
+        self.assertEqual(self.zone.read_pointer(42, 2), b"3456")
+
+    def test_refusals(self) -> None:
+        zone = self.zone
+        for handle in (0, 16, 24, 28, 65_556, -4, 2**32 + 20):
+            self.refused("handle not live", zone.read_handle, handle)
+        for pointer in (0, 20, 32, 40, 44, -2):
+            self.refused("pointer not that of a fixed block",
+                         zone.read_pointer, pointer)
+        past = "offset + count, unwrapped, above data size"
+        for stretch in ((0, 5), (5, 0), (5,), (2**32 - 1, 1), (-1, 1),
+                        (1, -1)):
+            self.refused(past, zone.read_handle, 20, *stretch)
+
+
+class Roster(unittest.TestCase):
+    BYTES = bytes.fromhex("00000010 00000008 00000018 00000000")
+
+    def test_records(self) -> None:
+        self.assertEqual(decode_roster(self.BYTES), ((16, 8), (24, 0)))
+        self.assertEqual(decode_roster(b""), ())
+
+    def test_later_bytes_stay_unread(self) -> None:
+        self.assertEqual(decode_roster(self.BYTES + b"xyz", 1), ((16, 8),))
+
+    def test_short(self) -> None:
+        for image, count, offset in ((self.BYTES[:-1], None, 8),
+                                     (self.BYTES, 3, 16), (b"1", None, 0)):
+            with self.assertRaises(ZoneError) as caught:
+                decode_roster(image, count)
+            self.assertEqual(caught.exception.rule, "8 bytes a live handle")
+            self.assertEqual(caught.exception.offset, offset)
+
+
+if __name__ == "__main__":
+    unittest.main()
