@@ -8,6 +8,7 @@ ghost use Rattle.zone.specs.OnBytes.{result, callBytes};
 ghost use Rattle.allocate_fixed.specs.Fixed.{allocated};
 ghost use Rattle.allocate_fixed.specs.Site.{SiteIn, PlannedIn, Planned};
 use block_type::BlockType;
+use calls::Told;
 
 // The new block of need bytes at the end of the bay from a to e. Its data are zero, also where a free block's header stood.
 fn place(z: &mut [u8], need: usize, a: usize, e: usize, sum: usize, tail: usize)
@@ -102,11 +103,6 @@ fn plan_zone(zone: &[u8], c: u32) -> Plan
         sum,
         tail,
     }
-}
-
-pub struct Told {
-    pub number: u32,
-    pub value: u32,
 }
 
 // Allocates a fixed block for c data bytes. Answers the refusal number, 0 if done, and the offset of its data, its pointer.

@@ -25,7 +25,7 @@ use Rattle.zone.proofs.Run.{well-whole}
 use Rattle.call_laws.proofs.Outcome.{call-ill, call-of, after-call}
 use Rattle.allocate_relocatable.proofs.Bays.{with, step-is}
 
-get-none : (h : ℕ) (es : List Item) → count h es ≡ 0 → get h es ≡ none
+pub get-none : (h : ℕ) (es : List Item) → count h es ≡ 0 → get h es ≡ none
 get-none h [] e = refl
 get-none h (i ∷ es) e = go (is h i) e (get-none h es)
   where
@@ -44,7 +44,7 @@ module _ (i : Item) where
       perm-get (i .handle) p (omega (arith, perm-count (i .handle) p, k)) ∙ (rw (eq-eqb (i .handle) (i .handle) refl))
 
   -- a new handle is found where it has been put
-  low-found : (s : Bays (List Cell) Fixed) → live (i .handle) s ≡ 0 → Each (λ (u : Bays (List Cell) Fixed). find u ≡ some i) (placeLow zoneBays i s)
+  pub low-found : (s : Bays (List Cell) Fixed) → live (i .handle) s ≡ 0 → Each (λ (u : Bays (List Cell) Fixed). find u ≡ some i) (placeLow zoneBays i s)
   low-found (last b) e = each-cond (leb (itemSize i) (baySum b)) (λ t. just (put-found b e (leb-true (itemSize i) (baySum b) t))) nothing
   low-found (more b x s) e =
       each-cond (leb (itemSize i) (baySum b))

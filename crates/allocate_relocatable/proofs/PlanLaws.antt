@@ -33,14 +33,14 @@ use mir.Syntax.{w64}
 use Rattle.allocate_relocatable.specs.Site.{HoleOf, there, made, SiteIn, site-in, BayOf, BayIn, bay-in}
 
 -- what a hole's numbers say
-hole-found : (need a at n : ℕ) (mid : List Block) (t : Bool) → holeN true at n ≡ holeAt (firstFit need (holes mid)) → t ≡ false → HoleOf mid need a (a + at) n t
+pub hole-found : (need a at n : ℕ) (mid : List Block) (t : Bool) → holeN true at n ≡ holeAt (firstFit need (holes mid)) → t ≡ false → HoleOf mid need a (a + at) n t
 hole-found need a at n mid t e f = go (firstFit need (holes mid)) refl e
   where
     go : (c : Choice) → firstFit need (holes mid) ≡ c → holeN true at n ≡ holeAt c → HoleOf mid need a (a + at) n t
     go none q x = absurd (not-both refl (ap (λ (h : HoleN). h .found) x))
     go (some p) q x = there f p q (ap (λ (h : HoleN). a + h .at) x) (ap (λ (h : HoleN). h .size) x)
 
-hole-none : (need at n : ℕ) (mid : List Block) → holeN false at n ≡ holeAt (firstFit need (holes mid)) → firstFit need (holes mid) ≡ none
+pub hole-none : (need at n : ℕ) (mid : List Block) → holeN false at n ≡ holeAt (firstFit need (holes mid)) → firstFit need (holes mid) ≡ none
 hole-none need at n mid e = go (firstFit need (holes mid)) refl e
   where
     go : (c : Choice) → firstFit need (holes mid) ≡ c → holeN false at n ≡ holeAt c → firstFit need (holes mid) ≡ none

@@ -27,7 +27,7 @@ use Rattle.allocate_relocatable.specs.Site.{SiteIn, site-in, BayIn, bay-
 pub need-four : (c : ℕ) → needOf c % 4 ≡ 0
 need-four c = omega arith
 
-start-numbers : (need first : ℕ) (bs : List Block) → bayAt first (firstFit need (bays bs)) ≡ findBay need first first 0 bs
+pub start-numbers : (need first : ℕ) (bs : List Block) → bayAt first (firstFit need (bays bs)) ≡ findBay need first first 0 bs
 unfolding sizes freeTotal
 start-numbers need first bs = rw (add-zero first, add-zero first) at (bay-numbers need first [] [] bs)
 

@@ -12,6 +12,7 @@ ghost use Rattle.calls.specs.Calls.{told, allocate-relocatable};
 ghost use Rattle.zone.specs.OnBytes.{result, callBytes};
 ghost use Rattle.allocate_relocatable.specs.Site.{Fit, SiteIn, BayIn, PlannedIn, Planned};
 use block_type::BlockType;
+use calls::Told;
 
 // A relocatable block of `need` bytes with handle h from the low end of the free block of n bytes at `at`; the rest of that stays free.
 fn cut_block(z: &mut [u8], at: usize, n: usize, need: usize, h: usize)
@@ -195,11 +196,6 @@ fn plan_zone(zone: &[u8], c: u32) -> Plan
         size,
         tidy,
     }
-}
-
-pub struct Told {
-    pub number: u32,
-    pub value: u32,
 }
 
 // Allocates a relocatable block for c data bytes. Answers the refusal number, 0 if done, and the handle.

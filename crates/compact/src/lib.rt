@@ -12,6 +12,7 @@ ghost use Rattle.compact.specs.Compact.{Planned};
 ghost use Rattle.calls.specs.Calls.{told, compact};
 ghost use Rattle.zone.specs.OnBytes.{result, callBytes};
 use block_type::BlockType;
+use calls::Told;
 
 pub struct Stretch {
     pub end: usize,
@@ -110,11 +111,6 @@ fn plan(zone: &[u8]) -> CompactPlan
         len: l,
         first,
     }
-}
-
-pub struct Told {
-    pub number: u32,
-    pub value: u32,
 }
 
 // Compacts every bay. Answers the refusal number, 0 if done, and the largest sum.

@@ -8,6 +8,7 @@ ghost use Rattle.access.specs.Edit.{IsZone};
 ghost use Rattle.calls.specs.Calls.{told, enlarge};
 ghost use Rattle.zone.specs.OnBytes.{result, callBytes};
 ghost use Rattle.enlarge.specs.Enlarge.{accepts, TailIn, Planned};
+use calls::Told;
 
 // Whether a zone of n bytes, k of them new, is possible in a buffer of `buf` bytes.
 fn is_accepted(buf: usize, n: usize, k: usize) -> bool
@@ -69,11 +70,6 @@ fn extend(z: &mut [u8], from: usize)
     let n = z.len();
     bigendian::put4(z, 0, n as u32);
     release::blank(z, from, n);
-}
-
-pub struct Told {
-    pub number: u32,
-    pub value: u32,
 }
 
 // Lengthens the zone by k bytes. Answers the refusal number, 0 if done, and 0.

@@ -7,6 +7,8 @@ ghost use Rattle.zone.specs.OnBytes.{result, callBytes};
 ghost use Rattle.locate.specs.Locate.{targetPlace, targetData};
 ghost use Rattle.free_pointer.specs.Free.{SpanIn, Planned};
 use block_type::BlockType;
+use calls::Told;
+use locate::Block;
 
 pub struct Extent {
     pub from: usize,
@@ -42,7 +44,7 @@ pub struct FreePlan {
 fn free_plan(zone: &[u8], p: u32) -> FreePlan
     ensures { λ r. ⌜ Planned (now (zone .entry)) p (r .number) (r .len) (r .from) (r .to) ⌝ }
 {
-    let f = locate::find_pointer(zone, p);
+    let f = locate::find(zone, Block::Pointer(p));
     let number = f.number;
     let at = f.at;
     let size = f.size;
@@ -64,11 +66,6 @@ fn free_plan(zone: &[u8], p: u32) -> FreePlan
         from: 0,
         to: 0,
     }
-}
-
-pub struct Told {
-    pub number: u32,
-    pub value: u32,
 }
 
 // Frees a pointer's block. Answers the refusal number, 0 if done, and 0.

@@ -9,6 +9,7 @@ ghost use Rattle.calls.specs.Calls.{told};
 ghost use Rattle.zone.specs.OnBytes.{result, accepts, initBytes};
 ghost use Rattle.initialize.specs.Fresh.{sizeBytes, headBytes, linkAfter, chainBytes, freeBytes, freshBytes, Fresh};
 use block_type::BlockType;
+use calls::Told;
 
 // Whether a zone of n bytes with m masters can be made in a buffer of `buf` bytes.
 fn is_accepted(buf: usize, n: usize, m: usize) -> bool
@@ -91,11 +92,6 @@ fn make(z: &mut [u8], n: usize, m: usize)
     put_header(z, n, m);
     put_chain(z, m);
     put_free(z, 16 + 4 * m, n);
-}
-
-pub struct Told {
-    pub number: u32,
-    pub value: u32,
 }
 
 // Makes a zone of `length` bytes with m masters at the start of the buffer. Answers the refusal number, 0 if done, and 0.

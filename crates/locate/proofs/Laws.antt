@@ -15,7 +15,8 @@ use Rattle.format.specs.Steps.{Fields}
 use Rattle.format.proofs.Bool.{and-left, and-right}
 use Rattle.format.proofs.Header.{header-facts}
 use Rattle.format.proofs.Count.{occurs, one-same}
-use Rattle.structure.specs.Structure.{Block, free, fixed, reloc, start, count, decodeBlock, decodeZone}
+use Rattle.structure.specs.Structure as Structure
+use Rattle.structure.specs.Structure.{free, fixed, reloc, start, count, decodeBlock, decodeZone}
 use Rattle.structure.proofs.Valid.{handlesOf, Tiled}
 use Rattle.structure.proofs.Round.{offset-is, rest-is}
 use Rattle.structure.proofs.Table.{Whole, whole, start-is, encode-zone}
@@ -25,6 +26,9 @@ use Rattle.access.specs.Edit.{IsZone, is-zone, whole-of}
 use Rattle.row.specs.Row.{blocksOf, Sound, Row, row, Stepped}
 use Rattle.row.proofs.Laws.{row-end}
 use Rattle.calls.specs.Calls.{Target, by-handle, by-pointer, absentNumber}
+use Rattle.locate.specs.declared.Block.{Block}
+use Rattle.locate.specs.declared.Block.the-variants.{Handle, Pointer}
+use Rattle.locate.specs.Named.{targetOf}
 use Rattle.locate.specs.Locate.{placeAmong, dataAmong, targetPlace, targetData, Located, ill-formed, absent, present}
 use Rattle.locate.proofs.Among.{handle-place, handle-data, pointer-place, pointer-data}
 
@@ -40,7 +44,7 @@ data-by-handle z h n e = e ∙ ap length (handle-data h (start (decodeZone z)) (
 
 -- ---- the walk
 
-tiled-sound : (prev : Bool) (bs : List Block) → Tiled prev bs → ((h : ℕ) → 0 < occurs h (handlesOf bs) → h < 65536) → Sound bs
+tiled-sound : (prev : Bool) (bs : List Structure.Block) → Tiled prev bs → ((h : ℕ) → 0 < occurs h (handlesOf bs) → h < 65536) → Sound bs
 unfolding handlesOf occurs
 tiled-sound prev [] t f = tt
 tiled-sound prev (free n ∷ bs) t f = ((t .1, t .2, t .3), tiled-sound true bs (t .4) f)
@@ -143,13 +147,20 @@ module _ (s : List ℕ) (ok : Bool) (e : ok ≡ wellFormed s) (q : not ok ≡ fa
       pub located-yes : (n : ℕ) → Bytes s → (at ≡ 0 → ⊥) → n ≡ length (targetData t (take l s)) → Located s t 0 at n
       located-yes n y z en = present y wf (rw el at ea) z (rw el at en) refl
 
-pub located-6 : (s : List ℕ) (h : ℕ) (ok : Bool) (l at : ℕ) → ok ≡ wellFormed s → not ok ≡ false → l ≡ fromBE (slice s 0 4) → at ≡ targetPlace (by-handle h) (take l s) → Bytes s → at ≡ 0
-    → Located s (by-handle h) 6 0 0
-located-6 s h ok l at e q el ea y z = located-no s ok e q l el (by-handle h) at ea 6 y z refl
+-- ---- a block by its name
 
-pub located-7 : (s : List ℕ) (p : ℕ) (ok : Bool) (l at : ℕ) → ok ≡ wellFormed s → not ok ≡ false → l ≡ fromBE (slice s 0 4) → at ≡ targetPlace (by-pointer p) (take l s) → Bytes s → at ≡ 0
-    → Located s (by-pointer p) 7 0 0
-located-7 s p ok l at e q el ea y z = located-no s ok e q l el (by-pointer p) at ea 7 y z refl
+module _ (z : List ℕ) (b : Block) (v n : ℕ) where
+  pub named-handle : b ≡ Handle n → v ≡ targetPlace (by-handle n) z → v ≡ targetPlace (targetOf b) z
+  named-handle q e = rw q e
+
+  pub held-handle : b ≡ Handle n → v ≡ length (targetData (by-handle n) z) → v ≡ length (targetData (targetOf b) z)
+  held-handle q e = rw q e
+
+  pub named-pointer : b ≡ Pointer n → v ≡ targetPlace (by-pointer n) z → v ≡ targetPlace (targetOf b) z
+  named-pointer q e = rw q e
+
+  pub held-pointer : b ≡ Pointer n → v ≡ length (targetData (by-pointer n) z) → v ≡ length (targetData (targetOf b) z)
+  held-pointer q e = rw q e
 
 -- ---- the test of one block
 

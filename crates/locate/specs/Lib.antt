@@ -1,1 +1,2 @@
 pub mod Locate
+pub mod Named

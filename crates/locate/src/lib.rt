@@ -7,9 +7,16 @@ ghost use lib.Dec.{eqb};
 ghost use Rattle.block_type.specs.Limits.{fixedCode, fixedHeader};
 ghost use Rattle.format.specs.WellFormed.{typeOf};
 ghost use Rattle.access.specs.Edit.{IsZone};
-ghost use Rattle.calls.specs.Calls.{by-handle, by-pointer};
+ghost use Rattle.calls.specs.Calls.{by-handle, by-pointer, absentNumber};
 ghost use Rattle.locate.specs.Locate.{targetPlace, targetData, Located};
+ghost use Rattle.locate.specs.Named.{targetOf};
 use block_type::BlockType;
+
+// A block is named by its handle, or by its pointer where it is fixed.
+pub enum Block {
+    Handle(u32),
+    Pointer(u32),
+}
 
 // Where a block's data begin, 0 for no block, and how many bytes they are.
 pub struct Span {
@@ -18,12 +25,12 @@ pub struct Span {
 }
 
 // The data of a handle, in the bytes of a well-formed zone with none beyond its length.
-fn by_handle(z: &[u8], h: usize) -> Span
-    requires { ⌜ (IsZone (now z)) × (h < 4294967296) ⌝ }
+fn by_handle(z: &[u8], h: u32) -> Span
+    requires { ⌜ IsZone (now z) ⌝ }
     ensures { λ r. ⌜ (r .at ≡ targetPlace (by-handle h) (now (z .entry))) × (r .size ≡ length (targetData (by-handle h) (now (z .entry)))) ⌝ }
 {
-    let at = access::place(z, h);
-    let size = access::data_size(z, h);
+    let at = access::place(z, h as usize);
+    let size = access::data_size(z, h as usize);
     Span { at, size }
 }
 
@@ -36,22 +43,44 @@ fn is_pointer(z: &[u8], at: usize, p: usize) -> bool
 }
 
 // The data of a pointer, found from block to block: only the start of a fixed block counts.
-fn by_pointer(z: &[u8], p: usize) -> Span
+fn by_pointer(z: &[u8], p: u32) -> Span
     requires { ⌜ IsZone (now z) ⌝ }
     ensures { λ r. ⌜ (r .at ≡ targetPlace (by-pointer p) (now (z .entry))) × (r .size ≡ length (targetData (by-pointer p) (now (z .entry)))) ⌝ }
 {
+    let place = p as usize;
     let mut at = bigendian::get4(z, 4) as usize;
     while at < z.len() {
         let n = row::step(z, at);
-        if is_pointer(z, at, p) {
+        if is_pointer(z, at, place) {
             return Span {
-                at: p,
+                at: place,
                 size: n - BlockType::FIXED_HEADER,
             };
         }
         at += n;
     }
     Span { at: 0, size: 0 }
+}
+
+// The data of a block, in the bytes of a well-formed zone with none beyond its length.
+fn span_of(z: &[u8], block: Block) -> Span
+    requires { ⌜ IsZone (now z) ⌝ }
+    ensures { λ r. ⌜ (r .at ≡ targetPlace (targetOf block) (now (z .entry))) × (r .size ≡ length (targetData (targetOf block) (now (z .entry)))) ⌝ }
+{
+    match block {
+        Block::Handle(h) => by_handle(z, h),
+        Block::Pointer(p) => by_pointer(z, p),
+    }
+}
+
+// The refusal where no block is so named.
+fn absent_number(block: Block) -> u32
+    ensures { λ r. ⌜ r ≡ absentNumber (targetOf block) ⌝ }
+{
+    match block {
+        Block::Handle(_) => 6,
+        Block::Pointer(_) => 7,
+    }
 }
 
 // A refusal number, 0 for none, and then a block's data.
@@ -61,9 +90,9 @@ pub struct Found {
     pub size: usize,
 }
 
-// The data of a handle in any buffer: refused with 1 or 6.
-pub fn find_handle(zone: &[u8], h: u32) -> Found
-    ensures { λ r. ⌜ Located (now (zone .entry)) (by-handle h) (r .number) (r .at) (r .size) ⌝ }
+// The data of a block in any buffer: refused with 1, 6 or 7.
+pub fn find(zone: &[u8], block: Block) -> Found
+    ensures { λ r. ⌜ Located (now (zone .entry)) (targetOf block) (r .number) (r .at) (r .size) ⌝ }
 {
     let k = zone_check::check(zone);
     let ok = k.ok;
@@ -75,43 +104,13 @@ pub fn find_handle(zone: &[u8], h: u32) -> Found
         };
     }
     let l = bigendian::get4(zone, 0) as usize;
-    let s = by_handle(&zone[..l], h as usize);
+    let s = span_of(&zone[..l], block);
     let at = s.at;
     let size = s.size;
     if at == 0 {
+        let number = absent_number(block);
         return Found {
-            number: 6,
-            at: 0,
-            size: 0,
-        };
-    }
-    Found {
-        number: 0,
-        at,
-        size,
-    }
-}
-
-// The data of a pointer in any buffer: refused with 1 or 7.
-pub fn find_pointer(zone: &[u8], p: u32) -> Found
-    ensures { λ r. ⌜ Located (now (zone .entry)) (by-pointer p) (r .number) (r .at) (r .size) ⌝ }
-{
-    let k = zone_check::check(zone);
-    let ok = k.ok;
-    if !ok {
-        return Found {
-            number: 1,
-            at: 0,
-            size: 0,
-        };
-    }
-    let l = bigendian::get4(zone, 0) as usize;
-    let s = by_pointer(&zone[..l], p as usize);
-    let at = s.at;
-    let size = s.size;
-    if at == 0 {
-        return Found {
-            number: 7,
+            number,
             at: 0,
             size: 0,
         };

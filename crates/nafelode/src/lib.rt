@@ -1,43 +1,47 @@
 // The zone's calls. Each takes any buffer and any numbers, and promises its answer and every byte that it leaves: `Promise` is what
-// the list theorem asks of a call.
+// the list theorem asks of a call. Census and walker, which the ledger does not know, promise equations to their definitions.
 ghost use mathlib.Core.Path.{_≡_};
-ghost use Rattle.calls.specs.Calls.{told, allocate-relocatable, allocate-fixed, free-handle, free-pointer, compact, enlarge, shrink};
+ghost use mathlib.Core.Bool.{cond};
+ghost use Prim.Native.Nat.{_+_};
+ghost use lib.ListN.{length};
+ghost use Rattle.calls.specs.Calls.{allocate-relocatable, allocate-fixed, free-handle, free-pointer, resize, size, read, write, view, compact, sums, check, length-of, enlarge, shrink, roster};
+ghost use Rattle.calls.specs.Calls.{told, shows, answersTwo};
 ghost use Rattle.zone.specs.Promise.{Promise, InitPromise};
-
-// The refusal number, 0 for done, and the value.
-pub struct Told {
-    pub number: u32,
-    pub value: u32,
-}
+ghost use Rattle.locate.specs.Named.{targetOf};
+ghost use Rattle.stretch.specs.Stretch.{viewStart, viewLength};
+ghost use Rattle.tell.specs.Largest.{summed};
+ghost use Rattle.roster.specs.Listed.{rosterAnswer};
+pub use calls::Told;
+pub use census::Counts;
+pub use census::census;
+pub use locate::Block;
+pub use stretch::Stretch;
+pub use tell::Sums;
+pub use walker::Described;
+pub use walker::Moved;
+pub use walker::Report;
+pub use walker::Walker;
+pub use zone_check::Checked;
 
 // A new zone of `length` bytes with m masters.
 pub fn initialize(zone: &mut [u8], length: u32, m: u32) -> Told
     ensures { λ r. ⌜ InitPromise length m (now (zone .entry)) (told (r .number) (r .value)) (now (zone .exit)) ⌝ }
 {
-    let t = initialize::initialize(zone, length, m);
-    let number = t.number;
-    let value = t.value;
-    Told { number, value }
+    initialize::initialize(zone, length, m)
 }
 
 // A relocatable block for c data bytes. Answers its handle.
 pub fn allocate_relocatable(zone: &mut [u8], c: u32) -> Told
     ensures { λ r. ⌜ Promise (allocate-relocatable c) (now (zone .entry)) (told (r .number) (r .value)) (now (zone .exit)) ⌝ }
 {
-    let t = allocate_relocatable::allocate_relocatable(zone, c);
-    let number = t.number;
-    let value = t.value;
-    Told { number, value }
+    allocate_relocatable::allocate_relocatable(zone, c)
 }
 
 // A fixed block for c data bytes. Answers its pointer.
 pub fn allocate_fixed(zone: &mut [u8], c: u32) -> Told
     ensures { λ r. ⌜ Promise (allocate-fixed c) (now (zone .entry)) (told (r .number) (r .value)) (now (zone .exit)) ⌝ }
 {
-    let t = allocate_fixed::allocate_fixed(zone, c);
-    let number = t.number;
-    let value = t.value;
-    Told { number, value }
+    allocate_fixed::allocate_fixed(zone, c)
 }
 
 // Frees the relocatable block of handle h.
@@ -52,38 +56,91 @@ pub fn free_handle(zone: &mut [u8], h: u32) -> Told
 pub fn free_pointer(zone: &mut [u8], p: u32) -> Told
     ensures { λ r. ⌜ Promise (free-pointer p) (now (zone .entry)) (told (r .number) (r .value)) (now (zone .exit)) ⌝ }
 {
-    let t = free_pointer::free_pointer(zone, p);
-    let number = t.number;
-    let value = t.value;
-    Told { number, value }
+    free_pointer::free_pointer(zone, p)
+}
+
+// The block of handle h gets c data bytes.
+pub fn resize(zone: &mut [u8], h: u32, c: u32) -> Told
+    ensures { λ r. ⌜ Promise (resize h c) (now (zone .entry)) (told (r .number) (r .value)) (now (zone .exit)) ⌝ }
+{
+    resize::resize(zone, h, c)
 }
 
 // Compacts every bay. Answers the largest sum.
 pub fn compact(zone: &mut [u8]) -> Told
     ensures { λ r. ⌜ Promise compact (now (zone .entry)) (told (r .number) (r .value)) (now (zone .exit)) ⌝ }
 {
-    let t = compact::compact(zone);
-    let number = t.number;
-    let value = t.value;
-    Told { number, value }
+    compact::compact(zone)
 }
 
 // The zone grows by k bytes.
 pub fn enlarge(zone: &mut [u8], k: u32) -> Told
     ensures { λ r. ⌜ Promise (enlarge k) (now (zone .entry)) (told (r .number) (r .value)) (now (zone .exit)) ⌝ }
 {
-    let t = enlarge::enlarge(zone, k);
-    let number = t.number;
-    let value = t.value;
-    Told { number, value }
+    enlarge::enlarge(zone, k)
 }
 
 // Strips at most k bytes off the end of the zone. Answers how many.
 pub fn shrink(zone: &mut [u8], k: u32) -> Told
     ensures { λ r. ⌜ Promise (shrink k) (now (zone .entry)) (told (r .number) (r .value)) (now (zone .exit)) ⌝ }
 {
-    let t = shrink::shrink(zone, k);
-    let number = t.number;
-    let value = t.value;
-    Told { number, value }
+    shrink::shrink(zone, k)
+}
+
+// The data size of a block.
+pub fn size(zone: &[u8], block: Block) -> Told
+    ensures { λ r. ⌜ Promise (size (targetOf block)) (now (zone .entry)) (told (r .number) (r .value)) (now (zone .entry)) ⌝ }
+{
+    stretch::size(zone, block)
+}
+
+// Copies a stretch to the start of out. Answers the refusal number, 0 if done.
+pub fn read(zone: &[u8], s: Stretch, out: &mut [u8]) -> u32
+    ensures { λ r. ⌜ Promise (read (targetOf (s .block)) (s .offset) (s .count) (now (out .entry))) (now (zone .entry)) (shows r (now (out .exit))) (now (zone .entry)) ⌝ }
+{
+    stretch::read(zone, s, out)
+}
+
+// Copies bytes from the start of src to a stretch. Answers the refusal number, 0 if done.
+pub fn write(zone: &mut [u8], s: Stretch, src: &[u8]) -> u32
+    ensures { λ r. ⌜ Promise (write (targetOf (s .block)) (s .offset) (s .count) (now (src .entry))) (now (zone .entry)) (shows r (now (src .entry))) (now (zone .exit)) ⌝ }
+{
+    stretch_write::write(zone, s, src)
+}
+
+// A stretch, as the part of the zone that it is; refused, the empty part at the zone's first byte.
+pub fn view<'a>(zone: &'a [u8], s: Stretch) -> &'a [u8]
+    ensures { λ r. ⌜ Promise (view (targetOf (s .block)) (s .offset) (s .count)) (now (zone .entry)) (shows 0 (now r)) (now (zone .entry)) ⌝ }
+    ensures { λ r. ⌜ r .ptr ≡ (zone .entry .ptr .0, zone .entry .ptr .1 + viewStart (targetOf (s .block)) (s .offset) (s .count) (now (zone .entry))) ⌝ }
+    ensures { λ r. ⌜ length (now r) ≡ viewLength (targetOf (s .block)) (s .offset) (s .count) (now (zone .entry)) ⌝ }
+{
+    stretch::view(zone, s)
+}
+
+// The total of free bytes and the largest bay's sum; 0 for each when refused.
+pub fn sum(zone: &[u8]) -> Sums
+    ensures { λ r. ⌜ Promise sums (now (zone .entry)) (summed (r .number) (r .total) (r .largest)) (now (zone .entry)) ⌝ }
+{
+    tell::sum(zone)
+}
+
+// Yes or no, and the number of live handles; 0 for no.
+pub fn check(zone: &[u8]) -> Checked
+    ensures { λ r. ⌜ Promise check (now (zone .entry)) (answersTwo (cond (r .ok) 1 0) (r .count)) (now (zone .entry)) ⌝ }
+{
+    tell::check(zone)
+}
+
+// The length of the zone.
+pub fn length(zone: &[u8]) -> Told
+    ensures { λ r. ⌜ Promise length-of (now (zone .entry)) (told (r .number) (r .value)) (now (zone .entry)) ⌝ }
+{
+    tell::length(zone)
+}
+
+// Handle and data size of each live handle, 4 bytes each, to the start of out. Answers how many.
+pub fn roster(zone: &[u8], out: &mut [u8]) -> Told
+    ensures { λ r. ⌜ Promise (roster (now (out .entry))) (now (zone .entry)) (rosterAnswer (r .number) (r .value) (now (out .exit))) (now (zone .entry)) ⌝ }
+{
+    roster::roster(zone, out)
 }

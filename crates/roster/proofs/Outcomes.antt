@@ -23,7 +23,7 @@ use Rattle.zone.specs.Roster.{cardsIn}
 use Rattle.zone.specs.Promise.{Promise}
 use Rattle.tell.proofs.Outcomes.{unchanged}
 use Rattle.tell.proofs.CheckLaws.{liveS}
-use Rattle.roster.specs.Listed.{Rostered}
+use Rattle.roster.specs.Listed.{Rostered, rosterAnswer}
 use Rattle.roster.proofs.Order.{blockCards, cards-are}
 
 -- how often a handle is in some records
@@ -66,10 +66,6 @@ entries-are zone entry exit v y w r h =
     (e, omega (arith, e, valid zone y w .owned h, offset-le h 16 (count (decode zone))))
 
 -- ---- the promise of a call
-
--- the answer that a refusal number, a value and the second buffer after the call stand for
-abbrev pub rosterAnswer : ℕ → ℕ → List ℕ → Answer
-rosterAnswer n v exit = record { number = n; value = v; second = 0; bytes = drop (recordSize * v) exit; records = cardsIn v exit }
 
 no-second : (zone entry : List ℕ) → _≡_ {A = ℕ} 0 ((callBytes (roster entry) zone) .answer .second)
 no-second zone entry = go (wellFormed zone) refl (hasRoom zone entry) refl

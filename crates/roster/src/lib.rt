@@ -7,6 +7,7 @@ ghost use Rattle.bigendian.specs.BigEndian.{toBE, overwrite};
 ghost use Rattle.access.specs.Edit.{placeIn, dataIn, IsZone};
 ghost use Rattle.zone.specs.Roster.{cardBytes};
 ghost use Rattle.roster.specs.Listed.{cardsOf, allCards, Entered, Planned, Rostered};
+use calls::Told;
 
 // Where a handle's data lies, 0 where it is not live, and its data size.
 pub struct Entry {
@@ -92,12 +93,6 @@ fn prepare(zone: &[u8], have: usize) -> Plan
         count: n as u32,
         len: bigendian::get4(zone, 0) as usize,
     }
-}
-
-// A refusal number, 0 for done, and how many records there are.
-pub struct Told {
-    pub number: u32,
-    pub value: u32,
 }
 
 // Handle and data size of each live handle, 4 bytes each, to the start of the second buffer.

@@ -9,6 +9,7 @@ ghost use Rattle.calls.specs.Calls.{told, shrink};
 ghost use Rattle.zone.specs.OnBytes.{result, callBytes};
 ghost use Rattle.shrink.specs.Shrunk.{stripped};
 ghost use Rattle.shrink.specs.Site.{SiteIn, PlannedIn, Planned};
+use calls::Told;
 
 // Strips n bytes off the last bay, from a to e; they are zero then, and the length falls by n.
 fn strip(z: &mut [u8], n: usize, a: usize, e: usize, sum: usize, tail: usize)
@@ -94,11 +95,6 @@ fn plan_zone(zone: &[u8], k: u32) -> Plan
         sum,
         tail,
     }
-}
-
-pub struct Told {
-    pub number: u32,
-    pub value: u32,
 }
 
 // Strips k bytes off the zone's end, rounded down to a multiple of 4, or as many as the last bay has free. Answers the refusal number,

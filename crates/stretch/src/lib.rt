@@ -2,36 +2,28 @@
 ghost use mathlib.Core.Path.{_≡_};
 ghost use Prim.Native.Nat.{_+_, _≤_};
 ghost use lib.ListN.{length};
-ghost use Rattle.calls.specs.Calls.{by-handle, by-pointer, size, read, view, told, shows};
+ghost use Rattle.calls.specs.Calls.{size, read, view, told, shows};
 ghost use Rattle.zone.specs.OnBytes.{callBytes};
+ghost use Rattle.locate.specs.Named.{targetOf};
 ghost use Rattle.stretch.specs.Stretch.{IsPart, Planned, viewStart, viewLength};
+use calls::Told;
+use locate::Block;
 
-// A refusal number, 0 if done, and a value.
-pub struct Told {
-    pub number: u32,
-    pub value: u32,
+// `count` bytes of a block from an offset on.
+pub struct Stretch {
+    pub block: Block,
+    pub offset: u32,
+    pub count: u32,
 }
 
-// The data size of a handle's block.
-pub fn size_of_handle(zone: &[u8], h: u32) -> Told
-    ensures { λ r. ⌜ told (r .number) (r .value) ≡ (callBytes (size (by-handle h)) (now (zone .entry))) .answer ⌝ }
+// The data size of a block.
+pub fn size(zone: &[u8], block: Block) -> Told
+    ensures { λ r. ⌜ told (r .number) (r .value) ≡ (callBytes (size (targetOf block)) (now (zone .entry))) .answer ⌝ }
 {
-    let f = locate::find_handle(zone, h);
-    Told {
-        number: f.number,
-        value: f.size as u32,
-    }
-}
-
-// The data size of a pointer's block.
-pub fn size_of_pointer(zone: &[u8], p: u32) -> Told
-    ensures { λ r. ⌜ told (r .number) (r .value) ≡ (callBytes (size (by-pointer p)) (now (zone .entry))) .answer ⌝ }
-{
-    let f = locate::find_pointer(zone, p);
-    Told {
-        number: f.number,
-        value: f.size as u32,
-    }
+    let f = locate::find(zone, block);
+    let number = f.number;
+    let value = f.size as u32;
+    Told { number, value }
 }
 
 // The refusal of a stretch, 0 for none, and then where it starts and ends in the zone.
@@ -76,27 +68,20 @@ fn reach(number: u32, at: usize, size: usize, offset: u32, count: u32, have: usi
     }
 }
 
-// A stretch of a handle's block.
-pub fn part_of_handle(zone: &[u8], h: u32, offset: u32, count: u32, have: usize) -> Part
-    ensures { λ r. ⌜ Planned (now (zone .entry)) (by-handle h) offset count have (r .number) (r .start) (r .end) ⌝ }
+// A stretch of a block, for a second buffer of `have` bytes.
+pub fn part_of(zone: &[u8], s: Stretch, have: usize) -> Part
+    ensures { λ r. ⌜ Planned (now (zone .entry)) (targetOf (s .block)) (s .offset) (s .count) have (r .number) (r .start) (r .end) ⌝ }
 {
-    let block = locate::find_handle(zone, h);
-    reach(block.number, block.at, block.size, offset, count, have)
+    let block = s.block;
+    let found = locate::find(zone, block);
+    reach(found.number, found.at, found.size, s.offset, s.count, have)
 }
 
-// A stretch of a pointer's block.
-pub fn part_of_pointer(zone: &[u8], p: u32, offset: u32, count: u32, have: usize) -> Part
-    ensures { λ r. ⌜ Planned (now (zone .entry)) (by-pointer p) offset count have (r .number) (r .start) (r .end) ⌝ }
+// Copies a stretch to the start of out. Answers the refusal number, 0 if done.
+pub fn read(zone: &[u8], s: Stretch, out: &mut [u8]) -> u32
+    ensures { λ r. ⌜ shows r (now (out .exit)) ≡ (callBytes (read (targetOf (s .block)) (s .offset) (s .count) (now (out .entry))) (now (zone .entry))) .answer ⌝ }
 {
-    let block = locate::find_pointer(zone, p);
-    reach(block.number, block.at, block.size, offset, count, have)
-}
-
-// Copies a stretch of a handle's block to the start of out. Answers the refusal number, 0 if done.
-pub fn read_handle(zone: &[u8], h: u32, offset: u32, count: u32, out: &mut [u8]) -> u32
-    ensures { λ r. ⌜ shows r (now (out .exit)) ≡ (callBytes (read (by-handle h) offset count (now (out .entry))) (now (zone .entry))) .answer ⌝ }
-{
-    let part = part_of_handle(zone, h, offset, count, out.len());
+    let part = part_of(zone, s, out.len());
     let number = part.number;
     if number == 0 {
         let start = part.start;
@@ -107,40 +92,13 @@ pub fn read_handle(zone: &[u8], h: u32, offset: u32, count: u32, out: &mut [u8])
     number
 }
 
-// Copies a stretch of a pointer's block to the start of out. Answers the refusal number, 0 if done.
-pub fn read_pointer(zone: &[u8], p: u32, offset: u32, count: u32, out: &mut [u8]) -> u32
-    ensures { λ r. ⌜ shows r (now (out .exit)) ≡ (callBytes (read (by-pointer p) offset count (now (out .entry))) (now (zone .entry))) .answer ⌝ }
+// A stretch, as the part of the zone that it is; refused, the empty part at the zone's first byte.
+pub fn view<'a>(zone: &'a [u8], s: Stretch) -> &'a [u8]
+    ensures { λ r. ⌜ now r ≡ (callBytes (view (targetOf (s .block)) (s .offset) (s .count)) (now (zone .entry))) .answer .bytes ⌝ }
+    ensures { λ r. ⌜ r .ptr ≡ (zone .entry .ptr .0, zone .entry .ptr .1 + viewStart (targetOf (s .block)) (s .offset) (s .count) (now (zone .entry))) ⌝ }
+    ensures { λ r. ⌜ length (now r) ≡ viewLength (targetOf (s .block)) (s .offset) (s .count) (now (zone .entry)) ⌝ }
 {
-    let part = part_of_pointer(zone, p, offset, count, out.len());
-    let number = part.number;
-    if number == 0 {
-        let start = part.start;
-        let end = part.end;
-        memory::copy_in(out, 0, &zone[start..end]);
-        return 0;
-    }
-    number
-}
-
-// A stretch of a handle's block, as the part of the zone that it is; refused, the empty part at the zone's first byte.
-pub fn view_handle<'a>(zone: &'a [u8], h: u32, offset: u32, count: u32) -> &'a [u8]
-    ensures { λ r. ⌜ now r ≡ (callBytes (view (by-handle h) offset count) (now (zone .entry))) .answer .bytes ⌝ }
-    ensures { λ r. ⌜ r .ptr ≡ (zone .entry .ptr .0, zone .entry .ptr .1 + viewStart (by-handle h) offset count (now (zone .entry))) ⌝ }
-    ensures { λ r. ⌜ length (now r) ≡ viewLength (by-handle h) offset count (now (zone .entry)) ⌝ }
-{
-    let part = part_of_handle(zone, h, offset, count, count as usize);
-    let start = part.start;
-    let end = part.end;
-    &zone[start..end]
-}
-
-// A stretch of a pointer's block, as the part of the zone that it is; refused, the empty part at the zone's first byte.
-pub fn view_pointer<'a>(zone: &'a [u8], p: u32, offset: u32, count: u32) -> &'a [u8]
-    ensures { λ r. ⌜ now r ≡ (callBytes (view (by-pointer p) offset count) (now (zone .entry))) .answer .bytes ⌝ }
-    ensures { λ r. ⌜ r .ptr ≡ (zone .entry .ptr .0, zone .entry .ptr .1 + viewStart (by-pointer p) offset count (now (zone .entry))) ⌝ }
-    ensures { λ r. ⌜ length (now r) ≡ viewLength (by-pointer p) offset count (now (zone .entry)) ⌝ }
-{
-    let part = part_of_pointer(zone, p, offset, count, count as usize);
+    let part = part_of(zone, s, s.count as usize);
     let start = part.start;
     let end = part.end;
     &zone[start..end]

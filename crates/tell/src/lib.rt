@@ -10,6 +10,7 @@ ghost use Rattle.access.specs.Edit.{IsZone};
 ghost use Rattle.zone.specs.OnBytes.{callBytes};
 ghost use Rattle.calls.specs.Calls.{told, answersTwo, sums, length-of, check};
 ghost use Rattle.tell.specs.Largest.{largestOf, summed, SumsIn, Stepped};
+use calls::Told;
 
 fn is_fixed(z: &[u8], p: usize) -> bool
     requires { ⌜ p < length (now z) ⌝ }
@@ -111,12 +112,6 @@ pub fn sum(zone: &[u8]) -> Sums
     }
     let l = bigendian::get4(zone, 0) as usize;
     sum_in(&zone[..l])
-}
-
-// A refusal number, 0 for done, and a value.
-pub struct Told {
-    pub number: u32,
-    pub value: u32,
 }
 
 // The length of the zone.

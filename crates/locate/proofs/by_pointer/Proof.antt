@@ -11,14 +11,14 @@ use Rattle.locate.proofs.by_pointer.Statement.{statement}
 use Rattle.locate.proofs.by_pointer.Tie as tie
 
 abbrev Inv-loop : tie.InvT-loop
-Inv-loop z p at₀ at =
+Inv-loop z p place at₀ at =
     (at ≤ length z)
     × Row (drop at z)
     × (placeAmong (by-pointer p) at (blocksOf (drop at z)) ≡ targetPlace (by-pointer p) z)
     × (length (dataAmong (by-pointer p) at (blocksOf (drop at z))) ≡ length (targetData (by-pointer p) z))
 
 abbrev μ-loop : tie.MeasureT-loop
-μ-loop z p at₀ at = length z - at
+μ-loop z p place at₀ at = length z - at
 
 get4-requires : tie.Need-get4-requires Inv-loop μ-loop
 get4-requires c κs = search zone-long
@@ -35,8 +35,8 @@ step-requires c κs = search needs
 is-pointer-requires : tie.Need-is-pointer-requires Inv-loop μ-loop
 is-pointer-requires c κs = omega arith
 
-sub-t9 : tie.Need-sub-t9 Inv-loop μ-loop
-sub-t9 c = omega arith
+sub-t10 : tie.Need-sub-t10 Inv-loop μ-loop
+sub-t10 c = omega arith
 
 returns : tie.Need-returns Inv-loop μ-loop
 returns c = (search place-here, search data-here)
@@ -64,7 +64,7 @@ by-pointer-spec =
     loop-holds
     step-requires
     is-pointer-requires
-    sub-t9
+    sub-t10
     returns
     add-at
     loop-less

@@ -1,0 +1,91 @@
+/* Measures the stack that each function of nafelode.h uses: a random list of calls, each on a stack
+ * that was painted before, of which the calls then have changed the upper part. Usage: stack; exit
+ * status 0 if none used more than NAFELODE_STACK and every function was accepted at least once. */
+#define _XOPEN_SOURCE 700
+#include <stdio.h>
+#include <string.h>
+#include <ucontext.h>
+#include "nafelode.h"
+
+enum { CALLS = 20, LIST = 40000, STACK = 32768, LENGTH = 2048 };
+static uint8_t zone[LENGTH], second[4096], stack[STACK];
+static uint32_t which, a, b, c, d, walker, number;
+static ucontext_t here, there;
+
+static uint32_t random_below(uint32_t n) {
+    static uint64_t state = 20260311;
+    state = state * 6364136223846793005u + 1442695040888963407u;
+    return (uint32_t)(state >> 33) % n;
+}
+
+#define Z zone, LENGTH
+#define CASE(n, call) case n: number = (call); break
+static void call(void) {
+    switch (which) {
+        CASE(0, nafelode_initialize(Z, 1024 + 4 * a, d).number);
+        CASE(1, nafelode_allocate_relocatable(Z, c).number);
+        CASE(2, nafelode_allocate_fixed(Z, c).number);
+        CASE(3, nafelode_free_handle(Z, a).number);
+        CASE(4, nafelode_free_pointer(Z, b).number);
+        CASE(5, nafelode_resize(Z, a, c).number);
+        CASE(6, nafelode_size(Z, d % 2, d % 2 ? b : a).number);
+        CASE(7, nafelode_read(Z, d % 2, d % 2 ? b : a, 0, c, second, sizeof second));
+        CASE(8, nafelode_write(Z, d % 2, d % 2 ? b : a, 0, c, second, sizeof second));
+        CASE(9, nafelode_view(Z, d % 2, d % 2 ? b : a, 0, c).length == 0);
+        CASE(10, nafelode_compact(Z).number);
+        CASE(11, nafelode_sum(Z).number);
+        CASE(12, nafelode_check(Z).yes == 0);
+        CASE(13, nafelode_length(Z).number);
+        CASE(14, nafelode_enlarge(Z, c).number);
+        CASE(15, nafelode_shrink(Z, c).number);
+        CASE(16, nafelode_roster(Z, second, sizeof second).number);
+        CASE(17, nafelode_census(Z).number);
+        CASE(18, (walker = nafelode_walker_start(Z)) == 0);
+        CASE(19, nafelode_walker_step(Z, &walker).number);
+        default: number = 1; /* nothing: what the measuring itself uses */
+    }
+}
+
+static size_t used(void) {
+    size_t low = 0;
+    memset(stack, 0xA5, STACK);
+    getcontext(&there);
+    there.uc_stack.ss_sp = stack, there.uc_stack.ss_size = STACK, there.uc_link = &here;
+    makecontext(&there, call, 0);
+    swapcontext(&here, &there);
+    while (low < STACK && stack[low] == 0xA5) low++;
+    return STACK - low;
+}
+
+int main(void) {
+    static const char *name[CALLS] = {"initialize", "allocate_relocatable", "allocate_fixed", "free_handle", "free_pointer",
+        "resize", "size", "read", "write", "view", "compact", "sum", "check", "length", "enlarge", "shrink", "roster", "census",
+        "walker_start", "walker_step"};
+    size_t most[CALLS] = {0}, worst = 0;
+    unsigned accepted[CALLS] = {0};
+    which = CALLS;
+    size_t own = used();
+    for (unsigned i = 0; i < LIST; i++) {
+        which = i % 1000 ? 1 + random_below(CALLS - 1) : 0;
+        a = 16 + 4 * random_below(24), c = random_below(8) ? random_below(60) : random_below(33000);
+        d = 20 + random_below(5), b = 0;
+        uint32_t at = nafelode_walker_start(Z), stop = random_below(30); /* b: the pointer of some fixed block */
+        for (uint32_t k = 0; at && k < 60; k++) {
+            nafelode_step s = nafelode_walker_step(Z, &at);
+            if (s.kind == 1) b = s.offset + 2;
+            if (k >= stop && b) break;
+        }
+        size_t n = used();
+        n = n > own ? n - own : 0;
+        if (n > most[which]) most[which] = n;
+        if (number == 0) accepted[which]++;
+    }
+    int bad = 0;
+    for (unsigned i = 0; i < CALLS; i++) {
+        printf("  %4zu bytes of stack, %5u calls accepted: %s\n", most[i], accepted[i], name[i]);
+        if (most[i] > worst) worst = most[i];
+        bad |= accepted[i] == 0;
+    }
+    printf("at most %zu bytes of stack; the header says %u\n", worst, NAFELODE_STACK);
+    return bad || worst == 0 || worst > NAFELODE_STACK;
+}

@@ -1,0 +1,237 @@
+/* Every function of nafelode.h: the rig sheet's rows, each refusal, and that nothing around the lent
+ * buffers is touched. Both buffers lie flush against pages that nobody may read or write: first at
+ * the end of their page, then at its start. Usage: test; exit status 0 if all is as expected. */
+#define _DEFAULT_SOURCE
+#include <stdio.h>
+#include <string.h>
+#include <sys/mman.h>
+#include "nafelode.h"
+
+enum { PAGE = 4096, LENGTH = 81, SECOND = 21 }; /* odd: at the end of a page both start at an odd address */
+static uint8_t *zone_page, *second_page, *zone, *second;
+static uint8_t zone_kept[PAGE], second_kept[PAGE];
+static unsigned tests, wrong;
+
+static void expect(int line, const char *what, uint32_t got, uint32_t want) {
+    tests++;
+    if (got != want) wrong++, printf("test.c:%d: %s is %u, not %u\n", line, what, got, want);
+}
+
+static int outside(const uint8_t *page, const uint8_t *kept, const uint8_t *at, size_t length) {
+    size_t low = (size_t)(at - page), high = low + length;
+    return memcmp(page, kept, low) == 0 && memcmp(page + high, kept + high, PAGE - high) == 0;
+}
+
+static void keep(void) { memcpy(zone_kept, zone_page, PAGE), memcpy(second_kept, second_page, PAGE); }
+
+/* After a call: what it may not write is as it was. */
+static void stayed(int line, uint32_t number, int zone_too, int second_too) {
+    int whole_zone = memcmp(zone_page, zone_kept, PAGE) == 0, whole_second = memcmp(second_page, second_kept, PAGE) == 0;
+    expect(line, "what lies around the zone has changed, which", !outside(zone_page, zone_kept, zone, LENGTH), 0);
+    expect(line, "what lies around the second buffer has changed, which", !outside(second_page, second_kept, second, SECOND), 0);
+    if (number || zone_too) expect(line, "the zone has changed, which", !whole_zone, 0);
+    if (number || second_too) expect(line, "the second buffer has changed, which", !whole_second, 0);
+}
+
+static nafelode_told told;
+static uint32_t number;
+#define Z zone, LENGTH
+/* a call that answers number and value; one that moreover leaves the zone; one that answers a number alone */
+#define TOLD(call, n, v) (keep(), told = call, expect(__LINE__, #call " .number", told.number, n), \
+    expect(__LINE__, #call " .value", told.value, v), stayed(__LINE__, told.number, 0, 1))
+#define TELLS(call, n, v) (TOLD(call, n, v), stayed(__LINE__, told.number, 1, 1))
+#define READS(call, n) (keep(), number = call, expect(__LINE__, #call, number, n), stayed(__LINE__, number, 1, 0))
+#define WRITES(call, n) (keep(), number = call, expect(__LINE__, #call, number, n), stayed(__LINE__, number, 0, 1))
+#define IS(value, want) expect(__LINE__, #value, value, want)
+#define FRESH() TOLD(nafelode_initialize(Z, 64, 4), 0, 0)
+
+static uint32_t at(const uint8_t *p) { return (uint32_t)p[0] << 24 | (uint32_t)p[1] << 16 | (uint32_t)p[2] << 8 | p[3]; }
+
+static void rig_sheet(void) {
+    static const uint32_t r1[16] = {0x40, 0x20, 4, 0x00100000, 0x14, 0x18, 0x1C, 0, 0x10, 0, 0, 0, 0, 0, 0, 0};
+    FRESH(); /* R1 */
+    for (int i = 0; i < 16; i++) IS(at(zone + 4 * i), r1[i]);
+    IS(zone[64], 0xA5); /* bytes beyond L are left alone */
+    TOLD(nafelode_allocate_relocatable(Z, 6), 0, 16); /* R2 */
+    IS(at(zone + 16), 36);
+    IS(at(zone + 32), 0x80060010);
+    TELLS(nafelode_size(Z, NAFELODE_HANDLE, 16), 0, 8);
+    TOLD(nafelode_allocate_relocatable(Z, 8), 0, 20); /* R3 */
+    IS(at(zone + 20), 48);
+    TOLD(nafelode_free_handle(Z, 16), 0, 0);
+    nafelode_sums sums = (keep(), nafelode_sum(Z));
+    stayed(__LINE__, 0, 1, 1);
+    IS(sums.number, 0), IS(sums.total, 20), IS(sums.largest, 20);
+    nafelode_census_counts census = (keep(), nafelode_census(Z)); /* 12 bytes are 6 words, 8 bytes are 4 */
+    stayed(__LINE__, 0, 1, 1);
+    IS(census.number, 0);
+    for (int i = 0; i < 19; i++) IS(census.counts[i], i == 2 ? 2 : 0);
+    TOLD(nafelode_allocate_relocatable(Z, 13), 0, 16);
+    IS(at(zone + 20), 36), IS(at(zone + 16), 48);
+    TELLS(nafelode_size(Z, NAFELODE_HANDLE, 16), 0, 16);
+    TOLD(nafelode_allocate_relocatable(Z, 0), 5, 0); /* R4 */
+    TOLD(nafelode_resize(Z, 20, 4), 0, 0);
+    TOLD(nafelode_allocate_relocatable(Z, 0), 0, 24);
+    TELLS(nafelode_size(Z, NAFELODE_HANDLE, 24), 0, 0);
+    FRESH(); /* R5 */
+    TOLD(nafelode_allocate_fixed(Z, 5), 0, 58);
+    TELLS(nafelode_size(Z, NAFELODE_POINTER, 58), 0, 6);
+    IS(at(zone + 56) >> 16, 0x4004);
+    TOLD(nafelode_allocate_relocatable(Z, 21), 5, 0);
+    TOLD(nafelode_allocate_relocatable(Z, 20), 0, 16);
+    FRESH(); /* R6 */
+    TOLD(nafelode_allocate_fixed(Z, 0), 0, 62);
+    TOLD(nafelode_allocate_fixed(Z, 10), 0, 50);
+    TOLD(nafelode_allocate_fixed(Z, 0), 0, 46);
+    TOLD(nafelode_free_pointer(Z, 50), 0, 0);
+    TOLD(nafelode_allocate_relocatable(Z, 9), 5, 0);
+    TOLD(nafelode_compact(Z), 0, 12);
+    TOLD(nafelode_allocate_relocatable(Z, 8), 0, 16);
+    TOLD(nafelode_allocate_relocatable(Z, 8), 0, 20);
+    IS(at(zone + 16), 36), IS(at(zone + 20), 52);
+    FRESH(); /* R7 */
+    TOLD(nafelode_shrink(Z, 10), 0, 8);
+    TELLS(nafelode_length(Z), 0, 56);
+    TOLD(nafelode_enlarge(Z, 24), 0, 0);
+    TELLS(nafelode_length(Z), 0, 80);
+    FRESH(); /* R8 to R10 */
+    TOLD(nafelode_shrink(Z, 1000), 0, 32);
+    FRESH();
+    TOLD(nafelode_enlarge(Z, 3), 9, 0);
+    TOLD(nafelode_allocate_relocatable(Z, 32761), 3, 0);
+}
+
+static void bytes(void) {
+    FRESH();
+    TOLD(nafelode_allocate_relocatable(Z, 8), 0, 16);
+    TOLD(nafelode_allocate_fixed(Z, 6), 0, 58);
+    memcpy(second, "basis weight", 12);
+    WRITES(nafelode_write(Z, NAFELODE_HANDLE, 16, 2, 5, second, SECOND), 0);
+    WRITES(nafelode_write(Z, NAFELODE_POINTER, 58, 0, 6, second + 6, 6), 0);
+    IS(memcmp(zone + 38, "basis", 5) != 0, 0);
+    IS(memcmp(zone + 58, "weight", 6) != 0, 0);
+    READS(nafelode_read(Z, NAFELODE_HANDLE, 16, 1, 7, second, SECOND), 0);
+    IS(memcmp(second, "\0basis\0eight", 12) != 0, 0); /* seven bytes come, the later ones stay */
+    READS(nafelode_read(Z, NAFELODE_POINTER, 58, 4, 2, second, 2), 0);
+    IS(memcmp(second, "htasis", 6) != 0, 0);
+    nafelode_part part = nafelode_view(Z, NAFELODE_HANDLE, 16, 2, 5);
+    IS(part.offset, 38), IS(part.length, 5);
+    part = nafelode_view(Z, NAFELODE_POINTER, 58, 0, 7);
+    IS(part.offset, 0), IS(part.length, 0);
+    keep(), told = nafelode_roster(Z, second, SECOND);
+    stayed(__LINE__, told.number, 1, 0);
+    IS(told.number, 0), IS(told.value, 1), IS(at(second), 16), IS(at(second + 4), 8);
+    nafelode_checked checked = nafelode_check(Z);
+    IS(checked.yes, 1), IS(checked.count, 1);
+    uint32_t walker = nafelode_walker_start(Z), blocks = 0;
+    IS(walker, 32);
+    for (; walker < 64 && blocks < 9; blocks++) {
+        static const uint32_t kind[3] = {2, 0, 1}, size[3] = {12, 12, 8};
+        uint32_t old = walker;
+        nafelode_step step = nafelode_walker_step(Z, &walker);
+        IS(step.number, 0), IS(step.offset, old), IS(walker, old + step.size);
+        if (blocks < 3) IS(step.kind, kind[blocks]), IS(step.size, size[blocks]);
+    }
+    nafelode_step end = nafelode_walker_step(Z, &walker);
+    IS(blocks, 3), IS(walker, 64), IS(end.number + end.kind + end.offset + end.size, 0);
+}
+
+static void refused_1(void) {
+    uint32_t walker = 32;
+    FRESH();
+    zone[14] = 1;
+    TOLD(nafelode_allocate_relocatable(Z, 40000), 1, 0);
+    TOLD(nafelode_allocate_fixed(Z, 0), 1, 0);
+    TOLD(nafelode_free_handle(Z, 16), 1, 0);
+    TOLD(nafelode_free_pointer(Z, 58), 1, 0);
+    TOLD(nafelode_resize(Z, 16, 4), 1, 0);
+    TELLS(nafelode_size(Z, NAFELODE_HANDLE, 16), 1, 0);
+    READS(nafelode_read(Z, NAFELODE_HANDLE, 16, 0, 0, second, SECOND), 1);
+    WRITES(nafelode_write(Z, NAFELODE_HANDLE, 16, 0, 0, second, SECOND), 1);
+    TOLD(nafelode_compact(Z), 1, 0);
+    TELLS(nafelode_length(Z), 1, 0);
+    TOLD(nafelode_enlarge(Z, 4), 1, 0);
+    TOLD(nafelode_shrink(Z, 4), 1, 0);
+    TELLS(nafelode_roster(Z, second, SECOND), 1, 0);
+    IS(nafelode_sum(Z).number, 1), IS(nafelode_sum(Z).total + nafelode_sum(Z).largest, 0);
+    IS(nafelode_census(Z).number, 1), IS(nafelode_census(Z).counts[3], 0);
+    IS(nafelode_view(Z, NAFELODE_HANDLE, 16, 0, 0).offset, 0);
+    IS(nafelode_check(Z).yes, 0), IS(nafelode_check(Z).count, 0);
+    IS(nafelode_walker_start(Z), 0), IS(nafelode_walker_step(Z, &walker).number, 1), IS(walker, 32);
+}
+
+static void refused_2_to_10(void) {
+    TOLD(nafelode_initialize(Z, 63, 4), 2, 0);
+    TOLD(nafelode_initialize(Z, 28, 4), 2, 0);
+    TOLD(nafelode_initialize(Z, 84, 4), 2, 0);
+    TOLD(nafelode_initialize(Z, 64, 8189), 2, 0);
+    TOLD(nafelode_initialize(Z, 64, 0xFFFFFFFF), 2, 0);
+    TOLD(nafelode_initialize(Z, 64, 0), 0, 0);
+    TOLD(nafelode_allocate_relocatable(Z, 32761), 3, 0);
+    TOLD(nafelode_allocate_relocatable(Z, 32760), 4, 0);
+    FRESH();
+    TOLD(nafelode_allocate_fixed(Z, 32763), 3, 0);
+    TOLD(nafelode_allocate_fixed(Z, 32762), 5, 0);
+    TOLD(nafelode_free_handle(Z, 16), 6, 0);
+    TOLD(nafelode_free_pointer(Z, 58), 7, 0);
+    TOLD(nafelode_resize(Z, 16, 0xFFFFFFFF), 6, 0); /* 6 comes before 3 */
+    TOLD(nafelode_allocate_relocatable(Z, 8), 0, 16);
+    TOLD(nafelode_resize(Z, 16, 32761), 3, 0);
+    TOLD(nafelode_resize(Z, 16, 29), 5, 0);
+    TELLS(nafelode_size(Z, NAFELODE_HANDLE, 20), 6, 0);
+    TELLS(nafelode_size(Z, NAFELODE_POINTER, 36), 7, 0);
+    READS(nafelode_read(Z, NAFELODE_HANDLE, 20, 0, 0, second, SECOND), 6);
+    READS(nafelode_read(Z, NAFELODE_POINTER, 16, 0, 0, second, SECOND), 7);
+    READS(nafelode_read(Z, NAFELODE_HANDLE, 16, 0xFFFFFFFF, 1, second, SECOND), 8);
+    READS(nafelode_read(Z, NAFELODE_HANDLE, 16, 4, 5, second, 0), 8); /* 8 comes before 10 */
+    READS(nafelode_read(Z, NAFELODE_HANDLE, 16, 4, 4, second, 3), 10);
+    WRITES(nafelode_write(Z, NAFELODE_HANDLE, 20, 0, 0, second, SECOND), 6);
+    WRITES(nafelode_write(Z, NAFELODE_POINTER, 16, 0, 0, second, SECOND), 7);
+    WRITES(nafelode_write(Z, NAFELODE_HANDLE, 16, 1, 0xFFFFFFFF, second, SECOND), 8);
+    WRITES(nafelode_write(Z, NAFELODE_HANDLE, 16, 4, 4, second, 3), 10);
+    TOLD(nafelode_enlarge(Z, 20), 9, 0);
+    TOLD(nafelode_enlarge(Z, 0xFFFFFFFC), 9, 0);
+    TELLS(nafelode_roster(Z, second, 7), 10, 0);
+}
+
+/* A pointer that goes with length 0 may be NULL. */
+static void empty(void) {
+    uint32_t walker = 0;
+    IS(nafelode_initialize(NULL, 0, 0, 0).number, 2);
+    IS(nafelode_allocate_relocatable(NULL, 0, 4).number, 1);
+    IS(nafelode_compact(NULL, 0).number, 1);
+    IS(nafelode_check(NULL, 0).yes, 0);
+    IS(nafelode_walker_step(NULL, 0, &walker).number, 1);
+    FRESH();
+    TOLD(nafelode_allocate_relocatable(Z, 4), 0, 16);
+    READS(nafelode_read(Z, NAFELODE_HANDLE, 16, 4, 0, NULL, 0), 0);
+    WRITES(nafelode_write(Z, NAFELODE_HANDLE, 16, 4, 0, NULL, 0), 0);
+    TELLS(nafelode_roster(Z, NULL, 0), 10, 0);
+}
+
+/* The largest zone. */
+static void largest(void) {
+    static uint8_t big[1048584];
+    IS(nafelode_initialize(big, sizeof big, 1048580, 0).number, 2);
+    IS(nafelode_initialize(big, sizeof big, 1048576, 8188).number, 0);
+    IS(nafelode_enlarge(big, sizeof big, 4).number, 9);
+    IS(nafelode_allocate_fixed(big, sizeof big, 32762).value, 1048576 - 32762);
+    for (uint32_t i = 0; i < 30; i++) IS(nafelode_allocate_relocatable(big, sizeof big, 32760).value, 16 + 4 * i);
+    IS(nafelode_allocate_relocatable(big, sizeof big, 32760).number, 5);
+}
+
+int main(void) {
+    uint8_t *pages = mmap(NULL, 5 * PAGE, PROT_NONE, MAP_PRIVATE | MAP_ANONYMOUS, -1, 0);
+    if (pages == MAP_FAILED) return perror("mmap"), 2;
+    zone_page = pages + PAGE, second_page = pages + 3 * PAGE;
+    if (mprotect(zone_page, PAGE, PROT_READ | PROT_WRITE) || mprotect(second_page, PAGE, PROT_READ | PROT_WRITE)) return perror("mprotect"), 2;
+    for (int low = 0; low < 2; low++) {
+        memset(zone_page, 0xA5, PAGE), memset(second_page, 0xA5, PAGE);
+        zone = low ? zone_page : zone_page + PAGE - LENGTH;
+        second = low ? second_page : second_page + PAGE - SECOND;
+        rig_sheet(), bytes(), refused_1(), refused_2_to_10(), empty();
+    }
+    largest();
+    printf("%u tests, %u wrong\n", tests, wrong);
+    return wrong != 0;
+}

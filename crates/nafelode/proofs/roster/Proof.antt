@@ -1,0 +1,11 @@
+use Rattle.locate.proofs.Laws.{bytes-of}
+use Rattle.roster.proofs.Outcomes.{roster-promise}
+use borrow.Author.Needs.{needs}
+use Rattle.nafelode.proofs.roster.Statement.{statement}
+use Rattle.nafelode.proofs.roster.Tie as tie
+
+returns : tie.Need-returns
+returns c = search (roster-promise, bytes-of)
+
+pub roster-spec : {M : Type 1} → statement M
+roster-spec = tie.close (tie.spec (λ c κs. search needs) (λ c. search needs) returns)

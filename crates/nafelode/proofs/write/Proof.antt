@@ -1,0 +1,10 @@
+use Rattle.nafelode.proofs.Laws.{promised}
+use borrow.Author.Needs.{needs}
+use Rattle.nafelode.proofs.write.Statement.{statement}
+use Rattle.nafelode.proofs.write.Tie as tie
+
+returns : tie.Need-returns
+returns c = search promised
+
+pub write-spec : {M : Type 1} → statement M
+write-spec = tie.close (tie.spec (λ c κs. search needs) (λ c. search needs) returns)

@@ -1,0 +1,34 @@
+use native.Mathlib.Omega.{arith}
+use Rattle.call_laws.proofs.Plan.{has-length, has-zone, has-whole, take-len, bytes-of}
+use Rattle.resize.proofs.Call.{plan-no, plan-yes}
+use borrow.Author.Needs.{needs}
+use Rattle.resize.proofs.plan_zone.Statement.{statement}
+use Rattle.resize.proofs.plan_zone.Tie as tie
+
+returns : tie.Need-returns
+returns c = search plan-no
+
+get4-requires : tie.Need-get4-requires
+get4-requires c κs = search has-length
+
+slice-aggregate-plan-in : tie.Need-slice-aggregate-plan-in
+slice-aggregate-plan-in c = search (take-len, has-zone)
+
+plan-in-requires : tie.Need-plan-in-requires
+plan-in-requires c κs = (search (has-whole, bytes-of), omega arith)
+
+returns-2 : tie.Need-returns-2
+returns-2 c = search (plan-yes, has-zone)
+
+pub plan-zone-spec : {M : Type 1} → statement M
+plan-zone-spec =
+    tie.close
+    (tie.spec
+    (λ c κs. search needs)
+    (λ c κs. search needs)
+    returns
+    get4-requires
+    (λ c. search needs)
+    slice-aggregate-plan-in
+    plan-in-requires
+    returns-2)
