@@ -1,3 +1,2 @@
 pub mod Blocks
 pub mod Grown
-pub mod Slide

@@ -62,20 +62,3 @@ pub fill-done : (s w : List ℕ) (i to : ℕ) → to ≤ i → overwrite s i (re
 fill-done s w i to h inv =
     let e : to - i ≡ 0 = omega arith in
     sym (write-none s i) ∙ (rw e at inv)
-
-pub slide-step : (s w : List ℕ) (dst src k n : ℕ) → k < n → dst ≤ src → src + n ≤ length s
-    → overwrite s (dst + k) (slice s (src + k) (n - k)) ≡ w
-    → overwrite (set s (dst + k) (getD s (src + k) 0)) (dst + (k + 1)) (slice (set s (dst + k) (getD s (src + k) 0)) (src + (k + 1)) (n - (k + 1))) ≡ w
-slide-step s w dst src k n h d l inv =
-    let e : n - k ≡ suc (n - (k + 1)) = omega arith in
-    let h₁ : src + k < length s = omega arith in
-    let h₂ : dst + k < length s = omega arith in
-    let h₃ : dst + k < src + (k + 1) = omega arith in
-    let e₁ : dst + (k + 1) ≡ dst + k + 1 = omega arith in
-    let e₂ : suc (src + k) ≡ src + (k + 1) = omega arith in
-    rw (drop-set-lt, e₁, write-step) (rw (e, drop-cons s (src + k) 0, e₂) at inv)
-
-pub slide-done : (s w : List ℕ) (dst src k n : ℕ) → n ≤ k → overwrite s (dst + k) (slice s (src + k) (n - k)) ≡ w → s ≡ w
-slide-done s w dst src k n h inv =
-    let e : n - k ≡ 0 = omega arith in
-    sym (write-none s (dst + k)) ∙ (rw e at inv)

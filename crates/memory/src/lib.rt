@@ -1,4 +1,4 @@
-// Loops over bytes: a test for zeros, a fill, a slide in place, a copy.
+// Work on many bytes: a test for zeros, a fill, a copy, slides in place.
 ghost use mathlib.Core.Path.{_≡_};
 ghost use Prim.Native.Nat.{_+_, _-_, _<_, _≤_};
 ghost use lib.ListN.{length, replicate};
@@ -31,18 +31,6 @@ pub fn fill_zero(s: &mut [u8], from: usize, to: usize)
     }
 }
 
-// Moves the n bytes at src down to dst, from the front.
-pub fn slide_down(s: &mut [u8], dst: usize, src: usize, n: usize)
-    requires { ⌜ (dst ≤ src) × (src + n ≤ length (now s)) ⌝ }
-    ensures { λ _. ⌜ now (s .exit) ≡ overwrite (now (s .entry)) dst (slice (now (s .entry)) src n) ⌝ }
-{
-    let mut k = 0;
-    while k < n {
-        s[dst + k] = s[src + k];
-        k += 1;
-    }
-}
-
 // Copies all of src to s, from `at` on.
 pub fn copy_in(s: &mut [u8], at: usize, src: &[u8])
     requires { ⌜ at + length (now src) ≤ length (now s) ⌝ }
@@ -52,5 +40,61 @@ pub fn copy_in(s: &mut [u8], at: usize, src: &[u8])
     while k < src.len() {
         s[at + k] = src[k];
         k += 1;
+    }
+}
+
+// Moves the n bytes at src to dst. All are read into `part` before one is written, so it does not matter how the places lie.
+fn move_through(s: &mut [u8], part: &mut [u8], dst: usize, src: usize, n: usize)
+    requires { ⌜ (n ≤ length (now part)) × (dst + n ≤ length (now s)) × (src + n ≤ length (now s)) ⌝ }
+    ensures { λ _. ⌜ now (s .exit) ≡ overwrite (now (s .entry)) dst (slice (now (s .entry)) src n) ⌝ }
+{
+    let end = src + n;
+    copy_in(part, 0, &s[src..end]);
+    copy_in(s, dst, &part[0..n]);
+}
+
+// The same for at most 4096 bytes. The compiler makes one memmove of it, without the array.
+fn move_part(s: &mut [u8], dst: usize, src: usize, n: usize)
+    requires { ⌜ (n ≤ 4096) × (dst + n ≤ length (now s)) × (src + n ≤ length (now s)) ⌝ }
+    ensures { λ _. ⌜ now (s .exit) ≡ overwrite (now (s .entry)) dst (slice (now (s .entry)) src n) ⌝ }
+{
+    let mut part = [0; 4096];
+    move_through(s, &mut part, dst, src, n);
+}
+
+// How many of the bytes that are left move next.
+fn part_of(rest: usize) -> usize
+    requires { ⌜ 0 < rest ⌝ }
+    ensures { λ r. ⌜ (0 < r) × (r ≤ rest) × (r ≤ 4096) ⌝ }
+{
+    if rest < 4096 {
+        return rest;
+    }
+    4096
+}
+
+// Moves the n bytes at src down to dst, from the front.
+pub fn slide_down(s: &mut [u8], dst: usize, src: usize, n: usize)
+    requires { ⌜ (dst ≤ src) × (src + n ≤ length (now s)) ⌝ }
+    ensures { λ _. ⌜ now (s .exit) ≡ overwrite (now (s .entry)) dst (slice (now (s .entry)) src n) ⌝ }
+{
+    let mut k = 0;
+    while k < n {
+        let m = part_of(n - k);
+        move_part(s, dst + k, src + k, m);
+        k += m;
+    }
+}
+
+// Moves the n bytes at src up to dst, the last ones first.
+pub fn slide_up(s: &mut [u8], dst: usize, src: usize, n: usize)
+    requires { ⌜ (src ≤ dst) × (dst + n ≤ length (now s)) ⌝ }
+    ensures { λ _. ⌜ now (s .exit) ≡ overwrite (now (s .entry)) dst (slice (now (s .entry)) src n) ⌝ }
+{
+    let mut k = n;
+    while 0 < k {
+        let m = part_of(k);
+        k -= m;
+        move_part(s, dst + k, src + k, m);
     }
 }

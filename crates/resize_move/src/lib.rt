@@ -33,7 +33,7 @@ fn slide(z: &mut [u8], dst: usize, src: usize, n: usize)
     if dst <= src {
         memory::slide_down(z, dst, src, n);
     } else {
-        grow_bay::slide_up(z, dst, src, n);
+        memory::slide_up(z, dst, src, n);
     }
 }
 

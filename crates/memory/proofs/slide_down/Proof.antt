@@ -1,11 +1,11 @@
 use mathlib.Core.Path.{_≡_, refl}
 use native.Mathlib.Nat.{add-zero, sub-zero}
-use Prim.Native.Nat.{_+_, _*_, _-_, _≤_}
+use Prim.Native.Nat.{_+_, _-_, _≤_}
 use borrow.Author.Needs.{needs}
 use native.Mathlib.Omega.{arith}
-use lib.ListN.{length, replicate, length-set}
+use lib.ListN.{length}
 use Rattle.bigendian.specs.BigEndian.{slice, overwrite}
-use Rattle.memory.proofs.Writes.{slide-step, slide-done}
+use Rattle.memory.proofs.Slide.{down-step, down-done}
 use Rattle.memory.proofs.slide_down.Statement.{statement}
 use Rattle.memory.proofs.slide_down.Tie as tie
 
@@ -20,10 +20,10 @@ loop-holds : tie.Need-loop-holds Inv-loop μ-loop
 loop-holds c = (omega arith, refl, omega arith, simp (add-zero, sub-zero))
 
 loop-again : tie.Need-loop-again Inv-loop μ-loop
-loop-again c = (omega arith, simp length-set (omega arith), simp length-set (omega arith), search slide-step)
+loop-again c = (omega arith, omega arith, omega arith, search down-step)
 
 returns : tie.Need-returns Inv-loop μ-loop
-returns c = search slide-done
+returns c = search down-done
 
 pub slide-down-spec : {M : Type 1} → statement M
 slide-down-spec =
@@ -33,9 +33,10 @@ slide-down-spec =
     μ-loop
     loop-holds
     (λ c. search needs)
+    (λ c κs. search needs)
     (λ c. search needs)
     (λ c. search needs)
-    (λ c. search needs)
+    (λ c κs. search needs)
     (λ c. search needs)
     (λ c. search needs)
     loop-again
