@@ -4,17 +4,18 @@ use mathlib.Core.Bool.{Bool, true, false, cond}
 use mathlib.Core.Option.{Option, none, some}
 use mathlib.Core.List.{List, [], _++_, Permᴰ·refl}
 use Prim.Native.Nat.{ℕ, _+_}
-use Rattle.calls.specs.Calls.{Target, Call, Answer, size, read, view, sums, check, length-of, shows}
 use lib.ListN.{length, take, drop}
 use lib.Dec.{leb}
 use Rattle.bigendian.specs.BigEndian.{Bytes}
+use Rattle.calls.specs.Calls.{Target, Call, Answer, size, read, view, sums, check, length-of, shows}
 use Rattle.structure.specs.Structure.{decode}
 use Rattle.zone.specs.Bay.{Cell}
-use Rattle.zone.specs.OnBays.{Out, says, orGive, content, step}
+use Rattle.zone.specs.OnBays.{Out, says, orGive, content}
 use Rattle.zone.specs.ZoneBays.{zoneBays}
 use Rattle.zone.specs.OnBytes.{Zone, inBays, Result, result, callBytes, initBytes}
 use Rattle.zone.specs.Promise.{Alike, Promise, InitPromise}
 use Rattle.stretch.proofs.Answers.{view-is}
+use Rattle.tell.proofs.Outcomes as Outcomes
 use Rattle.tell.proofs.Outcomes.{unchanged, sum-bytes, length-bytes, check-bytes}
 
 same : {a b : Answer} → a ≡ b → Alike a b
@@ -34,17 +35,14 @@ init-promised n m s e a q = record { answer = ap (λ (r : Result). r .answer) q;
 
 -- ---- calls that leave the zone
 
-pub told-only : (c : Call) (s : List ℕ) (a : Answer) → (callBytes c s) .bytes ≡ s → a ≡ (callBytes c s) .answer → Promise c s a s
-told-only c s a b q = record { answer = same q; bytes = sym b }
-
 pub sum-promised : (s : List ℕ) (a : Answer) → Bytes s → a ≡ (callBytes sums s) .answer → Promise sums s a s
-sum-promised s a y q = told-only sums s a (sum-bytes s y) q
+sum-promised s a y q = Outcomes.promised sums s a q (sum-bytes s y)
 
 pub check-promised : (s : List ℕ) (a : Answer) → Bytes s → a ≡ (callBytes check s) .answer → Promise check s a s
-check-promised s a y q = told-only check s a (check-bytes s y) q
+check-promised s a y q = Outcomes.promised check s a q (check-bytes s y)
 
 pub length-promised : (s : List ℕ) (a : Answer) → Bytes s → a ≡ (callBytes length-of s) .answer → Promise length-of s a s
-length-promised s a y q = told-only length-of s a (length-bytes s y) q
+length-promised s a y q = Outcomes.promised length-of s a q (length-bytes s y)
 
 -- what is found of a block leaves the zone, whether it is there or not
 left : (z : Zone) (d : Out (List Cell)) (k : List ℕ → Out (List Cell)) → d .next ≡ z → ((l : List ℕ) → (k l) .next ≡ z) → (o : Option (List ℕ)) → (orGive d o k) .next ≡ z
@@ -67,16 +65,16 @@ module _ (t : Target) (s : List ℕ) where
   held = content zoneBays t (zone .bays)
 
   pub size-promised : (a : Answer) → Bytes s → a ≡ (callBytes (size t) s) .answer → Promise (size t) s a s
-  size-promised a y q = told-only (size t) s a (unchanged (size t) s y (left zone _ _ refl (λ l. refl) held)) q
+  size-promised a y q = Outcomes.promised (size t) s a q (unchanged (size t) s y (left zone _ _ refl (λ l. refl) held))
 
   module _ (i n : ℕ) where
     pub read-promised : (out : List ℕ) (a : Answer) → Bytes s → a ≡ (callBytes (read t i n out) s) .answer → Promise (read t i n out) s a s
     read-promised out a y q =
         let kept = left zone _ _ refl (λ l. all-three zone (leb (i + n) (length l)) (leb n (length out)) (shows 0 (take n (drop i l) ++ drop n out)) (shows 10 out) (shows 8 out)) held in
-        told-only (read t i n out) s a (unchanged (read t i n out) s y kept) q
+        Outcomes.promised (read t i n out) s a q (unchanged (read t i n out) s y kept)
 
     pub view-promised : (bs : List ℕ) → Bytes s → bs ≡ (callBytes (view t i n) s) .answer .bytes → Promise (view t i n) s (shows 0 bs) s
     view-promised bs y q =
         let kept = left zone _ _ refl (λ l. both zone (leb (i + n) (length l)) (shows 0 (take n (drop i l))) (shows 0 [])) held in
-        told-only (view t i n) s (shows 0 bs) (unchanged (view t i n) s y kept)
-        (ap (shows 0) (q ∙ ap (λ (a : Answer). a .bytes) (view-is t i n s)) ∙ sym (view-is t i n s))
+        let shown : shows 0 bs ≡ (callBytes (view t i n) s) .answer = ap (shows 0) (q ∙ ap (λ (a : Answer). a .bytes) (view-is t i n s)) ∙ sym (view-is t i n s) in
+        Outcomes.promised (view t i n) s (shows 0 bs) shown (unchanged (view t i n) s y kept)
