@@ -59,3 +59,11 @@ impl Random {
         0
     }
 }
+
+/// A seed that is another in every run, short enough to be typed again.
+#[allow(dead_code)]
+pub fn fresh_seed() -> u64 {
+    use std::time::{SystemTime, UNIX_EPOCH};
+    let now = SystemTime::now().duration_since(UNIX_EPOCH).map_or(0, |time| time.as_nanos() as u64);
+    Random::new(now ^ u64::from(std::process::id()) << 40).next() % 1_000_000_000
+}

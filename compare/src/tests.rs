@@ -5,6 +5,7 @@
 
 #![allow(dead_code)]
 
+mod arguments;
 mod calls;
 mod ledger;
 mod lines;
@@ -13,13 +14,16 @@ mod random;
 mod records;
 mod rules;
 mod zone;
+mod zones;
 
+use arguments::{a_call, every_call, CALLS, WEIGHTS};
 use calls::{ask_zone, Call, Reply};
 use ledger::Ledger;
 use model::{ask_model, Item, Picture};
 use random::Random;
 use std::collections::HashSet;
 use zone::{Name, Stretch};
+use zones::{a_zone, break_a_rule, damage, noise};
 
 // ---------------------------------------------------------------- rig sheet
 
@@ -378,196 +382,6 @@ fn assert_refused_values(call: &Call, reply: &Reply) {
     }
 }
 
-const CALLS: usize = 19;
-
-/// A call with numbers about the zone's own: live and dead handles and
-/// pointers, sizes at the edges of the sums, and anything at all.
-fn a_call(random: &mut Random, buffer: &[u8], weights: &[u32; CALLS]) -> (Call, Vec<u8>) {
-    let picture = rules::check(buffer).0.then(|| Picture::decode(buffer));
-    let mut about = About::of(picture.as_ref(), buffer.len());
-    let call = match random.weighted(weights) {
-        0 => Call::Relocatable(about.size(random)),
-        1 => Call::Fixed(about.size(random)),
-        2 => Call::FreeHandle(about.handle(random)),
-        3 => Call::FreePointer(about.pointer(random)),
-        4 => Call::Resize(about.handle(random), about.size(random)),
-        5 => Call::Size(about.name(random)),
-        6 => Call::Read(about.stretch(random)),
-        7 => Call::Write(about.stretch(random)),
-        8 => Call::View(about.stretch(random)),
-        9 => Call::Compact,
-        10 => Call::Sum,
-        11 => Call::Check,
-        12 => Call::Length,
-        13 => Call::Enlarge(about.amount(random)),
-        14 => Call::Shrink(about.amount(random)),
-        15 => Call::Roster,
-        16 => Call::Census,
-        17 => Call::WalkerStart,
-        _ => Call::WalkerStep(about.offset(random)),
-    };
-    let mut second: Vec<u8> = (0..about.second(random, &call)).map(|_| random.any() as u8).collect();
-    if random.once_in(20) {
-        second.clear();
-    }
-    (call, second)
-}
-
-const EDGES: [u32; 20] = [
-    0, 1, 2, 3, 4, 5, 8, 12, 16, 20, 32_759, 32_760, 32_761, 32_762, 32_763, 65_536, 65_552,
-    0x4000_0000, 0xFFFF_FFFC, 0xFFFF_FFFF,
-];
-
-/// What a well-formed zone holds, for choosing numbers.
-#[derive(Default)]
-struct About {
-    handles: Vec<u32>,
-    pointers: Vec<u32>,
-    starts: Vec<u32>,
-    free: Vec<u32>,
-    data: Vec<u32>,
-    masters: u32,
-    length: u32,
-    room: u32,
-}
-
-impl About {
-    fn of(picture: Option<&Picture>, room: usize) -> About {
-        let mut about = About { room: room as u32, ..About::default() };
-        let Some(picture) = picture else { return about };
-        about.masters = picture.m as u32;
-        about.length = picture.length as u32;
-        let mut at = 16 + 4 * about.masters;
-        for item in &picture.items {
-            about.starts.push(at);
-            at += match item {
-                Item::Free(size) => {
-                    about.free.push(*size as u32);
-                    *size as u32
-                }
-                Item::Fixed(data) => {
-                    about.pointers.push(at + 2);
-                    about.data.push(data.len() as u32);
-                    2 + data.len() as u32
-                }
-                Item::Relocatable(handle, data) => {
-                    about.handles.push(*handle);
-                    about.data.push(data.len() as u32);
-                    4 + data.len() as u32
-                }
-            };
-        }
-        about
-    }
-
-    fn handle(&self, random: &mut Random) -> u32 {
-        match random.below(20) {
-            0 => random.pick(&EDGES),
-            1 => random.below(16 + 4 * self.masters + 4),
-            2 => 16 + 4 * random.below(self.masters + 1),
-            3 => random.pick_or(&self.handles, 16) + random.pick(&[1, 2, 65_536]),
-            4 => random.pick_or(&self.pointers, 16),
-            _ => random.pick_or(&self.handles, 16),
-        }
-    }
-
-    fn pointer(&self, random: &mut Random) -> u32 {
-        match random.below(16) {
-            0 => random.pick(&EDGES),
-            1 => random.below(self.length + 4),
-            2 => random.pick_or(&self.starts, 16) + 2,
-            3 => random.pick_or(&self.pointers, 16) + random.pick(&[1, 2, 65_536]),
-            _ => random.pick_or(&self.pointers, 62),
-        }
-    }
-
-    fn name(&self, random: &mut Random) -> Name {
-        if random.once_in(3) {
-            Name::Pointer(self.pointer(random))
-        } else {
-            Name::Handle(self.handle(random))
-        }
-    }
-
-    /// Data bytes: small ones, those of free blocks and their sums, edges.
-    fn size(&self, random: &mut Random) -> u32 {
-        let total: u32 = self.free.iter().sum();
-        let some = random.pick_or(&self.free, 0) + random.pick_or(&self.free, 0);
-        match random.below(24) {
-            0 => random.pick(&EDGES),
-            1 => random.any(),
-            2 | 3 => total.saturating_sub(random.below(9)),
-            4..=6 => some.saturating_sub(random.below(9)),
-            7..=9 => random.pick_or(&self.free, 0).saturating_sub(random.below(9)),
-            10..=12 => random.pick_or(&self.data, 0) + random.below(9),
-            13 | 14 => random.pick_or(&self.data, 0) + random.pick_or(&self.free, 0) + random.below(5),
-            15 => random.below(total + 1),
-            _ => random.below(20),
-        }
-    }
-
-    fn stretch(&self, random: &mut Random) -> Stretch {
-        let size = random.pick_or(&self.data, 0);
-        let offset = match random.below(10) {
-            0 => random.pick(&EDGES),
-            1 => size,
-            2..=4 => 0,
-            _ => random.below(size + 1),
-        };
-        let count = match random.below(10) {
-            0 => random.pick(&EDGES),
-            1 => (0xFFFF_FFFF - offset).wrapping_add(random.below(2)),
-            2..=6 => size.saturating_sub(offset),
-            _ => random.below(size + 2),
-        };
-        Stretch { block: self.name(random), offset, count }
-    }
-
-    /// Bytes for enlarge and shrink.
-    fn amount(&self, random: &mut Random) -> u32 {
-        match random.below(8) {
-            0 => random.pick(&EDGES),
-            1 => random.any(),
-            2 => self.room.wrapping_sub(self.length).wrapping_add(4 * random.below(2)),
-            3 => random.pick_or(&self.free, 0) + random.below(6),
-            4 => random.below(40),
-            _ => 4 * random.below(6),
-        }
-    }
-
-    fn offset(&self, random: &mut Random) -> u32 {
-        match random.below(8) {
-            0 => random.pick(&EDGES),
-            1 => random.below(self.length + 8),
-            2 => self.length,
-            _ => random.pick_or(&self.starts, 16),
-        }
-    }
-
-    /// The second buffer's length: about what the call needs, or any.
-    fn second(&mut self, random: &mut Random, call: &Call) -> u32 {
-        let need = match call {
-            Call::Read(stretch) | Call::Write(stretch) => stretch.count.min(40_000),
-            Call::Roster => 8 * self.handles.len() as u32,
-            _ => 0,
-        };
-        match random.below(8) {
-            0 => need.saturating_sub(1),
-            1 => need + random.below(9),
-            2 => random.below(64),
-            _ => need,
-        }
-    }
-}
-
-/// How often each call is chosen, in the order of `a_call`.
-const WEIGHTS: [[u32; CALLS]; 4] = [
-    [20, 9, 12, 7, 14, 2, 3, 14, 2, 2, 1, 1, 1, 4, 4, 2, 1, 1, 2],
-    [30, 6, 6, 4, 30, 1, 1, 20, 1, 1, 1, 1, 1, 2, 2, 1, 1, 1, 1],
-    [10, 30, 8, 20, 12, 1, 1, 10, 1, 1, 1, 1, 1, 3, 3, 1, 1, 1, 1],
-    [16, 8, 8, 6, 12, 1, 2, 10, 1, 1, 1, 1, 1, 16, 16, 1, 1, 1, 1],
-];
-
 /// Counts of accepted calls (0) and of each refusal.
 type Tally = [u64; 11];
 
@@ -636,43 +450,6 @@ fn lists_on_the_largest_zone() {
 
 // ------------------------------------------------------- zones at random
 
-/// A well-formed zone with any arrangement of blocks, any order of handles and
-/// chain, and any data bytes.
-fn a_zone(random: &mut Random, most: u32) -> Vec<u8> {
-    let m = random.pick(&[0, 1, 2, 3, 5, 8, 20]);
-    let mut handles: Vec<u32> = (0..m).map(|i| 16 + 4 * i).collect();
-    for i in (1..handles.len()).rev() {
-        handles.swap(i, random.below(i as u32 + 1) as usize);
-    }
-    let longest = random.pick(&[1, 3, 8]);
-    let mut items: Vec<Item> = Vec::new();
-    for _ in 0..random.below(most + 1) {
-        let words = random.below(longest) as usize;
-        let mut noise = |count: usize| (0..count).map(|_| random.any() as u8).collect::<Vec<u8>>();
-        let data = noise(4 * words);
-        match random.below(7) {
-            0..=2 if !matches!(items.last(), Some(Item::Free(_))) => {
-                items.push(Item::Free(4 * words + 4));
-            }
-            3 => items.push(Item::Fixed(vec![data, vec![0xA5, 0x5A]].concat())),
-            _ => {
-                if let Some(handle) = handles.pop() {
-                    items.push(Item::Relocatable(handle, data));
-                }
-            }
-        }
-    }
-    let sizes = items.iter().map(|item| match item {
-        Item::Free(size) => *size,
-        Item::Fixed(data) => 2 + data.len(),
-        Item::Relocatable(_, data) => 4 + data.len(),
-    });
-    let length = 16 + 4 * m as usize + sizes.sum::<usize>();
-    let mut buffer = Picture { length, m: m as usize, chain: handles, items }.encode();
-    buffer.extend((0..random.below(2) * random.below(30)).map(|_| random.any() as u8));
-    buffer
-}
-
 #[test]
 fn one_call_on_zones_at_random() {
     let mut random = Random::new(5);
@@ -695,17 +472,10 @@ fn initialize_over_anything() {
     for _ in 0..60_000 {
         let room = random.below(120);
         let mut buffer: Vec<u8> = (0..room).map(|_| random.any() as u8).collect();
-        let length = match random.below(6) {
-            0 => random.pick(&EDGES),
-            1 => room + random.below(5),
-            _ => 4 * random.below(room / 4 + 2),
-        };
-        let m = match random.below(6) {
-            0 => random.pick(&[8_188, 8_189, 0x4000_0000, 0x4000_0001, 0xFFFF_FFFF]),
-            1 => (length.saturating_sub(16) / 4).wrapping_add(random.below(2)),
-            _ => random.below(8),
-        };
-        let reply = compare(&mut buffer, &Call::Initialize(length, m), &[], None);
+        let mut weights = [0; CALLS];
+        weights[CALLS - 1] = 1;
+        let (call, second) = a_call(&mut random, &buffer, &weights);
+        let reply = compare(&mut buffer, &call, &second, None);
         count(&mut tally, &reply);
     }
     println!("initialize: done and refused 1 to 10: {tally:?}");
@@ -714,54 +484,25 @@ fn initialize_over_anything() {
 
 // ----------------------------------------------------------- broken buffers
 
-/// Changes a few bytes or numbers; the zone may or may not stay well-formed.
-fn damage(random: &mut Random, buffer: &mut Vec<u8>) {
-    for _ in 0..random.pick(&[1, 1, 1, 2, 3]) {
-        if buffer.len() < 20 {
-            return;
-        }
-        let length = buffer.len() as u32;
-        let at = 4 * random.below(length / 4) as usize;
-        match random.below(8) {
-            0 => buffer[random.below(length) as usize] = random.any() as u8,
-            1 => buffer[random.below(length) as usize] ^= 1 << random.below(8),
-            2 => buffer[random.below(16) as usize] = random.below(48) as u8,
-            3 => {
-                let from = 4 * random.below(length / 4) as usize;
-                buffer.copy_within(from..from + 4, at);
-            }
-            4 => buffer.truncate(random.below(length + 1) as usize),
-            5 => buffer[at + 3] = 4 * random.below(20) as u8,
-            6 => buffer[at..at + 4].fill(0),
-            _ => buffer[at + 3] = buffer[at + 3].wrapping_add(random.pick(&[1, 2, 4, 252, 254])),
-        }
-    }
-}
-
-fn every_call(random: &mut Random, buffer: &[u8]) -> Vec<(Call, Vec<u8>)> {
-    (0..CALLS)
-        .map(|which| {
-            let mut weights = [0; CALLS];
-            weights[which] = 1;
-            a_call(random, buffer, &weights)
-        })
-        .collect()
-}
-
 #[test]
 fn damaged_zones() {
     let mut random = Random::new(7);
     let (mut yes, mut no) = (0, 0);
     for _ in 0..150_000 {
         let mut buffer = a_zone(&mut random, 10);
-        damage(&mut random, &mut buffer);
+        if random.once_in(3) {
+            break_a_rule(&mut random, &mut buffer);
+        } else {
+            damage(&mut random, &mut buffer);
+        }
         assert_eq!(zone::check(&buffer), rules::check(&buffer), "{buffer:02X?}");
         let good = zone::check(&buffer).0;
         *if good { &mut yes } else { &mut no } += 1;
         if random.once_in(4) {
             for (call, second) in every_call(&mut random, &buffer) {
                 let reply = compare(&mut buffer.clone(), &call, &second, None);
-                let refused = call == Call::Check || reply.refusal.is_none_or(|number| number == 1);
+                let judged = !matches!(call, Call::Check | Call::Initialize(..));
+                let refused = !judged || reply.refusal.is_none_or(|number| number == 1);
                 assert!(good || refused, "{call:?} on {buffer:02X?}");
             }
         }
@@ -776,18 +517,7 @@ fn buffers_of_few_bytes_and_of_noise() {
     let mut yes = 0;
     for round in 0..60_000u32 {
         let length = if round < 64 { round } else { random.below(48) };
-        let mut buffer: Vec<u8> = (0..length).map(|_| random.any() as u8).collect();
-        if round % 2 == 0 && length >= 16 {
-            // a header that may be good, and small numbers behind it
-            let m = random.below(3);
-            let header = [length & !3, 16 + 4 * m, m, random.below(3) * 0x0010_0000];
-            for (i, number) in header.iter().enumerate() {
-                buffer[4 * i..4 * i + 4].copy_from_slice(&number.to_be_bytes());
-            }
-            for byte in &mut buffer[16..] {
-                *byte = random.pick(&[0, 0, 0, 0, 2, 4, 6, 16, 20, 24, 28, 0x40, 0x80]);
-            }
-        }
+        let buffer = noise(&mut random, length);
         yes += u32::from(zone::check(&buffer).0);
         for (call, second) in every_call(&mut random, &buffer) {
             compare(&mut buffer.clone(), &call, &second, None);

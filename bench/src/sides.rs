@@ -1,0 +1,126 @@
+//! The two sides: the static library and the Rust implementation. Each carries
+//! out a call and answers a number made of what it was told, so that no call
+//! can be left out and both can be seen to do the same.
+
+use crate::c_interface::*;
+use crate::calls::Call;
+use crate::zone::{self, numbers, Name, Stretch, Walker};
+
+pub type Side = fn(&mut [u8], &Call, &mut [u8]) -> u32;
+
+fn kind_of(name: Name) -> (u32, u32) {
+    match name {
+        Name::Handle(handle) => (0, handle),
+        Name::Pointer(pointer) => (1, pointer),
+    }
+}
+
+fn both(told: Told) -> u32 {
+    told.number ^ told.value
+}
+
+fn done(answer: zone::Answer<()>) -> u32 {
+    numbers(answer).0
+}
+
+fn value(answer: zone::Answer<u32>) -> u32 {
+    let (number, value) = numbers(answer);
+    number ^ value
+}
+
+pub fn archive(zone: &mut [u8], call: &Call, second: &mut [u8]) -> u32 {
+    let (z, n) = (zone.as_mut_ptr(), zone.len());
+    let (s, k) = (second.as_mut_ptr(), second.len());
+    // SAFETY: both buffers are lent whole for the one call.
+    unsafe {
+        match *call {
+            Call::Initialize(length, m) => both(nafelode_initialize(z, n, length, m)),
+            Call::Relocatable(c) => both(nafelode_allocate_relocatable(z, n, c)),
+            Call::Fixed(c) => both(nafelode_allocate_fixed(z, n, c)),
+            Call::FreeHandle(handle) => both(nafelode_free_handle(z, n, handle)),
+            Call::FreePointer(pointer) => both(nafelode_free_pointer(z, n, pointer)),
+            Call::Resize(handle, c) => both(nafelode_resize(z, n, handle, c)),
+            Call::Size(name) => {
+                let (kind, block) = kind_of(name);
+                both(nafelode_size(z, n, kind, block))
+            }
+            Call::Read(Stretch { block, offset, count }) => {
+                let (kind, block) = kind_of(block);
+                nafelode_read(z, n, kind, block, offset, count, s, k)
+            }
+            Call::Write(Stretch { block, offset, count }) => {
+                let (kind, block) = kind_of(block);
+                nafelode_write(z, n, kind, block, offset, count, s, k)
+            }
+            Call::View(Stretch { block, offset, count }) => {
+                let (kind, block) = kind_of(block);
+                let part = nafelode_view(z, n, kind, block, offset, count);
+                part.offset ^ part.length
+            }
+            Call::Compact => both(nafelode_compact(z, n)),
+            Call::Sum => {
+                let sums = nafelode_sum(z, n);
+                sums.number ^ sums.total ^ sums.largest
+            }
+            Call::Check => {
+                let checked = nafelode_check(z, n);
+                checked.yes ^ checked.count
+            }
+            Call::Length => both(nafelode_length(z, n)),
+            Call::Enlarge(k) => both(nafelode_enlarge(z, n, k)),
+            Call::Shrink(k) => both(nafelode_shrink(z, n, k)),
+            Call::Roster => both(nafelode_roster(z, n, s, k)),
+            Call::Census => {
+                let census = nafelode_census(z, n);
+                census.counts.iter().fold(census.number, |all, count| all.rotate_left(3) ^ count)
+            }
+            Call::WalkerStart => nafelode_walker_start(z, n),
+            Call::WalkerStep(offset) => {
+                let mut walker = offset;
+                let block = nafelode_walker_step(z, n, &mut walker);
+                block.number ^ block.kind ^ block.offset ^ block.size ^ walker
+            }
+        }
+    }
+}
+
+pub fn rust(zone: &mut [u8], call: &Call, second: &mut [u8]) -> u32 {
+    match *call {
+        Call::Initialize(length, m) => done(zone::initialize(zone, length, m)),
+        Call::Relocatable(c) => value(zone::allocate_relocatable(zone, c)),
+        Call::Fixed(c) => value(zone::allocate_fixed(zone, c)),
+        Call::FreeHandle(handle) => done(zone::free_handle(zone, handle)),
+        Call::FreePointer(pointer) => done(zone::free_pointer(zone, pointer)),
+        Call::Resize(handle, c) => done(zone::resize(zone, handle, c)),
+        Call::Size(name) => value(zone::size(zone, name)),
+        Call::Read(stretch) => done(zone::read(zone, stretch, second)),
+        Call::Write(stretch) => done(zone::write(zone, stretch, second)),
+        Call::View(stretch) => {
+            let part = zone::view(zone, stretch);
+            (part.as_ptr() as usize - zone.as_ptr() as usize) as u32 ^ part.len() as u32
+        }
+        Call::Compact => value(zone::compact(zone)),
+        Call::Sum => {
+            let (number, (total, largest)) = numbers(zone::sum(zone));
+            number ^ total ^ largest
+        }
+        Call::Check => {
+            let (yes, count) = zone::check(zone);
+            u32::from(yes) ^ count
+        }
+        Call::Length => value(zone::length(zone)),
+        Call::Enlarge(k) => done(zone::enlarge(zone, k)),
+        Call::Shrink(k) => value(zone::shrink(zone, k)),
+        Call::Roster => value(zone::roster(zone, second)),
+        Call::Census => {
+            let (number, counts) = numbers(zone::census(zone));
+            counts.iter().fold(number, |all, count| all.rotate_left(3) ^ count)
+        }
+        Call::WalkerStart => numbers(Walker::start(zone)).1.offset,
+        Call::WalkerStep(offset) => {
+            let (next, answer) = Walker { offset }.step(zone);
+            let (number, step) = numbers(answer);
+            number ^ step.kind ^ step.offset ^ step.size ^ next.offset
+        }
+    }
+}

@@ -1,0 +1,190 @@
+//! The zones that are measured, and lists of calls on them.
+
+use crate::calls::Call;
+use crate::model::{Item, Picture};
+use crate::random::Random;
+use crate::zone::{self, Name, Stretch};
+
+pub const KIBIBYTE: usize = 1_024;
+
+/// What a zone is to hold.
+#[derive(Clone, Copy)]
+pub struct Plan {
+    pub length: usize,
+    pub masters: usize,
+    pub relocatable: usize,
+    pub fixed: usize,
+    /// data bytes of a relocatable block, at most
+    pub most_data: u32,
+    /// one hole after every so many blocks
+    pub hole_every: usize,
+}
+
+/// A zone with its blocks evenly mixed, and the rest free at its end.
+pub fn zone_of(plan: &Plan, random: &mut Random) -> Vec<u8> {
+    let blocks = plan.relocatable + plan.fixed;
+    let mut handles = (0..plan.masters).map(|i| 16 + 4 * i as u32);
+    let mut items = Vec::new();
+    let mut fixed = 0;
+    for i in 0..blocks {
+        // fixed blocks stand at equal distances
+        if (i + 1) * plan.fixed / blocks > fixed {
+            fixed += 1;
+            items.push(Item::Fixed(vec![0xF1; 14]));
+        } else {
+            let words = random.below(plan.most_data / 4) as usize + 1;
+            let data = (0..4 * words).map(|_| random.any() as u8).collect();
+            items.push(Item::Relocatable(handles.next().expect("enough masters"), data));
+        }
+        if i % plan.hole_every == plan.hole_every - 1 {
+            items.push(Item::Free(4 * random.below(plan.most_data / 4) as usize + 4));
+        }
+    }
+    let used: usize = items.iter().map(size_of).sum();
+    let rest = plan.length.checked_sub(16 + 4 * plan.masters + used).expect("the blocks fit");
+    match items.last_mut() {
+        Some(Item::Free(size)) => *size += rest,
+        _ if rest > 0 => items.push(Item::Free(rest)),
+        _ => {}
+    }
+    let picture = Picture { length: plan.length, m: plan.masters, chain: handles.collect(), items };
+    let zone = picture.encode();
+    assert_eq!(zone::check(&zone), (true, plan.relocatable as u32));
+    zone
+}
+
+fn size_of(item: &Item) -> usize {
+    match item {
+        Item::Free(size) => *size,
+        Item::Fixed(data) => 2 + data.len(),
+        Item::Relocatable(_, data) => 4 + data.len(),
+    }
+}
+
+/// Live handles with their data sizes, pointers, starts of blocks.
+pub struct Known {
+    pub handles: Vec<(u32, u32)>,
+    pub pointers: Vec<u32>,
+    pub starts: Vec<u32>,
+}
+
+pub fn known(zone: &[u8]) -> Known {
+    let picture = Picture::decode(zone);
+    let mut known = Known { handles: Vec::new(), pointers: Vec::new(), starts: Vec::new() };
+    let mut at = 16 + 4 * picture.m;
+    for item in &picture.items {
+        known.starts.push(at as u32);
+        match item {
+            Item::Free(_) => {}
+            Item::Fixed(_) => known.pointers.push(at as u32 + 2),
+            Item::Relocatable(handle, data) => known.handles.push((*handle, data.len() as u32)),
+        }
+        at += size_of(item);
+    }
+    known
+}
+
+/// A realistic list: mostly reads and writes, blocks come and go and change
+/// their size, now and then the zone is compacted and looked over. The calls
+/// go beside the list, so that it names live blocks.
+pub fn mix(
+    zone: &[u8],
+    plan: &Plan,
+    count: usize,
+    compact_every: usize,
+    random: &mut Random,
+) -> Vec<Call> {
+    let mut zone = zone.to_vec();
+    let mut live: Vec<u32> = known(&zone).handles.iter().map(|one| one.0).collect();
+    let mut calls = Vec::new();
+    for i in 0..count {
+        let call = if i % compact_every == compact_every - 1 {
+            Call::Compact
+        } else {
+            a_call(&zone, &live, plan, random)
+        };
+        match (call, crate::sides::rust(&mut zone, &call, &mut [7; 64])) {
+            (Call::Relocatable(_), handle) if handle >= 16 => live.push(handle),
+            (Call::FreeHandle(handle), 0) => live.retain(|&one| one != handle),
+            _ => {}
+        }
+        calls.push(call);
+    }
+    calls
+}
+
+fn a_call(zone: &[u8], live: &[u32], plan: &Plan, random: &mut Random) -> Call {
+    let handle = random.pick_or(live, 16);
+    let few = live.len() < plan.relocatable;
+    match random.below(100) {
+        0..=39 => Call::Read(a_stretch(zone, handle)),
+        40..=64 => Call::Write(a_stretch(zone, handle)),
+        65..=82 if few => Call::Relocatable(random.below(plan.most_data)),
+        65..=82 => Call::FreeHandle(handle),
+        83..=93 => Call::Resize(handle, random.below(plan.most_data)),
+        94..=97 => Call::Size(Name::Handle(handle)),
+        _ => Call::Sum,
+    }
+}
+
+/// The first bytes of a block, 64 at most.
+fn a_stretch(zone: &[u8], handle: u32) -> Stretch {
+    let size = zone::size(zone, Name::Handle(handle)).unwrap_or(0);
+    Stretch { block: Name::Handle(handle), offset: 0, count: size.min(64) }
+}
+
+/// The rows of a table: a call alone, `count` times, on blocks picked at random.
+pub fn alone(
+    zone: &[u8],
+    plan: &Plan,
+    count: usize,
+    random: &mut Random,
+) -> Vec<(&'static str, Vec<Call>)> {
+    let known = known(zone);
+    let room = (zone.len() - plan.length) as u32 / 4 * 4;
+    let mut rows = Vec::new();
+    let mut add = |name, call: &mut dyn FnMut(&mut Random) -> Call| {
+        rows.push((name, (0..count).map(|_| call(random)).collect()));
+    };
+    let handle = |random: &mut Random| random.pick(&known.handles);
+    let stretch = |random: &mut Random| {
+        let (handle, size) = handle(random);
+        Stretch { block: Name::Handle(handle), offset: 0, count: size.min(64) }
+    };
+    add("check", &mut |_| Call::Check);
+    add("initialize", &mut |_| Call::Initialize(plan.length as u32, plan.masters as u32));
+    add("allocate relocatable", &mut |random| Call::Relocatable(random.below(plan.most_data)));
+    add("allocate fixed", &mut |random| Call::Fixed(random.below(plan.most_data)));
+    add("free by handle", &mut |random| Call::FreeHandle(handle(random).0));
+    add("resize to less", &mut |random| {
+        let (handle, size) = handle(random);
+        Call::Resize(handle, size / 2)
+    });
+    add("resize to more", &mut |random| {
+        let (handle, size) = handle(random);
+        Call::Resize(handle, size + 8)
+    });
+    add("size", &mut |random| Call::Size(Name::Handle(handle(random).0)));
+    add("read 64 bytes", &mut |random| Call::Read(stretch(random)));
+    add("write 64 bytes", &mut |random| Call::Write(stretch(random)));
+    add("view", &mut |random| Call::View(stretch(random)));
+    add("compact", &mut |_| Call::Compact);
+    add("sum", &mut |_| Call::Sum);
+    add("length", &mut |_| Call::Length);
+    add("shrink 64", &mut |_| Call::Shrink(64));
+    add("roster", &mut |_| Call::Roster);
+    add("census", &mut |_| Call::Census);
+    add("walker start", &mut |_| Call::WalkerStart);
+    add("walker step", &mut |random| Call::WalkerStep(random.pick(&known.starts)));
+    if room > 0 {
+        add("enlarge", &mut |_| Call::Enlarge(room));
+    }
+    if !known.pointers.is_empty() {
+        let pointer = |random: &mut Random| random.pick(&known.pointers);
+        add("free by pointer", &mut |random| Call::FreePointer(pointer(random)));
+        add("read by pointer", &mut |random| {
+            Call::Read(Stretch { block: Name::Pointer(pointer(random)), offset: 0, count: 14 })
+        });
+    }
+    rows
+}

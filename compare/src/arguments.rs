@@ -1,0 +1,277 @@
+//! Calls with numbers about the zone's own: live and dead handles and
+//! pointers, sizes at the edges of the sums, and anything at all.
+
+use crate::calls::Call;
+use crate::random::Random;
+use crate::zone::{self, Name, Stretch};
+
+pub const CALLS: usize = 20;
+
+/// How often each call is chosen, in the order of `a_call`; initialize, the
+/// last, only where it is asked for.
+pub const WEIGHTS: [[u32; CALLS]; 5] = [
+    [20, 9, 12, 7, 14, 2, 3, 14, 2, 2, 1, 1, 1, 4, 4, 2, 1, 1, 2, 0],
+    [30, 6, 6, 4, 30, 1, 1, 20, 1, 1, 1, 1, 1, 2, 2, 1, 1, 1, 1, 0],
+    [10, 30, 8, 20, 12, 1, 1, 10, 1, 1, 1, 1, 1, 3, 3, 1, 1, 1, 1, 0],
+    [16, 8, 8, 6, 12, 1, 2, 10, 1, 1, 1, 1, 1, 16, 16, 1, 1, 1, 1, 0],
+    STRETCHES,
+];
+
+/// Mostly read, write and view.
+#[allow(dead_code)]
+pub const STRETCHES: [u32; CALLS] =
+    [12, 8, 3, 2, 8, 4, 20, 20, 16, 1, 1, 1, 1, 1, 1, 2, 1, 1, 2, 0];
+
+const EDGES: [u32; 26] = [
+    0,
+    1,
+    2,
+    3,
+    4,
+    5,
+    8,
+    12,
+    16,
+    20,
+    32_759,
+    32_760,
+    32_761,
+    32_762,
+    32_763,
+    65_532,
+    65_536,
+    65_552,
+    1_048_572,
+    1_048_576,
+    1_048_580,
+    0x4000_0000,
+    0x7FFF_FFFF,
+    0x8000_0000,
+    0xFFFF_FFFC,
+    0xFFFF_FFFF,
+];
+
+/// A call and its second buffer.
+pub fn a_call(random: &mut Random, buffer: &[u8], weights: &[u32; CALLS]) -> (Call, Vec<u8>) {
+    let which = random.weighted(weights);
+    About::of(buffer).call(random, which)
+}
+
+/// One of each call.
+pub fn every_call(random: &mut Random, buffer: &[u8]) -> Vec<(Call, Vec<u8>)> {
+    let about = About::of(buffer);
+    (0..CALLS).map(|which| about.call(random, which)).collect()
+}
+
+/// What a well-formed zone holds, for choosing numbers.
+#[derive(Default)]
+struct About {
+    /// with their data sizes
+    handles: Vec<(u32, u32)>,
+    pointers: Vec<(u32, u32)>,
+    starts: Vec<u32>,
+    free: Vec<u32>,
+    masters: u32,
+    length: u32,
+    room: u32,
+}
+
+fn word(buffer: &[u8], at: u32) -> u32 {
+    buffer[at as usize..at as usize + 4].iter().fold(0, |value, &byte| value << 8 | u32::from(byte))
+}
+
+impl About {
+    fn of(buffer: &[u8]) -> About {
+        let mut about = About { room: buffer.len() as u32, ..About::default() };
+        if !zone::check(buffer).0 {
+            return about;
+        }
+        about.masters = word(buffer, 8);
+        about.length = word(buffer, 0);
+        let mut at = word(buffer, 4);
+        while at < about.length {
+            let header = word(buffer, at);
+            let short = 2 * (header >> 16 & 0x3FFF);
+            about.starts.push(at);
+            at += match header >> 30 {
+                0 => {
+                    about.free.push(2 * header);
+                    2 * header
+                }
+                1 => {
+                    about.pointers.push((at + 2, short - 2));
+                    short
+                }
+                _ => {
+                    about.handles.push((header & 0xFFFF, short - 4));
+                    short
+                }
+            };
+        }
+        about
+    }
+
+    fn call(&self, random: &mut Random, which: usize) -> (Call, Vec<u8>) {
+        let call = match which {
+            0 => Call::Relocatable(self.size(random)),
+            1 => Call::Fixed(self.size(random)),
+            2 => Call::FreeHandle(self.handle(random)),
+            3 => Call::FreePointer(self.pointer(random)),
+            4 => Call::Resize(self.handle(random), self.size(random)),
+            5 => Call::Size(self.name(random).0),
+            6 => Call::Read(self.stretch(random)),
+            7 => Call::Write(self.stretch(random)),
+            8 => Call::View(self.stretch(random)),
+            9 => Call::Compact,
+            10 => Call::Sum,
+            11 => Call::Check,
+            12 => Call::Length,
+            13 => Call::Enlarge(self.amount(random)),
+            14 => Call::Shrink(self.amount(random)),
+            15 => Call::Roster,
+            16 => Call::Census,
+            17 => Call::WalkerStart,
+            18 => Call::WalkerStep(self.offset(random)),
+            _ => self.initialize(random),
+        };
+        let length = self.second(random, &call);
+        (call, (0..length).map(|_| random.any() as u8).collect())
+    }
+
+    fn handle(&self, random: &mut Random) -> u32 {
+        self.handle_and_size(random).0
+    }
+
+    fn handle_and_size(&self, random: &mut Random) -> (u32, u32) {
+        let live = random.pick_or(&self.handles, (16, 0));
+        let other = match random.below(20) {
+            0 => random.pick(&EDGES),
+            1 => random.below(16 + 4 * self.masters + 4),
+            2 => 16 + 4 * random.below(self.masters + 1),
+            3 => live.0 + random.pick(&[1, 2, 65_536]),
+            4 => random.pick_or(&self.pointers, (16, 0)).0,
+            _ => return live,
+        };
+        (other, live.1)
+    }
+
+    fn pointer(&self, random: &mut Random) -> u32 {
+        self.pointer_and_size(random).0
+    }
+
+    fn pointer_and_size(&self, random: &mut Random) -> (u32, u32) {
+        let fixed = random.pick_or(&self.pointers, (62, 0));
+        let other = match random.below(16) {
+            0 => random.pick(&EDGES),
+            1 => random.below(self.length + 4),
+            2 => random.pick_or(&self.starts, 16) + 2,
+            3 => fixed.0 + random.pick(&[1, 2, 65_536]),
+            _ => return fixed,
+        };
+        (other, fixed.1)
+    }
+
+    /// A block's name and the data size it may have.
+    fn name(&self, random: &mut Random) -> (Name, u32) {
+        if random.once_in(3) {
+            let (pointer, size) = self.pointer_and_size(random);
+            (Name::Pointer(pointer), size)
+        } else {
+            let (handle, size) = self.handle_and_size(random);
+            (Name::Handle(handle), size)
+        }
+    }
+
+    /// Data bytes: small ones, those of free blocks and their sums, edges.
+    fn size(&self, random: &mut Random) -> u32 {
+        let total: u32 = self.free.iter().sum();
+        let some = random.pick_or(&self.free, 0) + random.pick_or(&self.free, 0);
+        let data = random.pick_or(&self.handles, (0, 0)).1;
+        match random.below(24) {
+            0 => random.pick(&EDGES),
+            1 => random.any(),
+            2 | 3 => total.saturating_sub(random.below(9)),
+            4..=6 => some.saturating_sub(random.below(9)),
+            7..=9 => random.pick_or(&self.free, 0).saturating_sub(random.below(9)),
+            10..=12 => data + random.below(9),
+            13 | 14 => data + random.pick_or(&self.free, 0) + random.below(5),
+            15 => random.below(total + 1),
+            16..=18 => random.below(self.length / 40 + 20),
+            _ => random.below(20),
+        }
+    }
+
+    /// A stretch of a block, long ones mostly, or past its end.
+    fn stretch(&self, random: &mut Random) -> Stretch {
+        let (block, size) = self.name(random);
+        let offset = match random.below(10) {
+            0 => random.pick(&EDGES),
+            1 => size,
+            2..=4 => 0,
+            _ => random.below(size + 1),
+        };
+        let count = match random.below(12) {
+            0 => random.pick(&EDGES),
+            1 => (0xFFFF_FFFF - offset).wrapping_add(random.below(2)),
+            2 => size.saturating_sub(offset) + 1,
+            3..=7 => size.saturating_sub(offset),
+            _ => random.below(size.saturating_sub(offset) + 2),
+        };
+        Stretch { block, offset, count }
+    }
+
+    /// Bytes for enlarge and shrink.
+    fn amount(&self, random: &mut Random) -> u32 {
+        match random.below(8) {
+            0 => random.pick(&EDGES),
+            1 => random.any(),
+            2 => self.room.wrapping_sub(self.length).wrapping_add(4 * random.below(2)),
+            3 => random.pick_or(&self.free, 0) + random.below(6),
+            4 => random.below(40),
+            _ => 4 * random.below(6),
+        }
+    }
+
+    /// Where a step may be asked for: a block's start, near it, L, anywhere.
+    fn offset(&self, random: &mut Random) -> u32 {
+        match random.below(10) {
+            0 => random.pick(&EDGES),
+            1 => random.below(self.length + 8),
+            2 => self.length,
+            3 => random.pick_or(&self.starts, 16).wrapping_add(random.pick(&[1, 2, 4, u32::MAX])),
+            4 => random.below(16 + 4 * self.masters + 1),
+            _ => random.pick_or(&self.starts, 16),
+        }
+    }
+
+    fn initialize(&self, random: &mut Random) -> Call {
+        let length = match random.below(6) {
+            0 => random.pick(&EDGES),
+            1 => self.room + random.below(5),
+            _ => 4 * random.below(self.room / 4 + 2),
+        };
+        let m = match random.below(6) {
+            0 => random.pick(&[8_188, 8_189, 0x4000_0000, 0x4000_0001, 0xFFFF_FFFF]),
+            1 => (length.saturating_sub(16) / 4).wrapping_add(random.below(2)),
+            _ => random.below(8),
+        };
+        Call::Initialize(length, m)
+    }
+
+    /// The second buffer's length: about what the call needs, or any.
+    fn second(&self, random: &mut Random, call: &Call) -> u32 {
+        let need = match call {
+            Call::Read(stretch) | Call::Write(stretch) => stretch.count.min(40_000),
+            Call::Roster => 8 * self.handles.len() as u32,
+            _ => return 0,
+        };
+        match random.below(9) {
+            0 => need.saturating_sub(1),
+            1 => need + random.below(9),
+            2 => need + random.below(400),
+            3 => random.below(64),
+            4 if random.once_in(2) => 0,
+            _ => need,
+        }
+    }
+}

@@ -1,0 +1,257 @@
+//! One call on both sides: every answer and every byte.
+
+use crate::arena::{Arena, Place};
+use crate::calls::{ask_zone, Call, Reply};
+use crate::foreign::{ask_archive, without_number};
+use crate::random::Random;
+use crate::zone::{self, Name};
+
+/// Largest buffers that are lent.
+const MOST_ZONE: usize = 1_048_576 + 4_096;
+const MOST_SECOND: usize = 80_000;
+
+pub const NAMES: [&str; 20] = [
+    "initialize",
+    "allocate_relocatable",
+    "allocate_fixed",
+    "free_handle",
+    "free_pointer",
+    "resize",
+    "size",
+    "read",
+    "write",
+    "view",
+    "compact",
+    "sum",
+    "check",
+    "length",
+    "enlarge",
+    "shrink",
+    "roster",
+    "census",
+    "walker_start",
+    "walker_step",
+];
+
+fn which(call: &Call) -> usize {
+    match call {
+        Call::Initialize(..) => 0,
+        Call::Relocatable(_) => 1,
+        Call::Fixed(_) => 2,
+        Call::FreeHandle(_) => 3,
+        Call::FreePointer(_) => 4,
+        Call::Resize(..) => 5,
+        Call::Size(_) => 6,
+        Call::Read(_) => 7,
+        Call::Write(_) => 8,
+        Call::View(_) => 9,
+        Call::Compact => 10,
+        Call::Sum => 11,
+        Call::Check => 12,
+        Call::Length => 13,
+        Call::Enlarge(_) => 14,
+        Call::Shrink(_) => 15,
+        Call::Roster => 16,
+        Call::Census => 17,
+        Call::WalkerStart => 18,
+        Call::WalkerStep(_) => 19,
+    }
+}
+
+/// A stretch of so many bytes is a long one.
+pub const LONG: u32 = 1_000;
+
+/// What was compared.
+#[derive(Default)]
+pub struct Tally {
+    /// by function: calls done, and refused by number
+    pub answers: [[u64; 11]; 20],
+    /// long stretches read or written
+    pub long_by_handle: u64,
+    pub long_by_pointer: u64,
+}
+
+impl Tally {
+    fn note(&mut self, call: &Call, refusal: u32) {
+        self.answers[which(call)][refusal as usize] += 1;
+        if let (Call::Read(stretch) | Call::Write(stretch), 0) = (call, refusal) {
+            let long = u64::from(stretch.count >= LONG);
+            match stretch.block {
+                Name::Handle(_) => self.long_by_handle += long,
+                Name::Pointer(_) => self.long_by_pointer += long,
+            }
+        }
+    }
+
+    pub fn add(&mut self, other: &Tally) {
+        let more = other.answers.iter().flatten();
+        self.answers.iter_mut().flatten().zip(more).for_each(|(all, more)| *all += more);
+        self.long_by_handle += other.long_by_handle;
+        self.long_by_pointer += other.long_by_pointer;
+    }
+}
+
+pub struct Differ {
+    pub random: Random,
+    pub tally: Tally,
+    pub seed: u64,
+    pub steps: u64,
+    trace: bool,
+    zones: Arena,
+    seconds: Arena,
+}
+
+impl Differ {
+    pub fn new(seed: u64, trace: bool) -> Differ {
+        Differ {
+            random: Random::new(seed),
+            tally: Tally::default(),
+            seed,
+            steps: 0,
+            trace,
+            zones: Arena::new(MOST_ZONE),
+            seconds: Arena::new(MOST_SECOND),
+        }
+    }
+
+    fn a_place(&mut self) -> Place {
+        match self.random.below(3) {
+            0 => Place::Start,
+            1 => Place::End,
+            _ => Place::Between(self.random.below(64) as usize),
+        }
+    }
+
+    /// Carries out the call on `buffer` by the Rust implementation, and on a
+    /// lent copy by the archive; the first difference as text.
+    pub fn compare(&mut self, buffer: &mut [u8], call: &Call, second: &[u8]) -> Result<(), String> {
+        self.steps += 1;
+        if self.trace {
+            eprintln!("seed {} step {} {call:?}", self.seed, self.steps);
+        }
+        let before = buffer.to_vec();
+        let mut ours = second.to_vec();
+        let refusal = number(buffer, call);
+        let reply = ask_rust(buffer, call, &mut ours);
+        self.tally.note(call, reply.refusal.unwrap_or(0).max(refusal));
+
+        let (place, other_place) = (self.a_place(), self.a_place());
+        let kind = self.random.pick(&[1, 1, 2, 0xFFFF_FFFF]);
+        let zone = self.zones.lend(&before, place);
+        let lent = self.seconds.lend(second, other_place);
+        // SAFETY: both parts are lent from arenas that nothing else uses now.
+        let theirs = unsafe { ask_archive(zone, call, lent, kind) };
+        let wrong = self.judge(call, &reply, &theirs, buffer, &ours);
+        match wrong {
+            None => Ok(()),
+            Some(wrong) => Err(self.story(&wrong, call, &before, second, &reply, &theirs)),
+        }
+    }
+
+    /// What is not as it should be.
+    fn judge(
+        &mut self,
+        call: &Call,
+        reply: &Reply,
+        theirs: &Reply,
+        zone: &[u8],
+        second: &[u8],
+    ) -> Option<String> {
+        if reply != theirs {
+            return Some("the answers differ".into());
+        }
+        if let Some(at) = first_other(zone, self.zones.now()) {
+            return Some(format!("byte {at} of the zone should be {:02X}", zone[at]));
+        }
+        let records = match call {
+            Call::Roster => 8 * reply.values[0] as usize,
+            _ => 0,
+        };
+        let got = self.seconds.now();
+        if as_set(&second[..records]) != as_set(&got[..records]) {
+            return Some("the roster's records differ".into());
+        }
+        if let Some(at) = first_other(&second[records..], &got[records..]) {
+            return Some(format!(
+                "byte {} of the second buffer should be {:02X}",
+                records + at,
+                second[records + at]
+            ));
+        }
+        if !self.zones.guards_stay() || !self.seconds.guards_stay() {
+            return Some("a byte beside a buffer changed".into());
+        }
+        None
+    }
+
+    fn story(
+        &mut self,
+        wrong: &str,
+        call: &Call,
+        before: &[u8],
+        second: &[u8],
+        reply: &Reply,
+        theirs: &Reply,
+    ) -> String {
+        let (seed, step, after) = (self.seed, self.steps, hex(self.zones.now()));
+        let mut story = format!("seed {seed} step {step}: {wrong}\ncall {call:?}\n");
+        story += &format!("the Rust implementation {:?} {:?}\n", reply.refusal, reply.values);
+        story += &format!("the archive {:?} {:?}\n", theirs.refusal, theirs.values);
+        story += &format!("the zone before, {} bytes:\n{}", before.len(), hex(before));
+        story += &format!("the archive's zone after:\n{after}");
+        story + &format!("second buffer before, {} bytes:\n{}", second.len(), hex(second))
+    }
+}
+
+/// The refusal number of a view and a walker's start, which carry none; 1 for
+/// a check that says no.
+fn number(buffer: &mut [u8], call: &Call) -> u32 {
+    match *call {
+        Call::View(stretch) => zone::numbers(zone::read(buffer, stretch, &mut [0; 32_768])).0,
+        Call::WalkerStart | Call::Check => zone::numbers(zone::length(buffer)).0,
+        _ => 0,
+    }
+}
+
+/// The Rust implementation's answer, with what the C interface shows of it.
+fn ask_rust(buffer: &mut [u8], call: &Call, second: &mut [u8]) -> Reply {
+    match *call {
+        Call::View(stretch) => {
+            let part = zone::view(buffer, stretch);
+            let offset = part.as_ptr() as usize - buffer.as_ptr() as usize;
+            without_number(&[offset as u32, part.len() as u32])
+        }
+        Call::WalkerStart => without_number(&ask_zone(buffer, call, second).values),
+        _ => ask_zone(buffer, call, second),
+    }
+}
+
+fn first_other(wanted: &[u8], got: &[u8]) -> Option<usize> {
+    if wanted == got {
+        return None;
+    }
+    wanted.iter().zip(got).position(|(one, other)| one != other)
+}
+
+fn as_set(records: &[u8]) -> Vec<&[u8]> {
+    let mut records: Vec<&[u8]> = records.chunks(8).collect();
+    records.sort();
+    records
+}
+
+/// 32 bytes a line; lines of zeros alone are left out, the last one apart.
+fn hex(bytes: &[u8]) -> String {
+    let mut text = String::new();
+    let last = bytes.len().saturating_sub(1) / 32;
+    for (i, line) in bytes.chunks(32).enumerate() {
+        if i < last && i > 0 && line.iter().all(|&byte| byte == 0) {
+            continue;
+        }
+        text += &format!("{:>8}:", 32 * i);
+        for (j, byte) in line.iter().enumerate() {
+            text += &format!("{}{byte:02X}", if j % 4 == 0 { " " } else { "" });
+        }
+        text.push('\n');
+    }
+    text
+}

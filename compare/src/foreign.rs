@@ -1,0 +1,102 @@
+//! Asks the archive, and gives its answers in the form of `calls`.
+
+use crate::c_interface::*;
+use crate::calls::{Call, Reply};
+use crate::zone::{Name, Stretch};
+
+/// A part of memory that is lent for a call.
+#[derive(Clone, Copy)]
+pub struct Lent {
+    pub start: *mut u8,
+    pub length: usize,
+}
+
+/// Kind and number of a block's name; any kind but 0 counts as pointer, so
+/// `other` stands for one of them.
+fn kind_of(name: Name, other: u32) -> (u32, u32) {
+    match name {
+        Name::Handle(handle) => (0, handle),
+        Name::Pointer(pointer) => (other, pointer),
+    }
+}
+
+/// A call without a value; one that is not 0 shows as a value too many.
+fn none(told: Told) -> Reply {
+    let extra = [told.value];
+    Reply::new(told.number, if told.value == 0 { &[] } else { &extra })
+}
+
+fn one(told: Told) -> Reply {
+    Reply::new(told.number, &[told.value])
+}
+
+/// Asks the archive. A view answers its offset and length, a walker's start
+/// its offset; neither carries a number.
+///
+/// # Safety
+/// Both parts are lent for this call alone, each readable and writable.
+pub unsafe fn ask_archive(zone: Lent, call: &Call, second: Lent, pointer_kind: u32) -> Reply {
+    let (z, n) = (zone.start, zone.length);
+    match *call {
+        Call::Initialize(length, m) => none(nafelode_initialize(z, n, length, m)),
+        Call::Relocatable(c) => one(nafelode_allocate_relocatable(z, n, c)),
+        Call::Fixed(c) => one(nafelode_allocate_fixed(z, n, c)),
+        Call::FreeHandle(handle) => none(nafelode_free_handle(z, n, handle)),
+        Call::FreePointer(pointer) => none(nafelode_free_pointer(z, n, pointer)),
+        Call::Resize(handle, c) => none(nafelode_resize(z, n, handle, c)),
+        Call::Size(name) => {
+            let (kind, block) = kind_of(name, pointer_kind);
+            one(nafelode_size(z, n, kind, block))
+        }
+        Call::Read(stretch) | Call::Write(stretch) | Call::View(stretch) => {
+            ask_stretch(zone, call, stretch, second, pointer_kind)
+        }
+        Call::Compact => one(nafelode_compact(z, n)),
+        Call::Sum => {
+            let sums = nafelode_sum(z, n);
+            Reply::new(sums.number, &[sums.total, sums.largest])
+        }
+        Call::Check => {
+            let checked = nafelode_check(z, n);
+            Reply::new(0, &[checked.yes, checked.count])
+        }
+        Call::Length => one(nafelode_length(z, n)),
+        Call::Enlarge(k) => none(nafelode_enlarge(z, n, k)),
+        Call::Shrink(k) => one(nafelode_shrink(z, n, k)),
+        Call::Roster => one(nafelode_roster(z, n, second.start, second.length)),
+        Call::Census => {
+            let census = nafelode_census(z, n);
+            Reply::new(census.number, &census.counts)
+        }
+        Call::WalkerStart => without_number(&[nafelode_walker_start(z, n)]),
+        Call::WalkerStep(offset) => {
+            let mut walker = offset;
+            let block = nafelode_walker_step(z, n, &mut walker);
+            Reply::new(block.number, &[block.kind, block.offset, block.size, walker])
+        }
+    }
+}
+
+unsafe fn ask_stretch(
+    zone: Lent,
+    call: &Call,
+    stretch: Stretch,
+    second: Lent,
+    pointer_kind: u32,
+) -> Reply {
+    let (kind, block) = kind_of(stretch.block, pointer_kind);
+    let (z, n, s, k) = (zone.start, zone.length, second.start, second.length);
+    let Stretch { offset, count, .. } = stretch;
+    match call {
+        Call::Read(_) => Reply::new(nafelode_read(z, n, kind, block, offset, count, s, k), &[]),
+        Call::Write(_) => Reply::new(nafelode_write(z, n, kind, block, offset, count, s, k), &[]),
+        _ => {
+            let part = nafelode_view(z, n, kind, block, offset, count);
+            without_number(&[part.offset, part.length])
+        }
+    }
+}
+
+pub fn without_number(values: &[u32]) -> Reply {
+    Reply { refusal: None, values: values.to_vec(), view: Vec::new() }
+}

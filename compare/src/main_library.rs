@@ -1,0 +1,210 @@
+//! Compares every function of the archive with the Rust implementation:
+//! `library [FRESH_SEED] [--trace]`.
+
+#[allow(dead_code)]
+mod arena;
+mod arguments;
+mod c_interface;
+#[allow(dead_code)]
+mod calls;
+mod differ;
+mod foreign;
+#[allow(dead_code)]
+mod model;
+mod random;
+mod rules;
+#[allow(dead_code)]
+mod zone;
+mod zones;
+
+use arguments::{a_call, every_call, STRETCHES, WEIGHTS};
+use calls::Call;
+use differ::{Differ, Tally, LONG, NAMES};
+use std::process::ExitCode;
+use std::thread;
+
+const FIXED_SEED: u64 = 1;
+
+type Outcome = Result<(), String>;
+
+/// A list of calls from an accepted initialize, in a zone of `words` words.
+fn one_list(differ: &mut Differ, words: u32, steps: u32) -> Result<Vec<u8>, String> {
+    let random = &mut differ.random;
+    let room = (words - 4).min(8_188);
+    let m = match random.below(6) {
+        0 => random.below(3).min(room),
+        1 => room,
+        2 => random.between(1, 6).min(room),
+        3 => random.below(room + 1),
+        _ => (room / 8).max(1).min(room),
+    };
+    let beyond = random.below(3) * random.below(60);
+    let mut buffer: Vec<u8> = (0..4 * words + beyond).map(|_| random.any() as u8).collect();
+    let weights = random.pick(&WEIGHTS);
+    differ.compare(&mut buffer, &Call::Initialize(4 * words, m), &[])?;
+    for _ in 0..steps {
+        let (call, second) = a_call(&mut differ.random, &buffer, &weights);
+        differ.compare(&mut buffer, &call, &second)?;
+    }
+    Ok(buffer)
+}
+
+fn lists(differ: &mut Differ, count: u32, steps: u32, least: u32, most: u32) -> Outcome {
+    for _ in 0..count {
+        let words = differ.random.between(least, most);
+        one_list(differ, words, steps)?;
+    }
+    Ok(())
+}
+
+/// Each call once, on copies of the buffer.
+fn each_call(differ: &mut Differ, buffer: &[u8]) -> Outcome {
+    for (call, second) in every_call(&mut differ.random, buffer) {
+        differ.compare(&mut buffer.to_vec(), &call, &second)?;
+    }
+    Ok(())
+}
+
+/// Zones built at random: as they are, damaged, and with one rule broken.
+fn zones_at_random(differ: &mut Differ, count: u32) -> Outcome {
+    for _ in 0..count {
+        let zone = zones::a_zone(&mut differ.random, 14);
+        each_call(differ, &zone)?;
+        let mut damaged = zone.clone();
+        zones::damage(&mut differ.random, &mut damaged);
+        each_call(differ, &damaged)?;
+        let mut broken = zone;
+        zones::break_a_rule(&mut differ.random, &mut broken);
+        each_call(differ, &broken)?;
+    }
+    Ok(())
+}
+
+/// Zones that lists reached, then the same with one rule broken.
+fn reached_zones(differ: &mut Differ, count: u32, breaks: u32, most: u32) -> Outcome {
+    for _ in 0..count {
+        let words = differ.random.between(most / 4, most);
+        let zone = one_list(differ, words, 60)?;
+        each_call(differ, &zone)?;
+        for _ in 0..breaks {
+            let mut broken = zone.clone();
+            zones::break_a_rule(&mut differ.random, &mut broken);
+            each_call(differ, &broken)?;
+        }
+    }
+    Ok(())
+}
+
+/// Few blocks and large ones, read, written and viewed in long stretches.
+fn long_stretches(differ: &mut Differ, count: u32) -> Outcome {
+    for _ in 0..count {
+        let mut buffer: Vec<u8> = (0..65_536).map(|_| differ.random.any() as u8).collect();
+        differ.compare(&mut buffer, &Call::Initialize(65_536, 8), &[])?;
+        for _ in 0..3 {
+            let (one, other) = (differ.random.below(10_000), differ.random.below(10_000));
+            differ.compare(&mut buffer, &Call::Relocatable(one), &[])?;
+            differ.compare(&mut buffer, &Call::Fixed(other), &[])?;
+        }
+        for _ in 0..60 {
+            let (call, second) = a_call(&mut differ.random, &buffer, &STRETCHES);
+            differ.compare(&mut buffer, &call, &second)?;
+        }
+    }
+    Ok(())
+}
+
+/// A walker from bkFst to L and one step more.
+fn walks(differ: &mut Differ, count: u32) -> Outcome {
+    for _ in 0..count {
+        let zone = zones::a_zone(&mut differ.random, 30);
+        let mut walker = zone::numbers(zone::Walker::start(&zone)).1;
+        loop {
+            let from = walker.offset;
+            differ.compare(&mut zone.clone(), &Call::WalkerStep(from), &[])?;
+            if walker.advance(&zone).is_err() || walker.offset == from {
+                break;
+            }
+        }
+    }
+    Ok(())
+}
+
+/// Buffers of no byte and more, of anything.
+fn noise(differ: &mut Differ, count: u32) -> Outcome {
+    for round in 0..count {
+        let length = if round < 64 { round } else { differ.random.below(80) };
+        let buffer = zones::noise(&mut differ.random, length);
+        each_call(differ, &buffer)?;
+    }
+    Ok(())
+}
+
+fn everything(differ: &mut Differ) -> Outcome {
+    noise(differ, 6_000)?;
+    lists(differ, 1_000, 150, 4, 40)?;
+    lists(differ, 150, 300, 40, 600)?;
+    lists(differ, 24, 250, 600, 16_384)?;
+    // the longest zones, in buffers that go on behind them
+    lists(differ, 4, 40, 262_140, 262_144)?;
+    zones_at_random(differ, 15_000)?;
+    walks(differ, 3_000)?;
+    long_stretches(differ, 40)?;
+    reached_zones(differ, 120, 12, 1_000)?;
+    reached_zones(differ, 12, 6, 16_384)?;
+    reached_zones(differ, 3, 4, 262_144)
+}
+
+fn print(tally: &Tally) {
+    println!("calls compared: done, refused by number (a check's 1 is its no)");
+    for (name, answers) in NAMES.iter().zip(&tally.answers) {
+        let refused = (1..11).filter(|&number| answers[number] > 0);
+        let refused: Vec<String> =
+            refused.map(|number| format!("{number}: {}", answers[number])).collect();
+        let all: u64 = answers.iter().sum();
+        println!("  {name:<20} {all:>7}: {:>7}, {}", answers[0], refused.join(", "));
+    }
+    println!(
+        "  read or written, {LONG} bytes and more: {} by handle, {} by pointer",
+        tally.long_by_handle, tally.long_by_pointer
+    );
+}
+
+/// All of it from one seed.
+fn from_seed(seed: u64, trace: bool) -> Result<Tally, String> {
+    let mut differ = Differ::new(seed, trace);
+    everything(&mut differ)?;
+    Ok(differ.tally)
+}
+
+/// Both seeds, side by side; one after the other when the calls are traced.
+fn both(seeds: [u64; 2], trace: bool) -> [Result<Tally, String>; 2] {
+    if trace {
+        return seeds.map(|seed| from_seed(seed, true));
+    }
+    let running = seeds.map(|seed| thread::spawn(move || from_seed(seed, false)));
+    running.map(|one| one.join().unwrap_or_else(|_| Err("the comparison itself broke down".into())))
+}
+
+fn main() -> ExitCode {
+    let arguments: Vec<String> = std::env::args().skip(1).collect();
+    let trace = arguments.iter().any(|text| text == "--trace");
+    let given = arguments.iter().find_map(|text| text.parse().ok());
+    let fresh = given.unwrap_or_else(random::fresh_seed);
+    println!("fresh seed {fresh}");
+    let mut tally = Tally::default();
+    let mut status = ExitCode::SUCCESS;
+    for outcome in both([FIXED_SEED, fresh], trace) {
+        match outcome {
+            Ok(one) => tally.add(&one),
+            Err(story) => {
+                println!("{story}");
+                status = ExitCode::FAILURE;
+            }
+        }
+    }
+    if status == ExitCode::SUCCESS {
+        print(&tally);
+        println!("the archive and the Rust implementation agree");
+    }
+    status
+}
