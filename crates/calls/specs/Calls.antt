@@ -60,6 +60,10 @@ answers v = record { number = 0; value = v; second = 0; bytes = []; records = []
 abbrev pub answersTwo : ℕ → ℕ → Answer
 answersTwo v w = record { number = 0; value = v; second = w; bytes = []; records = [] }
 
+-- the answer to `sum`: the refusal number (0 for done), the total of free bytes, the largest bay's sum
+abbrev pub summed : ℕ → ℕ → ℕ → Answer
+summed n total largest = record { number = n; value = total; second = largest; bytes = []; records = [] }
+
 -- refused with number n
 abbrev pub refusal : ℕ → Answer
 refusal n = record { number = n; value = 0; second = 0; bytes = []; records = [] }

@@ -5,11 +5,8 @@ use Prim.Native.Nat.{ℕ, _+_, _^_, _<_, _≤_}
 use lib.ListN.{length, getD}
 use Rattle.format.specs.WellFormed.{firstField}
 use Rattle.walk.specs.Walker.{blocksAt}
-use Rattle.zone.specs.Census.{countsOf, lowerLimits, freeWords, Counted}
-
--- the refusal and the counts
-abbrev pub counted : ℕ → List ℕ → Counted
-counted n cs = record { number = n; counts = cs }
+use Rattle.zone.specs.Census.{countsOf, lowerLimits, freeWords}
+pub use Rattle.zone.specs.Census.{counted}
 
 -- the stratum of w words: the last has no upper limit
 pub record Stratum (i w : ℕ) : Type 0 where

@@ -12,6 +12,7 @@ use Rattle.access.specs.Edit.{placeIn, dataIn}
 use Rattle.calls.specs.Calls.{Card, Answer, roster, shows}
 use Rattle.zone.specs.OnBytes.{callBytes}
 use Rattle.zone.specs.Roster.{cardBytes, cardsIn}
+pub use Rattle.zone.specs.Roster.{rosterAnswer}
 
 -- WHAT THE CALL PROMISES, of the zone's buffer, the second buffer, the refusal, the value, and the second buffer after it: the
 -- refusal and the value are the definition's; behind the records the buffer is as it was, all of it when refused; the records are
@@ -21,10 +22,6 @@ pub record Rostered (zone entry : List ℕ) (n v : ℕ) (exit : List ℕ) : Type
   pub value : v ≡ (callBytes (roster entry) zone) .answer .value
   pub later : drop (recordSize * v) exit ≡ (callBytes (roster entry) zone) .answer .bytes
   pub records : List·Permᴰ (cardsIn v exit) ((callBytes (roster entry) zone) .answer .records)
-
--- the answer that a refusal number, a value and the second buffer after the call stand for
-abbrev pub rosterAnswer : ℕ → ℕ → List ℕ → Answer
-rosterAnswer n v exit = record { number = n; value = v; second = 0; bytes = drop (recordSize * v) exit; records = cardsIn v exit }
 
 abbrev pub cardOf : ℕ → List ℕ → Card
 cardOf h d = record { handle = h; amount = length d }

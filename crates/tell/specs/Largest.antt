@@ -6,7 +6,7 @@ use Prim.Native.Nat.{ℕ, _+_, _≤_, max}
 use Rattle.format.specs.WellFormed.{firstField}
 use Rattle.structure.specs.Structure.{Block, free, fixed, reloc}
 use Rattle.walk.specs.Walker.{freeSize, freeTotal, blocksAt}
-use Rattle.calls.specs.Calls.{Answer}
+pub use Rattle.calls.specs.Calls.{summed}
 
 abbrev pub fixedB : Block → Bool
 fixedB (free n) = false
@@ -17,10 +17,6 @@ fixedB (reloc h d) = false
 unfoldable pub largestOf : ℕ → ℕ → List Block → ℕ
 largestOf cur best [] = max best cur
 largestOf cur best (b ∷ bs) = cond (fixedB b) (largestOf 0 (max best cur) bs) (largestOf (cur + freeSize b) best bs)
-
--- the answer to `sum`: the refusal, the total of free bytes, the largest bay's sum
-abbrev pub summed : ℕ → ℕ → ℕ → Answer
-summed n total largest = record { number = n; value = total; second = largest; bytes = []; records = [] }
 
 -- the sums of a zone, with no bytes beyond its length
 pub data SumsIn (z : List ℕ) (n total largest : ℕ) : Type 0 where

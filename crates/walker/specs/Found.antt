@@ -1,19 +1,12 @@
--- What a step answers in numbers, and the block that a walk over a zone finds at an offset.
+-- The block that a walk over a zone finds at an offset.
 use mathlib.Core.Path.{_≡_}
 use mathlib.Core.List.{List}
 use Prim.Native.Nat.{ℕ, _+_, _≤_, max}
 use lib.ListN.{length}
 use Rattle.format.specs.WellFormed.{firstField}
 use Rattle.walk.specs.Walker.{blocksAt}
-use Rattle.zone.specs.Walker as Zone
-use Rattle.zone.specs.Walker.{Walked, describe}
-
-abbrev pub described : ℕ → ℕ → ℕ → Zone.Described
-described kind offset size = record { kind = kind; offset = offset; size = size }
-
--- the refusal, the block's type, offset and size, and the position after
-abbrev pub walked : ℕ → ℕ → ℕ → ℕ → ℕ → Walked
-walked number kind offset size position = record { number = number; block = described kind offset size; position = position }
+use Rattle.zone.specs.Walker.{describe}
+pub use Rattle.zone.specs.Walker.{described, walked}
 
 -- the block at offset `at`, looked for from `first` on; the offset after it is no more than the zone's end, or than `at`
 pub record FoundFrom (z : List ℕ) (first at kind offset size : ℕ) : Type 0 where

@@ -43,6 +43,9 @@ pub record Counted : Type 0 where
   pub number : ℕ
   pub counts : List ℕ
 
+abbrev pub counted : ℕ → List ℕ → Counted
+counted n cs = record { number = n; counts = cs }
+
 abbrev pub census : List ℕ → Counted
 census bs =
     cond (wellFormed bs)

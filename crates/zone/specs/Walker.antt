@@ -32,6 +32,13 @@ pub record Walked : Type 0 where
   pub block : Described
   pub position : ℕ
 
+-- the refusal, the block's type, offset and size, and the position after
+abbrev pub described : ℕ → ℕ → ℕ → Described
+described kind offset size = record { kind = kind; offset = offset; size = size }
+
+abbrev pub walked : ℕ → ℕ → ℕ → ℕ → ℕ → Walked
+walked number kind offset size position = record { number = number; block = described kind offset size; position = position }
+
 -- "starts at bkFst"; 0, which is no block's start, where the zone is not well-formed
 abbrev pub walkStart : List ℕ → ℕ
 walkStart bs = cond (wellFormed bs) (firstField bs) 0
