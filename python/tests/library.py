@@ -1,0 +1,178 @@
+"""The proved library through ctypes, and the package held against it.
+
+The library is a shared one, or the archive, from which a shared one is linked.
+"""
+
+import ctypes
+import os
+import subprocess
+import tempfile
+from ctypes import c_size_t, c_uint32
+from typing import Iterator, List, Tuple
+
+import support  # noqa: F401  finds the package
+import nafelode
+
+HANDLE, POINTER = 0, 1
+STRATA = 19
+
+
+def _struct(name: str, *fields: Tuple[str, type]) -> type:
+    return type(name, (ctypes.Structure,), {"_fields_": list(fields)})
+
+
+_Told = _struct("Told", ("number", c_uint32), ("value", c_uint32))
+_Sums = _struct("Sums", ("number", c_uint32), ("total", c_uint32),
+                ("largest", c_uint32))
+_Checked = _struct("Checked", ("yes", c_uint32), ("count", c_uint32))
+_Part = _struct("Part", ("offset", c_uint32), ("length", c_uint32))
+_Step = _struct("Step", ("number", c_uint32), ("kind", c_uint32),
+                ("offset", c_uint32), ("size", c_uint32))
+_Counts = _struct("Counts", ("number", c_uint32),
+                  ("counts", c_uint32 * STRATA))
+
+_ANSWERS = {"sum": _Sums, "check": _Checked, "view": _Part, "read": c_uint32,
+            "write": c_uint32, "census": _Counts, "walker_start": c_uint32,
+            "walker_step": _Step}
+
+
+def load(path: str) -> ctypes.CDLL:
+    """The shared library, or one linked from an archive (its name ends in .a)."""
+    path = os.path.abspath(path)
+    if not path.endswith(".a"):
+        return ctypes.CDLL(path)
+    with tempfile.TemporaryDirectory() as work:
+        shared = os.path.join(work, "library.so")
+        subprocess.run(["cc", "-shared", "-o", shared, "-Wl,--whole-archive",
+                        path, "-Wl,--no-whole-archive"], check=True)
+        return ctypes.CDLL(shared)  # stays loaded when the file goes
+
+
+class Library:
+    """Calls on one lent buffer, whose bytes `zone` holds."""
+
+    def __init__(self, path: str, image: bytes = b"") -> None:
+        self._library = load(path)
+        self.lend(image)
+
+    def lend(self, image: bytes) -> None:
+        self._length = len(image)
+        self._zone = ctypes.create_string_buffer(bytes(image), len(image) + 1)
+
+    @property
+    def zone(self) -> bytes:
+        return self._zone.raw[:self._length]
+
+    def call(self, name: str, *arguments: object) -> object:
+        """A call by its C name; its numbers are unsigned 32-bit."""
+        function = getattr(self._library, "nafelode_" + name)
+        function.restype = _ANSWERS.get(name, _Told)
+        given = [c_uint32(a) if isinstance(a, int) else a for a in arguments]
+        return function(self._zone, c_size_t(self._length), *given)
+
+    def read(self, kind: int, block: int, offset: int,
+             count: int) -> Tuple[int, bytes]:
+        """Refusal number and bytes; the second buffer is long enough."""
+        room = min(count, self._length)
+        second = ctypes.create_string_buffer(room + 1)
+        number = self.call("read", kind, block, offset, count, second,
+                           c_size_t(room))
+        return number, second.raw[:room]
+
+    def write(self, kind: int, block: int, offset: int, count: int,
+              data: bytes) -> int:
+        return self.call("write", kind, block, offset, count, data,
+                         c_size_t(len(data)))
+
+    def roster(self, live: int) -> Tuple[int, int, bytes]:
+        """Refusal number, how many, and the second buffer's bytes."""
+        second = ctypes.create_string_buffer(8 * live + 1)
+        told = self.call("roster", second, c_size_t(8 * live))
+        return told.number, told.value, second.raw[:8 * live]
+
+    def walk(self) -> Iterator[Tuple[int, int, int]]:
+        """Type, offset and size of each block."""
+        walker = c_uint32(self.call("walker_start"))
+        while True:
+            step = self.call("walker_step", ctypes.byref(walker))
+            if step.size == 0:
+                return
+            yield step.kind, step.offset, step.size
+
+
+def differences(library: Library, image: bytes) -> List[str]:
+    """Where the package and the library answer differently on an image."""
+    found: List[str] = []
+
+    def same(what: str, package: object, proved: object) -> None:
+        if package != proved:
+            found.append(f"{what}: package {package}, library {proved}")
+
+    library.lend(image)
+    checked = library.call("check")
+    same("check", nafelode.check(image), (checked.yes == 1, checked.count))
+    same("fault", nafelode.fault(image) is None, checked.yes == 1)
+    if checked.yes == 1 and not found:
+        zone = nafelode.Zone(image)
+        same("length", zone.length, library.call("length").value)
+        same("blocks", [(b.type, b.offset, b.size) for b in zone.blocks],
+             list(library.walk()))
+        _same_blocks(library, zone, same)
+        _same_sums(library, zone, same)
+    elif checked.yes == 0:
+        same("refusal", 1, library.call("length").number)
+    same("bytes", image, library.zone)
+    return found
+
+
+def _same_blocks(library, zone, same) -> None:
+    """Size, place and bytes of each block by its handle or pointer."""
+    names = [(HANDLE, handle, zone.by_handle(handle),
+              zone.read_handle(handle)) for handle in zone.handles]
+    names += [(POINTER, pointer, zone.by_pointer(pointer),
+               zone.read_pointer(pointer)) for pointer in zone.pointers]
+    for kind, name, block, data in names:
+        what = ("handle" if kind == HANDLE else "pointer", name)
+        size = library.call("size", kind, name)
+        same(f"size of {what}", (0, block.data_size), (size.number, size.value))
+        same(f"bytes of {what}", (0, data),
+             library.read(kind, name, 0, len(data)))
+        view = library.call("view", kind, name, 0, len(data))
+        same(f"place of {what}", (block.data_offset, len(data)),
+             (view.offset, view.length))
+        half = len(data) // 2
+        read = zone.read_handle if kind == HANDLE else zone.read_pointer
+        same(f"second half of {what}", (0, read(name, half)),
+             library.read(kind, name, half, len(data) - half))
+        same(f"past the end of {what}", _refused(read, name, half, len(data)),
+             library.call("view", kind, name, half, len(data)).length == 0
+             and library.read(kind, name, half, len(data))[0] == 8)
+        # offset + count is not wrapped
+        same(f"far past the end of {what}", _refused(read, name, 2**32 - 1, 1),
+             library.read(kind, name, 2**32 - 1, 1)[0] == 8)
+    for master in zone.chain:
+        same(f"free master {master}", _refused(zone.by_handle, master),
+             library.call("size", HANDLE, master).number == 6)
+    for block in zone.blocks:
+        at = block.offset + 2
+        same(f"pointer {at}", _refused(zone.by_pointer, at),
+             library.call("size", POINTER, at).number == 7)
+
+
+def _refused(call, *arguments) -> bool:
+    try:
+        call(*arguments)
+    except nafelode.ZoneError:
+        return True
+    return False
+
+
+def _same_sums(library, zone, same) -> None:
+    sums = library.call("sum")
+    same("sum", (0, *zone.sum()), (sums.number, sums.total, sums.largest))
+    census = library.call("census")
+    same("census", (0, *zone.census()), (census.number, *census.counts))
+    number, count, records = library.roster(zone.live_handles)
+    same("roster", (0, zone.live_handles), (number, count))
+    same("roster's records", set(zone.roster()),
+         set(nafelode.decode_roster(records, count)))

@@ -1,0 +1,114 @@
+"""Writes random.calls anew: random lists, steered by what is live in the zone.
+
+usage: vectors/random_calls.py LIBRARY SEED > vectors/random.calls
+
+The library says what is live, so that most calls are accepted; the answers
+are none of this file's business. LIBRARY is the archive, or a shared library
+linked from it.
+"""
+
+import os
+import random
+import sys
+
+ROOT = os.path.dirname(os.path.dirname(os.path.abspath(__file__)))
+sys.path.insert(0, os.path.join(ROOT, "python", "tests"))
+
+from library import HANDLE, POINTER, Library
+
+# (L, masters, bytes beyond L, steps)
+LISTS = ((64, 4, 0, 50), (64, 3, 8, 40), (96, 5, 16, 60), (128, 6, 0, 60),
+         (160, 8, 12, 50), (256, 10, 0, 40), (384, 70, 0, 25), (508, 16, 4, 35))
+WEIGHTS = {"allocate_relocatable": 26, "allocate_fixed": 9, "free_handle": 10,
+           "free_pointer": 7, "resize": 22, "write": 12, "read": 3, "view": 2,
+           "size": 1, "compact": 2, "sum": 1, "check": 1, "length": 1,
+           "enlarge": 4, "shrink": 3, "roster": 2, "census": 1}
+
+
+def some_hex(rng: random.Random, size: int) -> str:
+    return rng.randbytes(size).hex().upper() or "-"
+
+
+class Steered:
+    def __init__(self, rng: random.Random, library: Library) -> None:
+        self.rng, self.library = rng, library
+
+    def live(self, kind: int) -> list:
+        walk, zone = list(self.library.walk()), self.library.zone
+        if kind == POINTER:
+            return [at + 2 for kind, at, _ in walk if kind == 1]
+        return [int.from_bytes(zone[at + 2:at + 4], "big")
+                for kind, at, _ in walk if kind == 2]
+
+    def name(self, kind: int) -> int:
+        """Nearly always a live block's."""
+        names = self.live(kind)
+        if names and self.rng.random() < 0.95:
+            return self.rng.choice(names)
+        return self.rng.randrange(14, 80, 2)
+
+    def count(self) -> int:
+        """Mostly a few bytes, sometimes about as much as is free."""
+        largest = self.library.call("sum").largest
+        if self.rng.random() < 0.3:
+            return max(0, largest - self.rng.randint(0, 8))
+        return self.rng.randint(0, max(4, largest // 4))
+
+    def stretch(self) -> list:
+        kind = self.rng.choices((HANDLE, POINTER), (3, 1))[0]
+        name = self.name(kind)
+        size = self.library.call("size", kind, name).value
+        offset = self.rng.randint(0, size)
+        count = self.rng.randint(0, size - offset) if self.rng.random() < 0.9 else size + 1
+        return ["handle" if kind == HANDLE else "pointer", name, offset, min(count, 40)]
+
+    def arguments(self, call: str) -> list:
+        rng = self.rng
+        if call in ("allocate_relocatable", "allocate_fixed"):
+            return [self.count()]
+        if call in ("free_handle", "free_pointer"):
+            return [self.name(HANDLE if call == "free_handle" else POINTER)]
+        if call == "resize":
+            name = self.name(HANDLE)
+            size = self.library.call("size", HANDLE, name).value
+            return [name, rng.choice((self.count(), size + rng.randint(1, 16), size + self.count()))]
+        if call == "size":
+            return self.stretch()[:2]
+        if call == "view":
+            return self.stretch()
+        if call in ("read", "write"):
+            stretch = self.stretch()
+            return stretch + [some_hex(rng, max(0, stretch[3] + rng.choice((0, 0, 0, 3, -1))))]
+        if call in ("enlarge", "shrink"):
+            return [rng.choice((4, 8, 12, 16, 3))]
+        return [some_hex(rng, 8 * len(self.live(HANDLE)) + rng.choice((0, 0, 5)))] if call == "roster" else []
+
+    def step(self) -> str:
+        """A call by weight; it is made here too, for the next one to see."""
+        call = self.rng.choices(list(WEIGHTS), list(WEIGHTS.values()))[0]
+        words = self.arguments(call)
+        given = [{"handle": HANDLE, "pointer": POINTER}.get(word, word) for word in words]
+        if call == "write":
+            data = bytes.fromhex(given.pop().replace("-", ""))
+            self.library.write(*given, data)
+        elif call not in ("read", "roster"):
+            self.library.call(call, *given)
+        return " ".join(map(str, ["call", call, *words]))
+
+
+def main() -> None:
+    rng, library = random.Random(int(sys.argv[2])), Library(sys.argv[1])
+    print("nafelode-vectors 1")
+    print(f"# Random lists, made by random_calls.py with seed {sys.argv[2]}.")
+    for number, (length, masters, beyond, steps) in enumerate(LISTS, 1):
+        print(f"\nlist random_{number}\nbuffer {length + beyond} 165")
+        print(f"call initialize {length} {masters}")
+        library.lend(b"\xA5" * (length + beyond))
+        library.call("initialize", length, masters)
+        steered = Steered(rng, library)
+        for _ in range(steps):
+            print(steered.step())
+        print("call compact\ncall check")
+
+
+main()

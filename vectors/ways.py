@@ -1,0 +1,173 @@
+"""Which ways a call goes, told from the zone before it as document 01 has it.
+
+The check uses it to see that the lists of ways.calls and refusals.calls do
+what their names say, and that no way is left out.
+"""
+
+from typing import List, Optional, Sequence, Set
+
+from nafelode import Bay, Block, BlockType, Zone
+
+WAYS = (
+    "initialize_free initialize_no_free initialize_no_master "
+    "relocatable_exact relocatable_rest relocatable_compacted "
+    "relocatable_later_hole relocatable_higher_bay "
+    "fixed_exact fixed_rest fixed_compacted fixed_lower_bay "
+    "free_handle_alone free_handle_left free_handle_right free_handle_both "
+    "free_pointer_alone free_pointer_left free_pointer_right free_pointer_both "
+    "resize_same resize_cut resize_cut_merged "
+    "resize_grow_exact resize_grow_rest resize_layout "
+    "resize_move_up resize_move_up_compacted "
+    "resize_move_down resize_move_down_compacted resize_move_lowest "
+    "resize_old_alone resize_old_left resize_old_right resize_old_both "
+    "compact_nothing compact_slides compact_bays "
+    "enlarge_none enlarge_free_last enlarge_used_last enlarge_no_block "
+    "shrink_none shrink_free_last shrink_compacted "
+    "empty_bay handle_order high_handle").split()
+
+# Calls that lay blocks down anew; a write changes data alone.
+CHANGING = ("allocate_relocatable", "allocate_fixed", "free_handle",
+            "free_pointer", "resize", "compact", "enlarge", "shrink")
+
+# "Refused calls", read as: which calls can give which number.
+STRETCH = ["size", "read", "write"]
+REFUSALS = {
+    1: ["allocate_relocatable", "allocate_fixed", "free_handle",
+        "free_pointer", "resize", *STRETCH, "compact", "sum", "length",
+        "enlarge", "shrink", "roster", "census", "walker_step"],
+    2: ["initialize"],
+    3: ["allocate_relocatable", "allocate_fixed", "resize"],
+    4: ["allocate_relocatable"],
+    5: ["allocate_relocatable", "allocate_fixed", "resize"],
+    6: ["free_handle", "resize", *STRETCH],
+    7: ["free_pointer", *STRETCH],
+    8: ["read", "write"],
+    9: ["enlarge"],
+    10: ["read", "write", "roster"],
+}
+VIEW_TOO = (1, 6, 7, 8)  # a view carries no number; it is refused for these
+
+
+def up4(k: int) -> int:
+    return -(-k // 4) * 4
+
+
+def free(block: Optional[Block]) -> bool:
+    return block is not None and block.type is BlockType.FREE
+
+
+def place(bay: Bay, need: int) -> str:
+    """How an allocation finds its place in a bay whose sum reaches the need."""
+    holes = [block for block in bay.blocks if free(block)]
+    fit = next((block for block in holes if block.size >= need), None)
+    if fit is None:
+        return "compacted"
+    if fit is not holes[0]:
+        return "later_hole"
+    return "exact" if fit.size == need else "rest"
+
+
+def merges(zone: Zone, block: Block) -> str:
+    at = zone.blocks.index(block)
+    left = at > 0 and free(zone.blocks[at - 1])
+    right = at + 1 < len(zone.blocks) and free(zone.blocks[at + 1])
+    return {(0, 0): "alone", (1, 0): "left", (0, 1): "right",
+            (1, 1): "both"}[left, right]
+
+
+def _relocatable(zone: Zone, c: int) -> Set[str]:
+    need = up4(4 + c)
+    bay = next(bay for bay in zone.bays if bay.sum >= need)
+    found = {"relocatable_" + place(bay, need)}
+    if bay is not zone.bays[0]:
+        found.add("relocatable_higher_bay")
+    if list(zone.chain) != sorted(zone.chain):
+        found.add("handle_order")
+    if zone.chain[0] > 255:
+        found.add("high_handle")
+    return found
+
+
+def _fixed(zone: Zone, c: int) -> Set[str]:
+    need = up4(2 + c)
+    bay = [bay for bay in zone.bays if bay.sum >= need][-1]
+    last = bay.blocks[-1] if bay.blocks else None
+    if free(last) and last.size >= need:
+        found = {"fixed_exact" if last.size == need else "fixed_rest"}
+    else:
+        found = {"fixed_compacted"}
+    return found if bay is zone.bays[-1] else found | {"fixed_lower_bay"}
+
+
+def _resize(zone: Zone, handle: int, c: int) -> Set[str]:
+    block, a = zone.by_handle(handle), up4(c)
+    more = a - block.data_size
+    own = next(bay for bay in zone.bays if block in bay.blocks)
+    after = next((b for b in own.blocks if b.offset == block.end), None)
+    if more == 0:
+        return {"resize_same"}
+    if more < 0:
+        return {"resize_cut_merged" if free(after) else "resize_cut"}
+    if own.sum >= more:
+        if free(after) and after.size >= more:
+            return {"resize_grow_" + ("exact" if after.size == more else "rest")}
+        return {"resize_layout"}
+    others = [bay for bay in zone.bays if bay.sum >= 4 + a]
+    move = "resize_move_" + ("up" if others[0].start > own.start else "down")
+    if place(others[0], 4 + a) == "compacted":
+        move += "_compacted"
+    found = {move, "resize_old_" + merges(zone, block)}
+    return found | {"resize_move_lowest"} if len(others) > 1 else found
+
+
+def slides(bay: Bay) -> bool:
+    """Whether a relocatable block stands behind a free one."""
+    return any(free(block) and block is not bay.blocks[-1]
+               for block in bay.blocks)
+
+
+def _whole_zone(zone: Zone, call: str, k: int) -> Set[str]:
+    last = zone.blocks[-1] if zone.blocks else None
+    if call == "compact":
+        bays = sum(map(slides, zone.bays))
+        return {"compact_" + ("nothing", "slides", "bays")[min(bays, 2)]}
+    if call == "enlarge":
+        kind = "no_block" if last is None else "free_last" if free(last) else "used_last"
+        return {"enlarge_" + (kind if k else "none")}
+    strips = min(k // 4 * 4, zone.bays[-1].sum)
+    if strips == 0:
+        return {"shrink_none"}
+    return {"shrink_" + ("free_last" if free(last) and last.size >= strips else "compacted")}
+
+
+def ways(before: bytes, call: Sequence[str]) -> Set[str]:
+    """The ways of an accepted call that may change the zone."""
+    name = call[0]
+    if name == "initialize":
+        length, m = map(int, call[1:])
+        kind = "no_master" if m == 0 else "free" if length > 16 + 4 * m else "no_free"
+        return {"initialize_" + kind}
+    if name not in CHANGING:
+        return set()
+    zone, numbers = Zone(before), [int(word) for word in call[1:]]
+    if name == "allocate_relocatable":
+        found = _relocatable(zone, *numbers)
+    elif name == "allocate_fixed":
+        found = _fixed(zone, *numbers)
+    elif name == "free_handle":
+        found = {"free_handle_" + merges(zone, zone.by_handle(*numbers))}
+    elif name == "free_pointer":
+        found = {"free_pointer_" + merges(zone, zone.by_pointer(*numbers))}
+    elif name == "resize":
+        found = _resize(zone, *numbers)
+    else:
+        found = _whole_zone(zone, name, *(numbers or [0]))
+    if any(bay.capacity == 0 for bay in zone.bays) and len(zone.bays) > 1:
+        found.add("empty_bay")
+    return found
+
+
+def refusal_names(list_name: str) -> List[str]:
+    """The calls that a list of refusals.calls must show refused."""
+    number = int(list_name.split("_")[1])
+    return REFUSALS[number] + (["view"] if number in VIEW_TOO else [])

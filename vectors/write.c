@@ -1,0 +1,169 @@
+/* Makes the calls of a .calls file (standard input) and writes them with each answer and the zone's bytes
+ * (standard output), as FORMAT.md says. It calls nafelode.h's functions alone: linked with another zone's
+ * functions of these names, it writes what that zone answers. */
+#include <stdio.h>
+#include <stdlib.h>
+#include <string.h>
+#include "nafelode.h"
+
+enum { BUFFER = 1 << 21, LINE = 4096, WORDS = 16, RUN = 32 };
+static uint8_t *zone, before[BUFFER]; /* what is lent is as long as it says, so that a sanitizer sees any step outside */
+static size_t length;
+static unsigned line_number;
+static char *words[WORDS];
+static unsigned count;
+
+static void fail(const char *what) {
+    fprintf(stderr, "write: line %u: %s\n", line_number, what);
+    exit(1);
+}
+
+static uint32_t number(unsigned i) {
+    char *end;
+    unsigned long long n = i < count ? strtoull(words[i], &end, 10) : 0;
+    if (i >= count || *words[i] < '0' || *words[i] > '9' || *end || n > UINT32_MAX) fail("a decimal number of 32 bits is wanted");
+    return (uint32_t)n;
+}
+
+static uint8_t *lend(size_t size) { /* never a null pointer, for 0 bytes either */
+    uint8_t *p = malloc(size ? size : 1);
+    if (!p) fail("no memory");
+    return p;
+}
+
+/* The bytes that a word spells, laid down at `out` if that is not null; answers how many. */
+static size_t spell(const char *word, uint8_t *out) {
+    static const char digits[] = "0123456789ABCDEF";
+    size_t size = 0;
+    while (*word && strcmp(word, "-")) {
+        unsigned long times = 1;
+        char *end = (char *)word + 2;
+        if (strspn(word, digits) < 2) fail("bytes are wanted");
+        uint8_t byte = (uint8_t)((strchr(digits, word[0]) - digits) * 16 + (strchr(digits, word[1]) - digits));
+        if (*end == '*' && ((times = strtoul(end + 1, &end, 10)) > BUFFER || *end++ != '.')) fail("a run is 'HH*COUNT.'");
+        if (out) memset(out + size, byte, times);
+        size += times;
+        word = end;
+    }
+    return size;
+}
+
+static uint8_t *bytes(unsigned i, size_t *size) {
+    if (i >= count) fail("bytes are wanted");
+    *size = spell(words[i], NULL);
+    uint8_t *p = lend(*size);
+    spell(words[i], p);
+    return p;
+}
+
+static void tell(const char *word, const uint8_t *p, size_t size, int same) {
+    printf(same ? "%s same" : size ? "%s " : "%s -", word);
+    for (size_t k = 0, run; k < size && !same; k += run) {
+        for (run = 1; k + run < size && p[k + run] == p[k]; run++) {}
+        if (run < RUN) run = 1; /* short runs byte by byte */
+        printf(run == 1 ? "%02X" : "%02X*%lu.", p[k], (unsigned long)run);
+    }
+    putchar('\n');
+}
+
+static int is(const char *name, unsigned arguments) {
+    if (strcmp(words[1], name)) return 0;
+    if (count != 2 + arguments) fail("another number of arguments is wanted");
+    return 1;
+}
+
+static uint32_t kind(void) { /* the two words that name a block */
+    if (!strcmp(words[2], "handle")) return NAFELODE_HANDLE;
+    if (strcmp(words[2], "pointer")) fail("'handle' or 'pointer' is wanted");
+    return NAFELODE_POINTER;
+}
+
+static void told(nafelode_told t) { printf("answer %u %u\n", t.number, t.value); }
+
+static int changing_call(void) {
+    if (is("initialize", 2)) told(nafelode_initialize(zone, length, number(2), number(3)));
+    else if (is("allocate_relocatable", 1)) told(nafelode_allocate_relocatable(zone, length, number(2)));
+    else if (is("allocate_fixed", 1)) told(nafelode_allocate_fixed(zone, length, number(2)));
+    else if (is("free_handle", 1)) told(nafelode_free_handle(zone, length, number(2)));
+    else if (is("free_pointer", 1)) told(nafelode_free_pointer(zone, length, number(2)));
+    else if (is("resize", 2)) told(nafelode_resize(zone, length, number(2), number(3)));
+    else if (is("compact", 0)) told(nafelode_compact(zone, length));
+    else if (is("enlarge", 1)) told(nafelode_enlarge(zone, length, number(2)));
+    else if (is("shrink", 1)) told(nafelode_shrink(zone, length, number(2)));
+    else return 0;
+    return 1;
+}
+
+static int telling_call(void) {
+    if (is("size", 2)) told(nafelode_size(zone, length, kind(), number(3)));
+    else if (is("length", 0)) told(nafelode_length(zone, length));
+    else if (is("walker_start", 0)) printf("walker %u\n", nafelode_walker_start(zone, length));
+    else if (is("view", 4)) {
+        nafelode_part p = nafelode_view(zone, length, kind(), number(3), number(4), number(5));
+        printf("view %u %u\n", p.offset, p.length);
+    } else if (is("sum", 0)) {
+        nafelode_sums s = nafelode_sum(zone, length);
+        printf("answer %u %u %u\n", s.number, s.total, s.largest);
+    } else if (is("check", 0)) { /* never refused */
+        nafelode_checked c = nafelode_check(zone, length);
+        printf("answer 0 %u %u\n", c.yes, c.count);
+    } else if (is("census", 0)) {
+        nafelode_census_counts c = nafelode_census(zone, length);
+        printf("answer %u", c.number);
+        for (int i = 0; i < 19; i++) printf(" %u", c.counts[i]);
+        putchar('\n');
+    } else if (is("walker_step", 1)) {
+        uint32_t walker = number(2);
+        nafelode_step s = nafelode_walker_step(zone, length, &walker);
+        printf("answer %u %u %u %u\nwalker %u\n", s.number, s.kind, s.offset, s.size, walker);
+    } else return 0;
+    return 1;
+}
+
+static int call_with_second(void) {
+    if (!is("read", 5) && !is("write", 5) && !is("roster", 1)) return 0;
+    size_t size;
+    uint8_t *given = bytes(count - 1, &size), *second = bytes(count - 1, &size);
+    if (is("read", 5)) printf("answer %u\n", nafelode_read(zone, length, kind(), number(3), number(4), number(5), second, size));
+    else if (is("write", 5)) printf("answer %u\n", nafelode_write(zone, length, kind(), number(3), number(4), number(5), second, size));
+    else told(nafelode_roster(zone, length, second, size));
+    tell("second", second, size, !memcmp(second, given, size));
+    free(given);
+    free(second);
+    return 1;
+}
+
+static void do_line(void) {
+    if (!strcmp(words[0], "buffer") && count == 3 && number(1) <= BUFFER) {
+        free(zone);
+        length = number(1);
+        zone = lend(length);
+        memset(zone, (int)number(2), length);
+    } else if (!strcmp(words[0], "set") && count == 3) {
+        size_t size;
+        uint8_t *p = bytes(2, &size);
+        if (!zone || size + number(1) > length) fail("outside the buffer");
+        memcpy(zone + number(1), p, size);
+        free(p);
+    } else if (!strcmp(words[0], "call") && count > 1 && zone) {
+        memcpy(before, zone, length);
+        if (!changing_call() && !telling_call() && !call_with_second()) fail("no call of this name");
+        tell("zone", zone, length, !memcmp(zone, before, length));
+    } else if (strcmp(words[0], "list") && *words[0] != '#') fail("not understood");
+}
+
+int main(void) {
+    char line[LINE], copy[LINE];
+    while (fgets(line, sizeof line, stdin)) {
+        if (!strchr(line, '\n')) fail("too long, or no line end");
+        if (line_number++ == 0 && strcmp(line, "nafelode-vectors 1\n")) fail("'nafelode-vectors 1' is wanted");
+        fputs(line, stdout);
+        strcpy(copy, line);
+        count = 0;
+        for (char *w = strtok(copy, " \n"); w && count < WORDS; w = strtok(NULL, " \n")) words[count++] = w;
+        if (line_number > 1 && count > 0) do_line();
+    }
+    free(zone);
+    if (line_number == 0) fail("nothing to read");
+    return ferror(stdin) || fflush(stdout) != 0;
+}
