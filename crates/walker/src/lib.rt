@@ -29,12 +29,6 @@ pub struct Moved {
     pub report: Report,
 }
 
-pub struct Stepped {
-    pub number: u32,
-    pub next: Walker,
-    pub block: Described,
-}
-
 // The block that starts at `at`, looked for from the first block on.
 fn describe(z: &[u8], first: usize, at: usize) -> Described
     requires { ⌜ (Edge (now z) first first) × (first ≤ length (now z)) ⌝ }
@@ -110,20 +104,6 @@ impl Walker {
                 at: at + block.size,
             },
             report: Report { number: 0, block },
-        }
-    }
-
-    pub fn step(self, zone: &[u8]) -> Stepped
-        ensures { λ r. ⌜ walked (r .number) (r .block .kind) (r .block .offset) (r .block .size) (r .next .at) ≡ walkStep (now (zone .entry)) (self .at) ⌝ }
-    {
-        let m = self.go(zone);
-        let next = m.next;
-        let report = m.report;
-        let block = report.block;
-        Stepped {
-            number: report.number,
-            next,
-            block,
         }
     }
 

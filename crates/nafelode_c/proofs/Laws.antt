@@ -1,0 +1,84 @@
+-- The laws that the proofs cite: a block by C's name of it, the part of a view, the check's yes and no.
+use mathlib.Core.Path.{_≡_, ap}
+use mathlib.Core.Bool.{Bool, true, false, cond}
+use mathlib.Core.List.{List}
+use Prim.Native.Nat.{ℕ, _+_, _-_, _≤_}
+use native.Mathlib.Omega.{arith}
+use lib.ListN.{length, drop, length-take, length-drop}
+use borrow.Author.Tests.{ne-eqb}
+use mir.Val.{Fits}
+use mir.Syntax.{w32}
+use Rattle.format.specs.WellFormed.{lengthField}
+use Rattle.calls.specs.Calls.{Target, by-handle, by-pointer, Answer, size, read, write, check, answersTwo}
+use Rattle.zone.specs.Promise.{Promise}
+use Rattle.locate.proofs.Data.{target-fits}
+use Rattle.tell.proofs.Opened.{fields-of}
+use Rattle.stretch.specs.Stretch.{viewStart, viewLength, Planned, refused, granted}
+use Rattle.stretch.proofs.Laws.{accepted, planned-order, planned-fits, view-start, view-length}
+use Rattle.nafelode_c.specs.Named.{named}
+
+pub named-handle : (kind n : ℕ) → kind ≡ 0 → by-handle n ≡ named kind n
+named-handle kind n e = rw e
+
+pub named-pointer : (kind n : ℕ) → (kind ≡ 0 → ⊥) → by-pointer n ≡ named kind n
+named-pointer kind n e = rw (ne-eqb kind 0 e)
+
+module _ (t u : Target) (e : t ≡ u) (s : List ℕ) (a : Answer) where
+  pub size-named : Promise (size t) s a s → Promise (size u) s a s
+  size-named p = rw e at p
+
+  module _ (i n : ℕ) (b : List ℕ) where
+    pub read-named : Promise (read t i n b) s a s → Promise (read u i n b) s a s
+    read-named p = rw e at p
+
+    pub write-named : (z : List ℕ) → Promise (write t i n b) s a z → Promise (write u i n b) s a z
+    write-named z p = rw e at p
+
+-- ---- view
+
+module _ (s : List ℕ) (t : Target) (i n number start end : ℕ) (p : Planned s t i n n number start end) where
+  small : end ≤ 1048576
+  small = go p
+    where
+      go : Planned s t i n n number start end → end ≤ 1048576
+      go (refused q l a b) = omega arith
+      go (granted y k q a b) = let c = accepted s t i n n k in omega (arith, c .room, target-fits s y (c .well) t (c .live), fields-of s (c .well) .limit)
+
+  in-zone : end ≤ lengthField s
+  in-zone = go p
+    where
+      go : Planned s t i n n number start end → end ≤ lengthField s
+      go (refused q l a b) = omega arith
+      go (granted y k q a b) = let c = accepted s t i n n k in omega (arith, c .room, target-fits s y (c .well) t (c .live))
+
+  pub view-ordered : start ≤ end
+  view-ordered = planned-order s t i n n number start end p
+
+  pub start-word : Fits w32 start
+  start-word = record { fits = omega (arith, small, view-ordered) }
+
+  pub length-word : Fits w32 (end - start)
+  length-word = record { fits = omega (arith, small) }
+
+  module _ (u : Target) (e : t ≡ u) where
+    pub offset-named : start ≡ viewStart u i n s
+    offset-named = let q = ap (λ (x : ℕ × ℕ). x .1) (view-start s t i n number start end 0 0 p) in rw (← e) (omega (arith, q))
+
+    pub length-named : end - start ≡ viewLength u i n s
+    length-named =
+        let q = view-length s t i n number start end p in
+        rw (← e) (omega (arith, q, length-take (end - start) (drop start s), length-drop start s, planned-fits s t i n n number start end p))
+
+  pub view-in-zone : start + (end - start) ≤ lengthField s
+  view-in-zone = omega (arith, in-zone, view-ordered)
+
+  pub view-in-buffer : start + (end - start) ≤ length s
+  view-in-buffer = omega (arith, planned-fits s t i n n number start end p, view-ordered)
+
+-- ---- check
+
+pub check-yes : (s : List ℕ) (ok : Bool) (n : ℕ) → ok ≡ true → Promise check s (answersTwo (cond ok 1 0) n) s → Promise check s (answersTwo 1 n) s
+check-yes s ok n e p = rw e at p
+
+pub check-no : (s : List ℕ) (ok : Bool) (n : ℕ) → ok ≡ false → Promise check s (answersTwo (cond ok 1 0) n) s → Promise check s (answersTwo 0 n) s
+check-no s ok n e p = rw e at p

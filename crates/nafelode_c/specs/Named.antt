@@ -1,0 +1,9 @@
+-- How C names a block.
+use mathlib.Core.Bool.{cond}
+use Prim.Native.Nat.{ℕ}
+use lib.Dec.{eqb}
+use Rattle.calls.specs.Calls.{Target, by-handle, by-pointer}
+
+-- kind 0 is a handle, every other kind a pointer
+abbrev pub named : ℕ → ℕ → Target
+named kind n = cond (eqb kind 0) (by-handle n) (by-pointer n)

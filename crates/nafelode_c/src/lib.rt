@@ -1,0 +1,400 @@
+// The library for C: every call of document 01 under a C name, thin over crate nafelode. In C a slice is a pointer and a length.
+// nafelode.h is made from this file: its declarations, and the comments of the structs and of the exported functions.
+ghost use mathlib.Core.Path.{_≡_};
+ghost use Prim.Native.Nat.{_+_, _≤_};
+ghost use lib.ListN.{length};
+ghost use Rattle.format.specs.WellFormed.{lengthField};
+ghost use Rattle.calls.specs.Calls.{told, shows, answersTwo, summed, allocate-relocatable, allocate-fixed, free-handle, free-pointer, resize, size, read, write, compact, sums, check, length-of, enlarge, shrink, roster};
+ghost use Rattle.zone.specs.Promise.{Promise, InitPromise};
+ghost use Rattle.zone.specs.Census.{counted, census};
+ghost use Rattle.zone.specs.Walker.{walked, walkStart, walkStep};
+ghost use Rattle.locate.specs.Named.{targetOf};
+ghost use Rattle.stretch.specs.Stretch.{viewStart, viewLength};
+ghost use Rattle.zone.specs.Roster.{rosterAnswer};
+ghost use Rattle.nafelode_c.specs.Named.{named};
+use nafelode::Block;
+use nafelode::Stretch;
+use nafelode::Walker;
+
+// The refusal number, 0 if the call is done, and the value, 0 when refused.
+#[repr(C)]
+pub struct Told {
+    pub number: u32,
+    pub value: u32,
+}
+
+// The refusal number, the total of free bytes, and the largest bay's sum; 0 for both when refused.
+#[repr(C)]
+pub struct Sums {
+    pub number: u32,
+    pub total: u32,
+    pub largest: u32,
+}
+
+// 1 for yes and 0 for no, and the number of live handles, 0 for no.
+#[repr(C)]
+pub struct Checked {
+    pub yes: u32,
+    pub count: u32,
+}
+
+// A part of the zone: its offset and its length, 0 and 0 when refused.
+#[repr(C)]
+pub struct Part {
+    pub offset: u32,
+    pub length: u32,
+}
+
+// The refusal number, and a block's type (0 free, 1 fixed, 2 relocatable), offset and size; 0 for each where no block starts.
+#[repr(C)]
+pub struct Step {
+    pub number: u32,
+    pub kind: u32,
+    pub offset: u32,
+    pub size: u32,
+}
+
+// The refusal number, and for each i from 0 to 18 the number of free blocks of 2^i to 2^(i+1) - 1 words of 2 bytes.
+#[repr(C)]
+pub struct CensusCounts {
+    pub number: u32,
+    pub counts: [u32; 19],
+}
+
+// The block that a kind and a number name.
+fn block_of(kind: u32, block: u32) -> Block
+    ensures { λ r. ⌜ targetOf r ≡ named kind block ⌝ }
+{
+    if kind == 0 {
+        return Block::Handle(block);
+    }
+    Block::Pointer(block)
+}
+
+// Makes a zone of `length` bytes with so many masters at the start of the buffer; bytes beyond `length` stay.
+// Value: 0.
+// Refused: 2 where length is no multiple of 4, below 16 + 4 * masters, above the buffer's length or above 1048576, or masters is above 8188.
+#[no_mangle]
+pub extern "C" fn nafelode_initialize(zone: &mut [u8], length: u32, masters: u32) -> Told
+    ensures { λ r. ⌜ InitPromise length masters (now (zone .entry)) (told (r .number) (r .value)) (now (zone .exit)) ⌝ }
+{
+    let t = nafelode::initialize(zone, length, masters);
+    Told {
+        number: t.number,
+        value: t.value,
+    }
+}
+
+// Allocates a relocatable block for c data bytes, which are zero. The block may slide; its handle stays.
+// Value: the handle.
+// Refused: 1 zone not well-formed, 3 c above 32760, 4 no free handle, 5 no space.
+#[no_mangle]
+pub extern "C" fn nafelode_allocate_relocatable(zone: &mut [u8], c: u32) -> Told
+    ensures { λ r. ⌜ Promise (allocate-relocatable c) (now (zone .entry)) (told (r .number) (r .value)) (now (zone .exit)) ⌝ }
+{
+    let t = nafelode::allocate_relocatable(zone, c);
+    Told {
+        number: t.number,
+        value: t.value,
+    }
+}
+
+// Allocates a fixed block for c data bytes, which are zero. It never moves until it is freed.
+// Value: the pointer, which is the offset of its first data byte from the zone's first byte.
+// Refused: 1 zone not well-formed, 3 c above 32762, 5 no space.
+#[no_mangle]
+pub extern "C" fn nafelode_allocate_fixed(zone: &mut [u8], c: u32) -> Told
+    ensures { λ r. ⌜ Promise (allocate-fixed c) (now (zone .entry)) (told (r .number) (r .value)) (now (zone .exit)) ⌝ }
+{
+    let t = nafelode::allocate_fixed(zone, c);
+    Told {
+        number: t.number,
+        value: t.value,
+    }
+}
+
+// Frees the block of a handle.
+// Value: 0.
+// Refused: 1 zone not well-formed, 6 handle not live.
+#[no_mangle]
+pub extern "C" fn nafelode_free_handle(zone: &mut [u8], handle: u32) -> Told
+    ensures { λ r. ⌜ Promise (free-handle handle) (now (zone .entry)) (told (r .number) (r .value)) (now (zone .exit)) ⌝ }
+{
+    let t = nafelode::free_handle(zone, handle);
+    Told {
+        number: t.number,
+        value: t.value,
+    }
+}
+
+// Frees the fixed block of a pointer.
+// Value: 0.
+// Refused: 1 zone not well-formed, 7 pointer not that of a fixed block.
+#[no_mangle]
+pub extern "C" fn nafelode_free_pointer(zone: &mut [u8], pointer: u32) -> Told
+    ensures { λ r. ⌜ Promise (free-pointer pointer) (now (zone .entry)) (told (r .number) (r .value)) (now (zone .exit)) ⌝ }
+{
+    let t = nafelode::free_pointer(zone, pointer);
+    Told {
+        number: t.number,
+        value: t.value,
+    }
+}
+
+// Gives the block of a handle room for c data bytes. The handle and the common first bytes stay, added bytes are zero.
+// Value: 0.
+// Refused: 1 zone not well-formed, 6 handle not live, 3 c above 32760, 5 no space.
+#[no_mangle]
+pub extern "C" fn nafelode_resize(zone: &mut [u8], handle: u32, c: u32) -> Told
+    ensures { λ r. ⌜ Promise (resize handle c) (now (zone .entry)) (told (r .number) (r .value)) (now (zone .exit)) ⌝ }
+{
+    let t = nafelode::resize(zone, handle, c);
+    Told {
+        number: t.number,
+        value: t.value,
+    }
+}
+
+// The data size of a block, which may exceed what was asked for. kind 0: block is a handle; any other kind: a pointer.
+// Value: the data size in bytes.
+// Refused: 1 zone not well-formed, 6 handle not live, 7 pointer not that of a fixed block.
+#[no_mangle]
+pub extern "C" fn nafelode_size(zone: &[u8], kind: u32, block: u32) -> Told
+    ensures { λ r. ⌜ Promise (size (named kind block)) (now (zone .entry)) (told (r .number) (r .value)) (now (zone .entry)) ⌝ }
+{
+    let b = block_of(kind, block);
+    let t = nafelode::size(zone, b);
+    Told {
+        number: t.number,
+        value: t.value,
+    }
+}
+
+// Copies count bytes of a block from an offset on to the start of out; later bytes of out stay.
+// Answers the refusal number, 0 if done.
+// Refused: 1 zone not well-formed, 6 handle not live, 7 pointer not that of a fixed block, 8 offset + count above the data size,
+// 10 out shorter than count.
+#[no_mangle]
+pub extern "C" fn nafelode_read(
+    zone: &[u8],
+    kind: u32,
+    block: u32,
+    offset: u32,
+    count: u32,
+    out: &mut [u8],
+) -> u32
+    ensures { λ r. ⌜ Promise (read (named kind block) offset count (now (out .entry))) (now (zone .entry)) (shows r (now (out .exit))) (now (zone .entry)) ⌝ }
+{
+    let b = block_of(kind, block);
+    nafelode::read(
+        zone,
+        Stretch {
+            block: b,
+            offset,
+            count,
+        },
+        out,
+    )
+}
+
+// Copies count bytes from the start of src to a block, from an offset on.
+// Answers the refusal number, 0 if done.
+// Refused: 1 zone not well-formed, 6 handle not live, 7 pointer not that of a fixed block, 8 offset + count above the data size,
+// 10 src shorter than count.
+#[no_mangle]
+pub extern "C" fn nafelode_write(
+    zone: &mut [u8],
+    kind: u32,
+    block: u32,
+    offset: u32,
+    count: u32,
+    src: &[u8],
+) -> u32
+    ensures { λ r. ⌜ Promise (write (named kind block) offset count (now (src .entry))) (now (zone .entry)) (shows r (now (src .entry))) (now (zone .exit)) ⌝ }
+{
+    let b = block_of(kind, block);
+    nafelode::write(
+        zone,
+        Stretch {
+            block: b,
+            offset,
+            count,
+        },
+        src,
+    )
+}
+
+// Where count bytes of a block from an offset on lie in the zone. They lie there until the next call that changes the zone.
+// Answers offset and length of that part, 0 and 0 when refused. (A view carries no refusal number. A view of no bytes at a block
+// that is there has its offset.)
+#[no_mangle]
+pub extern "C" fn nafelode_view(zone: &[u8], kind: u32, block: u32, offset: u32, count: u32) -> Part
+    ensures { λ r. ⌜ r .offset ≡ viewStart (named kind block) offset count (now (zone .entry)) ⌝ }
+    ensures { λ r. ⌜ r .length ≡ viewLength (named kind block) offset count (now (zone .entry)) ⌝ }
+    ensures { λ r. ⌜ (r .offset + r .length ≤ lengthField (now (zone .entry))) × (r .offset + r .length ≤ length (now (zone .entry))) ⌝ }
+{
+    let b = block_of(kind, block);
+    let p = stretch::part_of(
+        zone,
+        Stretch {
+            block: b,
+            offset,
+            count,
+        },
+        count as usize,
+    );
+    let n = p.end - p.start;
+    let start = p.start as u32;
+    let length = n as u32;
+    Part {
+        offset: start,
+        length,
+    }
+}
+
+// Compacts every bay: relocatable blocks slide to its start.
+// Value: the largest bay's sum of free bytes.
+// Refused: 1 zone not well-formed.
+#[no_mangle]
+pub extern "C" fn nafelode_compact(zone: &mut [u8]) -> Told
+    ensures { λ r. ⌜ Promise compact (now (zone .entry)) (told (r .number) (r .value)) (now (zone .exit)) ⌝ }
+{
+    let t = nafelode::compact(zone);
+    Told {
+        number: t.number,
+        value: t.value,
+    }
+}
+
+// The total of free bytes and the largest bay's sum.
+// Refused: 1 zone not well-formed.
+#[no_mangle]
+pub extern "C" fn nafelode_sum(zone: &[u8]) -> Sums
+    ensures { λ r. ⌜ Promise sums (now (zone .entry)) (summed (r .number) (r .total) (r .largest)) (now (zone .entry)) ⌝ }
+{
+    let t = nafelode::sum(zone);
+    let total = t.total as u32;
+    let largest = t.largest as u32;
+    Sums {
+        number: t.number,
+        total,
+        largest,
+    }
+}
+
+// Whether the buffer holds a well-formed zone, and how many handles are live. Never refused.
+#[no_mangle]
+pub extern "C" fn nafelode_check(zone: &[u8]) -> Checked
+    ensures { λ r. ⌜ Promise check (now (zone .entry)) (answersTwo (r .yes) (r .count)) (now (zone .entry)) ⌝ }
+{
+    let k = nafelode::check(zone);
+    let count = k.count as u32;
+    if k.ok {
+        return Checked { yes: 1, count };
+    }
+    Checked { yes: 0, count }
+}
+
+// The zone's length L.
+// Value: L.
+// Refused: 1 zone not well-formed.
+#[no_mangle]
+pub extern "C" fn nafelode_length(zone: &[u8]) -> Told
+    ensures { λ r. ⌜ Promise length-of (now (zone .entry)) (told (r .number) (r .value)) (now (zone .entry)) ⌝ }
+{
+    let t = nafelode::length(zone);
+    Told {
+        number: t.number,
+        value: t.value,
+    }
+}
+
+// The zone grows by k bytes of the buffer, which become free.
+// Value: 0.
+// Refused: 1 zone not well-formed, 9 k no multiple of 4, or L + k above the buffer's length or 1048576.
+#[no_mangle]
+pub extern "C" fn nafelode_enlarge(zone: &mut [u8], k: u32) -> Told
+    ensures { λ r. ⌜ Promise (enlarge k) (now (zone .entry)) (told (r .number) (r .value)) (now (zone .exit)) ⌝ }
+{
+    let t = nafelode::enlarge(zone, k);
+    Told {
+        number: t.number,
+        value: t.value,
+    }
+}
+
+// Strips at most k bytes, a multiple of 4, off the zone's end; they are zeroed.
+// Value: how many bytes were stripped.
+// Refused: 1 zone not well-formed.
+#[no_mangle]
+pub extern "C" fn nafelode_shrink(zone: &mut [u8], k: u32) -> Told
+    ensures { λ r. ⌜ Promise (shrink k) (now (zone .entry)) (told (r .number) (r .value)) (now (zone .exit)) ⌝ }
+{
+    let t = nafelode::shrink(zone, k);
+    Told {
+        number: t.number,
+        value: t.value,
+    }
+}
+
+// Writes 8 bytes for each live handle to the start of out: the handle and its data size, 4 bytes each, high byte first, in no
+// promised order; later bytes of out stay.
+// Value: how many live handles there are.
+// Refused: 1 zone not well-formed, 10 out too short.
+#[no_mangle]
+pub extern "C" fn nafelode_roster(zone: &[u8], out: &mut [u8]) -> Told
+    ensures { λ r. ⌜ Promise (roster (now (out .entry))) (now (zone .entry)) (rosterAnswer (r .number) (r .value) (now (out .exit))) (now (zone .entry)) ⌝ }
+{
+    let t = nafelode::roster(zone, out);
+    Told {
+        number: t.number,
+        value: t.value,
+    }
+}
+
+// Counts the free blocks by size.
+// Refused: 1 zone not well-formed.
+#[no_mangle]
+pub extern "C" fn nafelode_census(zone: &[u8]) -> CensusCounts
+    ensures { λ r. ⌜ counted (r .number) (r .counts) ≡ census (now (zone .entry)) ⌝ }
+{
+    let c = nafelode::census(zone);
+    let counts = c.counts;
+    CensusCounts {
+        number: c.number,
+        counts,
+    }
+}
+
+// Where a walker starts: the offset of the first block. 0, where no block starts, if the zone is not well-formed.
+#[no_mangle]
+pub extern "C" fn nafelode_walker_start(zone: &[u8]) -> u32
+    ensures { λ r. ⌜ r ≡ walkStart (now (zone .entry)) ⌝ }
+{
+    let w = Walker::start(zone);
+    w.at as u32
+}
+
+// Moves the caller's own walker to the end of the block that starts at its offset, and describes that block. At any other offset,
+// and when refused, the walker stays and each answer is 0.
+// Refused: 1 zone not well-formed.
+#[no_mangle]
+pub extern "C" fn nafelode_walker_step(zone: &[u8], walker: &mut u32) -> Step
+    ensures { λ r. ⌜ walked (r .number) (r .kind) (r .offset) (r .size) (now (walker .exit)) ≡ walkStep (now (zone .entry)) (now (walker .entry)) ⌝ }
+{
+    let w = Walker {
+        at: *walker as usize,
+    };
+    let m = w.go(zone);
+    let next = m.next.at as u32;
+    let kind = m.report.block.kind as u32;
+    let offset = m.report.block.offset as u32;
+    let size = m.report.block.size as u32;
+    *walker = next;
+    Step {
+        number: m.report.number,
+        kind,
+        offset,
+        size,
+    }
+}
