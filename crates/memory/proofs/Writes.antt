@@ -3,7 +3,7 @@
 use mathlib.Core.Path.{_≡_, refl, sym, ap, _∙_}
 use mathlib.Core.List.{List, [], _∷_, _++_, append-nil, append-assoc}
 use mathlib.Core.Bool.{Bool, true, false, _&&_}
-use Prim.Native.Nat.{ℕ, zero, suc, _+_, _*_, _-_, _<_, _≤_}
+use Prim.Native.Nat.{ℕ, zero, suc, _+_, _*_, _-_, _<_, _≤_, max}
 use native.Mathlib.Nat.{sub-self, add-zero, zero-add, suc-add}
 use native.Mathlib.Numerals.{add-one}
 use native.Mathlib.Omega.{arith}
@@ -20,20 +20,27 @@ cut-step s i to h k =
     let h′ : i < length s = omega arith in
     rw (e, drop-cons s i 0, add-one)
 
-pub zero-step : (s : List ℕ) (i to : ℕ) (clean whole : Bool) → i < to → to ≤ length s
-    → clean && allZero (slice s i (to - i)) ≡ whole → clean && eqb (getD s i 0) 0 && allZero (slice s (i + 1) (to - (i + 1))) ≡ whole
+-- most: the largest byte so far
+pub zero-step : (s : List ℕ) (i to most next : ℕ) (whole : Bool) → next ≡ max most (getD s i 0) → i < to → to ≤ length s
+    → eqb most 0 && allZero (slice s i (to - i)) ≡ whole → eqb next 0 && allZero (slice s (i + 1) (to - (i + 1))) ≡ whole
 unfolding allZero
-zero-step s i to clean whole h k inv = and-assoc clean (eqb (getD s i 0) 0) (allZero (slice s (i + 1) (to - (i + 1)))) ∙ (rw (cut-step s i to h k) at inv)
+zero-step s i to most next whole e h k inv =
+    ap (_&& allZero (slice s (i + 1) (to - (i + 1)))) (ap (λ (n : ℕ). eqb n 0) e ∙ both most (getD s i 0))
+    ∙ and-assoc (eqb most 0) (eqb (getD s i 0) 0) (allZero (slice s (i + 1) (to - (i + 1)))) ∙ (rw (cut-step s i to h k) at inv)
   where
     and-assoc : (a b c : Bool) → a && b && c ≡ a && (b && c)
     and-assoc true b c = refl
     and-assoc false b c = refl
 
-pub zero-done : (s : List ℕ) (i to : ℕ) (clean whole : Bool) → to ≤ i → clean && allZero (slice s i (to - i)) ≡ whole → clean ≡ whole
+    both : (a b : ℕ) → eqb (max a b) 0 ≡ eqb a 0 && eqb b 0
+    both zero b = let e : max 0 b ≡ b = omega arith in rw e
+    both (suc a) b = (rw (ne-eqb (max (suc a) b) 0 (λ e. omega arith), ne-eqb (suc a) 0 (λ e. omega arith)))
+
+pub zero-done : (s : List ℕ) (i to most : ℕ) (whole : Bool) → to ≤ i → eqb most 0 && allZero (slice s i (to - i)) ≡ whole → eqb most 0 ≡ whole
 unfolding allZero
-zero-done s i to clean whole h inv =
+zero-done s i to most whole h inv =
     let e : to - i ≡ 0 = omega arith in
-    sym (and-true clean) ∙ (rw e at inv)
+    sym (and-true (eqb most 0)) ∙ (rw e at inv)
   where
     and-true : (a : Bool) → a && true ≡ a
     and-true true = refl

@@ -1,22 +1,31 @@
 // Work on many bytes: a test for zeros, a fill, a copy, slides in place.
 ghost use mathlib.Core.Path.{_≡_};
-ghost use Prim.Native.Nat.{_+_, _-_, _<_, _≤_};
+ghost use Prim.Native.Nat.{_+_, _-_, _<_, _≤_, max};
 ghost use lib.ListN.{length, replicate};
 ghost use Rattle.bigendian.specs.BigEndian.{slice, overwrite};
 ghost use Rattle.memory.specs.Zeros.{allZero};
 
-// Whether every byte from `from` up to `to` is 0. There is no early exit, so the loop is compiled to wide loads.
+fn larger(a: u8, b: u8) -> u8
+    ensures { λ r. ⌜ r ≡ max a b ⌝ }
+{
+    if a < b {
+        return b;
+    }
+    a
+}
+
+// Whether every byte from `from` up to `to` is 0: whether the largest is. There is no early exit, so the loop is compiled to wide loads.
 pub fn all_zero(s: &[u8], from: usize, to: usize) -> bool
     requires { ⌜ (from ≤ to) × (to ≤ length (now s)) ⌝ }
     ensures { λ r. ⌜ r ≡ allZero (slice (now (s .entry)) from (to - from)) ⌝ }
 {
-    let mut clean = true;
+    let mut most = 0;
     let mut i = from;
     while i < to {
-        clean = clean & (s[i] == 0);
+        most = larger(most, s[i]);
         i += 1;
     }
-    clean
+    most == 0
 }
 
 // Sets the bytes from `from` up to `to` to 0.

@@ -3,6 +3,7 @@ use mathlib.Core.Bool.{_&&_}
 use Prim.Native.Nat.{_-_, _≤_}
 use borrow.Author.Needs.{needs}
 use native.Mathlib.Omega.{arith}
+use lib.Dec.{eqb}
 use Rattle.bigendian.specs.BigEndian.{slice}
 use Rattle.memory.specs.Zeros.{allZero}
 use Rattle.memory.proofs.Writes.{zero-step, zero-done}
@@ -10,10 +11,10 @@ use Rattle.memory.proofs.all_zero.Statement.{statement}
 use Rattle.memory.proofs.all_zero.Tie as tie
 
 abbrev Inv-loop : tie.InvT-loop
-Inv-loop s from to clean₀ i₀ clean i = (i ≤ to) × (clean && allZero (slice s i (to - i)) ≡ allZero (slice s from (to - from)))
+Inv-loop s from to most₀ i₀ most i = (i ≤ to) × (eqb most 0 && allZero (slice s i (to - i)) ≡ allZero (slice s from (to - from)))
 
 abbrev μ-loop : tie.MeasureT-loop
-μ-loop s from to clean₀ i₀ clean i = to - i
+μ-loop s from to most₀ i₀ most i = to - i
 
 loop-holds : tie.Need-loop-holds Inv-loop μ-loop
 loop-holds c = (omega arith, refl)
@@ -31,6 +32,7 @@ all-zero-spec =
     Inv-loop
     μ-loop
     loop-holds
+    (λ c. search needs)
     (λ c. search needs)
     (λ c. search needs)
     (λ c. search needs)
