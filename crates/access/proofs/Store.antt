@@ -74,7 +74,7 @@ write-block k off p d src rest e l =
       write-right (headR k (length d)) d src off,
     )
 
--- ---- the edited splitBlocks have the old shape
+-- ---- the edited blocks have the old shape
 
 module _ (h off : ℕ) (src : List ℕ) where
   sizes-edit : (bs : List Block) → off + length src ≤ length (dataOf h bs) → sizes (edit h off src bs) ≡ sizes bs
@@ -126,7 +126,7 @@ module _ (h off : ℕ) (src : List ℕ) where
       go true l f = omega arith
       go false l f = omega (arith, f l)
 
-  -- ---- the bytes of the splitBlocks
+  -- ---- the bytes of the blocks
 
   step : (at n p : ℕ) (b : Block) (bs : List Block) → length (encodeBlock b) ≡ n → at + n ≤ p
       → overwrite (join (map encodeBlock bs)) (p - (at + n) + off) src ≡ join (map encodeBlock (edit h off src bs))

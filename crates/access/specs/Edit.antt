@@ -15,7 +15,7 @@ dataOf h (free n ∷ bs) = dataOf h bs
 dataOf h (fixed d ∷ bs) = dataOf h bs
 dataOf h (reloc k d ∷ bs) = cond (eqb h k) d (dataOf h bs)
 
--- the splitBlocks with src at offset off of the data of handle h
+-- the blocks with src at offset off of the data of handle h
 unfoldable pub edit : ℕ → ℕ → List ℕ → List Block → List Block
 edit h off src [] = []
 edit h off src (free n ∷ bs) = free n ∷ edit h off src bs

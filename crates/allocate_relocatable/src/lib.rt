@@ -15,7 +15,7 @@ use block_type::BlockType;
 use calls::Told;
 
 // A relocatable block of `need` bytes with handle h from the low end of the free block of n bytes at `at`; the rest of that stays free.
-fn cut_block(z: &mut [u8], at: usize, n: usize, need: usize, h: usize)
+pub fn cut_block(z: &mut [u8], at: usize, n: usize, need: usize, h: usize)
     requires { ⌜ Fit (now z) at n need h ⌝ }
     ensures { λ _. ⌜ now (z .exit) ≡ overwrite (now (z .entry)) at (bytesOf (carvedFrom need h n)) ⌝ }
 {

@@ -1,4 +1,4 @@
--- The laws of be, toBE, part and write, each proved once for any width.
+-- The laws of fromBE, toBE, slice and overwrite, each proved once for any width.
 use mathlib.Core.Path.{_≡_, refl, sym, ap, _∙_}
 use mathlib.Core.List.{List, [], _∷_, _++_}
 use Prim.Native.Nat.{ℕ, zero, suc, _+_, _*_, _/_, _%_, _^_, _<_, _≤_}

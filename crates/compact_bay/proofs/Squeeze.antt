@@ -18,7 +18,7 @@ use Rattle.find_bay.specs.Spots.{freeTotal, used, gapOf, squeeze}
 use Rattle.find_bay.proofs.Numbers.{sizes-append}
 use Rattle.compact_bay.specs.Tidy.{Low, IsLow, is-low, setAll, tidied}
 
--- ---- the used splitBlocks and the free bytes
+-- ---- the used blocks and the free bytes
 
 pub used-sizes : (bs : List Block) → sizes (used bs) + freeTotal bs ≡ sizes bs
 unfolding used sizes freeTotal

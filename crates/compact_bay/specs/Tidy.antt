@@ -17,7 +17,7 @@ pub record Kept (s : List ℕ) (to at n : ℕ) (s′ : List ℕ) (r : ℕ) : Typ
   pub front : take r s′ ++ bytesOf (used (blocksOf (drop (at + n) s′))) ≡ take to s ++ bytesOf (used (blocksOf (drop at s)))
   pub sum : r + at + freeTotal (blocksOf (drop at s)) ≡ to + (at + n) + freeTotal (blocksOf (drop (at + n) s′))
 
--- the used splitBlocks of s₀ stand at the start of s, `to` bytes of them, and the rest is as long as the free splitBlocks
+-- the used blocks of s₀ stand at the start of s, `to` bytes of them, and the rest is as long as the free blocks
 pub record Gathered (s₀ s : List ℕ) (to : ℕ) : Type 0 where
   pub bound : to ≤ length s
   pub four : (length s - to) % 4 ≡ 0

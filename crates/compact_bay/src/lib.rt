@@ -1,4 +1,4 @@
-// Compacts a bay: its used splitBlocks go to its start in old order, one free block holds the rest, masters follow.
+// Compacts a bay: its used blocks go to its start in old order, one free block holds the rest, masters follow.
 use block_type::BlockType;
 ghost use mathlib.Core.Path.{_≡_};
 ghost use mathlib.Core.List.{_++_};
@@ -21,7 +21,7 @@ fn keep(s: &mut [u8], to: usize, at: usize, n: usize) -> usize
     to + n
 }
 
-// The used splitBlocks go to the start, in old order. How many bytes they are.
+// The used blocks go to the start, in old order. How many bytes they are.
 fn gather(s: &mut [u8]) -> usize
     requires { ⌜ Row (now s) ⌝ }
     ensures { λ r. ⌜ Gathered (now (s .entry)) (now (s .exit)) r ⌝ }
@@ -47,7 +47,7 @@ fn finish(s: &mut [u8], to: usize)
     }
 }
 
-// Compacts a stretch of splitBlocks.
+// Compacts a stretch of blocks.
 pub fn compact_part(s: &mut [u8])
     requires { ⌜ Row (now s) × (length (now s) ≤ 1048576) ⌝ }
     ensures { λ _. ⌜ now (s .exit) ≡ bytesOf (squeeze (blocksOf (now (s .entry)))) ⌝ }
@@ -81,7 +81,7 @@ fn turn(z: &mut [u8], to: usize, at: usize) -> usize
     n
 }
 
-// The masters of the relocatable splitBlocks from `from` up to `to` hold their first data bytes.
+// The masters of the relocatable blocks from `from` up to `to` hold their first data bytes.
 pub fn set_masters(z: &mut [u8], from: usize, to: usize)
     requires { ⌜ (from ≤ to) × (to ≤ length (now z)) × (length (now z) ≤ 1048576) × Row (drop from (take to (now z))) × IsLow from (blocksOf (drop from (take to (now z)))) ⌝ }
     ensures { λ _. ⌜ now (z .exit) ≡ setAll from (blocksOf (drop from (take to (now (z .entry))))) (now (z .entry)) ⌝ }

@@ -1,4 +1,4 @@
--- Bays and holes as places in a list of splitBlocks, and the choice among them.
+-- Bays and holes as places in a list of blocks, and the choice among them.
 use mathlib.Core.List.{List, [], _∷_, _++_}
 use mathlib.Core.Bool.{Bool, true, false, cond}
 use Prim.Native.Nat.{ℕ, _+_, _-_}
@@ -16,7 +16,7 @@ unfoldable pub freeTotal : List Block → ℕ
 freeTotal [] = 0
 freeTotal (b ∷ bs) = freeSize b + freeTotal bs
 
--- ---- a stretch of splitBlocks, with what stands before it and after it
+-- ---- a stretch of blocks, with what stands before it and after it
 
 pub record Spot : Type 0 where
   pub before : List Block
@@ -26,7 +26,7 @@ pub record Spot : Type 0 where
 abbrev pub spot : List Block → List Block → List Block → Spot
 spot a b c = record { before = a; inside = b; after = c }
 
--- other splitBlocks in its place
+-- other blocks in its place
 abbrev pub put : Spot → List Block → List Block
 put p bs = p .before ++ (bs ++ p .after)
 
@@ -41,7 +41,7 @@ baysFrom pre mid (b ∷ bs) =
 abbrev pub bays : List Block → List Spot
 bays bs = baysFrom [] [] bs
 
--- the free splitBlocks
+-- the free blocks
 unfoldable pub holesFrom : List Block → List Block → List Spot
 holesFrom pre [] = []
 holesFrom pre (b ∷ bs) = cond (freeB b) (spot pre (b ∷ []) bs ∷ holesFrom (pre ++ b ∷ []) bs) (holesFrom (pre ++ b ∷ []) bs)

@@ -1,4 +1,4 @@
--- The grown part is the bytes of the splitBlocks with the one grown.
+-- The grown part is the bytes of the blocks with the one grown.
 use mathlib.Core.Path.{_≡_, refl, sym, ap, ap₂, _∙_, subst}
 use mathlib.Core.List.{List, [], _∷_, _++_, map, append-assoc, append-nil}
 use Prim.Native.Nat.{ℕ, zero, suc, _+_, _-_, _/_, _%_, _<_, _≤_}

@@ -1,5 +1,5 @@
 -- The laws that the proofs cite: a block by C's name of it, the part of a view, the check's yes and no.
-use mathlib.Core.Path.{_≡_, ap}
+use mathlib.Core.Path.{_≡_, ap, ap₂, _∙_}
 use mathlib.Core.Bool.{Bool, true, false, cond}
 use mathlib.Core.List.{List}
 use Prim.Native.Nat.{ℕ, _+_, _-_, _≤_}
@@ -8,13 +8,16 @@ use lib.ListN.{length, drop, length-take, length-drop}
 use borrow.Author.Tests.{ne-eqb}
 use mir.Val.{Fits}
 use mir.Syntax.{w32}
+use Rattle.bigendian.specs.BigEndian.{Bytes, slice}
 use Rattle.format.specs.WellFormed.{lengthField}
-use Rattle.calls.specs.Calls.{Target, by-handle, by-pointer, Answer, size, read, write, check, answersTwo}
+use Rattle.calls.specs.Calls.{Target, by-handle, by-pointer, Answer, size, read, write, view, check, answersTwo, shows}
 use Rattle.zone.specs.Promise.{Promise}
 use Rattle.locate.proofs.Data.{target-fits}
 use Rattle.tell.proofs.Opened.{fields-of}
 use Rattle.stretch.specs.Stretch.{viewStart, viewLength, Planned, refused, granted}
 use Rattle.stretch.proofs.Laws.{accepted, planned-order, planned-fits, view-start, view-length}
+use Rattle.stretch.proofs.Outcomes.{view-there}
+use Rattle.nafelode.proofs.Laws.{view-promised}
 use Rattle.nafelode_c.specs.Named.{named}
 
 pub named-handle : (kind n : ℕ) → kind ≡ 0 → by-handle n ≡ named kind n
@@ -68,6 +71,10 @@ module _ (s : List ℕ) (t : Target) (i n number start end : ℕ) (p : Planned s
     length-named =
         let q = view-length s t i n number start end p in
         rw (← e) (omega (arith, q, length-take (end - start) (drop start s), length-drop start s, planned-fits s t i n n number start end p))
+
+    -- the part is what the view shows
+    pub view-named : Bytes s → Promise (view u i n) s (shows 0 (slice s start (end - start))) s
+    view-named y = view-promised u s i n (slice s start (end - start)) y (ap₂ (slice s) offset-named length-named ∙ view-there u i n s y)
 
   pub view-in-zone : start + (end - start) ≤ lengthField s
   view-in-zone = omega (arith, in-zone, view-ordered)

@@ -1,10 +1,12 @@
-// The library for C: every call of document 01 under a C name, thin over crate nafelode. In C a slice is a pointer and a length.
+// The library for C: every call of document 01 under a C name, thin over crate nafelode (a view over crate stretch, since C gets its
+// offset and not a slice). In C a slice is a pointer and a length.
 // nafelode.h is made from this file: its declarations, and the comments of the structs and of the exported functions.
 ghost use mathlib.Core.Path.{_≡_};
 ghost use Prim.Native.Nat.{_+_, _≤_};
 ghost use lib.ListN.{length};
 ghost use Rattle.format.specs.WellFormed.{lengthField};
-ghost use Rattle.calls.specs.Calls.{told, shows, answersTwo, summed, allocate-relocatable, allocate-fixed, free-handle, free-pointer, resize, size, read, write, compact, sums, check, length-of, enlarge, shrink, roster};
+ghost use Rattle.calls.specs.Calls.{told, shows, answersTwo, summed, allocate-relocatable, allocate-fixed, free-handle, free-pointer, resize, size, read, write, view, compact, sums, check, length-of, enlarge, shrink, roster};
+ghost use Rattle.bigendian.specs.BigEndian.{slice};
 ghost use Rattle.zone.specs.Promise.{Promise, InitPromise};
 ghost use Rattle.zone.specs.Census.{counted, census};
 ghost use Rattle.zone.specs.Walker.{walked, walkStart, walkStep};
@@ -54,7 +56,8 @@ pub struct Step {
     pub size: u32,
 }
 
-// The refusal number, and for each i from 0 to 18 the number of free blocks of 2^i to 2^(i+1) - 1 words of 2 bytes.
+// The refusal number, and for each i from 0 to 18 the number of free blocks of 2^i to 2^(i+1) - 1 words of 2 bytes;
+// 0 for each when refused.
 #[repr(C)]
 pub struct CensusCounts {
     pub number: u32,
@@ -170,7 +173,8 @@ pub extern "C" fn nafelode_size(zone: &[u8], kind: u32, block: u32) -> Told
     }
 }
 
-// Copies count bytes of a block from an offset on to the start of out; later bytes of out stay.
+// Copies count bytes of a block from an offset on to the start of out; later bytes of out stay. kind 0: block is a handle; any other
+// kind: a pointer.
 // Answers the refusal number, 0 if done.
 // Refused: 1 zone not well-formed, 6 handle not live, 7 pointer not that of a fixed block, 8 offset + count above the data size,
 // 10 out shorter than count.
@@ -197,7 +201,7 @@ pub extern "C" fn nafelode_read(
     )
 }
 
-// Copies count bytes from the start of src to a block, from an offset on.
+// Copies count bytes from the start of src to a block, from an offset on. kind 0: block is a handle; any other kind: a pointer.
 // Answers the refusal number, 0 if done.
 // Refused: 1 zone not well-formed, 6 handle not live, 7 pointer not that of a fixed block, 8 offset + count above the data size,
 // 10 src shorter than count.
@@ -225,10 +229,13 @@ pub extern "C" fn nafelode_write(
 }
 
 // Where count bytes of a block from an offset on lie in the zone. They lie there until the next call that changes the zone.
-// Answers offset and length of that part, 0 and 0 when refused. (A view carries no refusal number. A view of no bytes at a block
-// that is there has its offset.)
+// kind 0: block is a handle; any other kind: a pointer.
+// Answers offset and length of that part, 0 and 0 when refused. (A view of no bytes at a block that is there has its offset.)
+// Refused, though it carries no number: zone not well-formed, handle not live, pointer not that of a fixed block, offset + count above
+// the data size.
 #[no_mangle]
 pub extern "C" fn nafelode_view(zone: &[u8], kind: u32, block: u32, offset: u32, count: u32) -> Part
+    ensures { λ r. ⌜ Promise (view (named kind block) offset count) (now (zone .entry)) (shows 0 (slice (now (zone .entry)) (r .offset) (r .length))) (now (zone .entry)) ⌝ }
     ensures { λ r. ⌜ r .offset ≡ viewStart (named kind block) offset count (now (zone .entry)) ⌝ }
     ensures { λ r. ⌜ r .length ≡ viewLength (named kind block) offset count (now (zone .entry)) ⌝ }
     ensures { λ r. ⌜ (r .offset + r .length ≤ lengthField (now (zone .entry))) × (r .offset + r .length ≤ length (now (zone .entry))) ⌝ }
@@ -366,7 +373,7 @@ pub extern "C" fn nafelode_census(zone: &[u8]) -> CensusCounts
     }
 }
 
-// Where a walker starts: the offset of the first block. 0, where no block starts, if the zone is not well-formed.
+// Where a walker starts: the offset of the first block. A zone that is not well-formed is told by 0 alone, where no block starts.
 #[no_mangle]
 pub extern "C" fn nafelode_walker_start(zone: &[u8]) -> u32
     ensures { λ r. ⌜ r ≡ walkStart (now (zone .entry)) ⌝ }

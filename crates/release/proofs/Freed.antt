@@ -19,7 +19,7 @@ use Rattle.access.proofs.Store.{length-enc}
 use Rattle.release.proofs.ZoneLayout.{lay, values, encode-lay, lay-chain, lay-master, lay-rest, lay-same, write-mid}
 use Rattle.release.specs.Release.{gap, release, freed, Span}
 
--- ---- appended splitBlocks
+-- ---- appended blocks
 
 pub sizes-append : (a b : List Block) → sizes (a ++ b) ≡ sizes a + sizes b
 unfolding sizes

@@ -48,7 +48,7 @@ reach z first p (b ∷ pre) rest g e =
     let r = reach z first (p + sizeOf (drop p z)) pre rest (s .next) (tail-eq (blockAt z p) b (blocksAt z (p + sizeOf (drop p z))) (pre ++ rest) e′) in
     (subst (Edge z first) (sym a) (r .0), ap (blocksAt z) a ∙ r .1)
 
--- a free block in front of the splitBlocks from e on
+-- a free block in front of the blocks from e on
 lead-free : (z : List ℕ) (first e n : ℕ) → Seen z first e n → isFree (drop e z) ≡ true → leadOf (blocksAt z e) ≡ n
 unfolding leadOf
 lead-free z first e n s f = rw (s .blocks) (go (blockAt z e) (s .kind ∙ f) (s .bytes))

@@ -25,7 +25,7 @@ release h (reloc k d ∷ bs) = cond (eqb h k) (gap (4 + length d) bs) (reloc k d
 unfoldable pub freed : ℕ → Structure → Structure
 freed h s = record { links = h ∷ s .links; blocks = release h (s .blocks) }
 
--- the splitBlocks that become one, from one offset up to another, where the first block is at offset at
+-- the blocks that become one, from one offset up to another, where the first block is at offset at
 pub record Span (h at : ℕ) (bs : List Block) (from to : ℕ) : Type 0 where
   pub pre : List Block
   pub mid : List Block

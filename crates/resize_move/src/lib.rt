@@ -3,27 +3,8 @@ ghost use mathlib.Core.Path.{_≡_};
 ghost use Prim.Native.Nat.{_+_, _≤_};
 ghost use lib.ListN.{length};
 ghost use Rattle.bigendian.specs.BigEndian.{slice, overwrite};
-ghost use Rattle.row.specs.Row.{bytesOf};
-ghost use Rattle.surgery.proofs.Carved.{carvedFrom};
-ghost use Rattle.allocate_relocatable.specs.Site.{Fit};
 ghost use Rattle.resize_move.specs.Move.{MoveAt, movedBytes};
 use block_type::BlockType;
-
-// A relocatable block of `need` bytes with handle h from the low end of the free block of n bytes at `at`; the rest of that stays free.
-fn new_block(z: &mut [u8], at: usize, n: usize, need: usize, h: usize)
-    requires { ⌜ Fit (now z) at n need h ⌝ }
-    ensures { λ _. ⌜ now (z .exit) ≡ overwrite (now (z .entry)) at (bytesOf (carvedFrom need h n)) ⌝ }
-{
-    bigendian::put2(
-        z,
-        at,
-        (BlockType::RELOCATABLE_CODE as usize * 16384 + need / 2) as u32,
-    );
-    bigendian::put2(z, at + 2, h as u32);
-    if need < n {
-        bigendian::put4(z, at + need, ((n - need) / 2) as u32);
-    }
-}
 
 // Moves the n bytes at src to dst, up or down.
 fn slide(z: &mut [u8], dst: usize, src: usize, n: usize)
@@ -53,7 +34,7 @@ pub fn move_block(
     requires { ⌜ MoveAt (now z) h old b at n need from to ⌝ }
     ensures { λ _. ⌜ now (z .exit) ≡ movedBytes (now (z .entry)) h from to at n need (slice (now (z .entry)) old b) ⌝ }
 {
-    new_block(z, at, n, need, h);
+    allocate_relocatable::cut_block(z, at, n, need, h);
     slide(z, at + BlockType::RELOCATABLE_HEADER, old, b);
     bigendian::put4(z, h, (at + BlockType::RELOCATABLE_HEADER) as u32);
     release::blank(z, from, to);

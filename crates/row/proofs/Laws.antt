@@ -100,7 +100,7 @@ stepped s p n (row (b ∷ bs) sd e) l en =
 pub row-end : (s : List ℕ) (p : ℕ) → length s ≤ p → blocksOf (drop p s) ≡ []
 row-end s p h = rw (drop-of-length-le s h) tiles-nil
 
--- a stretch is the bytes of its splitBlocks
+-- a stretch is the bytes of its blocks
 pub row-bytes : (r : List ℕ) → Row r → bytesOf (blocksOf r) ≡ r
 row-bytes r (row bs sd e) = rw e (rw (tiles-join bs sd))
 

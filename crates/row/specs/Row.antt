@@ -1,4 +1,4 @@
--- A stretch of splitBlocks: bytes that splitBlocks tile, whatever the masters hold.
+-- A stretch of blocks: bytes that blocks tile, whatever the masters hold.
 use mathlib.Core.Path.{_≡_}
 use mathlib.Core.List.{List, [], _∷_, _++_, map}
 use mathlib.Core.Bool.{Bool, true, false, cond}
@@ -9,11 +9,11 @@ use Rattle.bigendian.specs.BigEndian.{slice}
 use Rattle.format.specs.WellFormed.{sizeOf, typeOf, splitBlocks}
 use Rattle.structure.specs.Structure.{Block, free, fixed, reloc, size, encodeBlock, decodeBlock, join}
 
--- the splitBlocks of a stretch
+-- the blocks of a stretch
 unfoldable pub blocksOf : List ℕ → List Block
 blocksOf r = map decodeBlock (splitBlocks r)
 
--- the bytes of splitBlocks
+-- the bytes of blocks
 abbrev pub bytesOf : List Block → List ℕ
 bytesOf bs = join (map encodeBlock bs)
 

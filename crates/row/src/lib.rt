@@ -1,4 +1,4 @@
-// A stretch of splitBlocks: a list of bytes that splitBlocks tile.
+// A stretch of blocks: a list of bytes that blocks tile.
 ghost use mathlib.Core.Path.{_≡_};
 ghost use Prim.Native.Nat.{_<_};
 ghost use lib.ListN.{length, drop};

@@ -23,11 +23,11 @@ use Rattle.surgery.proofs.Image.{img, encode-img, upd, img-chain, img-m
 use Rattle.surgery.proofs.Sound.{handle-in, handle-once, valid-sound, lastFree, tiled-left, tiled-right, tiled-join, tiled-false}
 use Rattle.surgery.proofs.Replace.{replaced, replaced-valid, place-same, place-mid}
 
--- the splitBlocks that take the place of a free block of n bytes
+-- the blocks that take the place of a free block of n bytes
 abbrev pub carvedFrom : ℕ → ℕ → ℕ → List Block
 carvedFrom need h n = reloc h (replicate (need - 4) 0) ∷ gapOf (n - need)
 
--- the writes: the splitBlocks, the chain's head, the master
+-- the writes: the blocks, the chain's head, the master
 abbrev pub carvedBytes : List ℕ → ℕ → ℕ → ℕ → ℕ → ℕ → List ℕ
 carvedBytes z need h next at n = overwrite (overwrite (overwrite z at (bytesOf (carvedFrom need h n))) 12 (toBE 2 next)) h (toBE 4 (at + 4))
 

@@ -1,4 +1,4 @@
--- Two more uses of the replacement law: splitBlocks without masters, and a block that has grown in a compacted bay.
+-- Two more uses of the replacement law: blocks without masters, and a block that has grown in a compacted bay.
 use mathlib.Core.Path.{_≡_, refl, sym, ap, ap₂, _∙_, subst}
 use mathlib.Core.List.{List, [], _∷_, _++_, append-nil}
 use mathlib.Core.Bool.{Bool, true, false, cond}
@@ -18,7 +18,7 @@ use Rattle.compact_bay.proofs.Squeeze.{handles-append, gap-sizes, gap-sound, ga
 use Rattle.surgery.proofs.Image.{img, encode-img, img-rest}
 use Rattle.surgery.proofs.Replace.{replaced, replaced-valid, place-same, moved}
 
--- splitBlocks without masters in the place of such: one overwrite, and nothing else changes
+-- blocks without masters in the place of such: one overwrite, and nothing else changes
 module _ (s : Structure) (v : Valid s) (pre mid mid′ post : List Block) (e : s .blocks ≡ pre ++ (mid ++ post)) (sz : sizes mid′ ≡ sizes mid) (so : Sound mid′)
     (h : handlesOf mid ≡ []) (h′ : handlesOf mid′ ≡ []) where
   abbrev s′ : Structure

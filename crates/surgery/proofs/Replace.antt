@@ -1,4 +1,4 @@
--- Blocks replaced by splitBlocks of the same total size, in a zone.
+-- Blocks replaced by blocks of the same total size, in a zone.
 use mathlib.Core.Path.{_≡_, refl, sym, ap, ap₂, _∙_, subst}
 use mathlib.Core.List.{List, [], _∷_, _++_, map}
 use mathlib.Core.Bool.{Bool, true, false, cond}
@@ -64,7 +64,7 @@ module _ (s : Structure) (v : Valid s) (pre mid mid′ post : List Block) (ks : 
     len-same : len s′ ≡ len s
     len-same = omega (arith, count-same, sizes-parts pre mid′ post, sizes-parts pre mid post, ap sizes e)
 
-    -- what a master outside the replaced splitBlocks holds
+    -- what a master outside the replaced blocks holds
     pub place-same : (k : ℕ) → occurs k (handlesOf mid) ≡ 0 → occurs k (handlesOf mid′) ≡ 0 → placeOf k (start s′) (pre ++ (mid′ ++ post)) ≡ placeOf k (start s) (s .blocks)
     place-same k z z′ =
         let o = start s + sizes pre in
@@ -109,7 +109,7 @@ module _ (s : Structure) (v : Valid s) (pre mid mid′ post : List Block) (ks : 
       short = omega (arith, len-same, v .short);
     }
 
-  -- splitBlocks that have moved: the same handles. One overwrite of the splitBlocks, and the masters' pass
+  -- blocks that have moved: the same handles. One overwrite of the blocks, and the masters' pass
   module _ (hs : handlesOf mid′ ≡ handlesOf mid) (kl : ks ≡ s .links) where
     ct : length (handlesOf mid′) + length ks ≡ length (handlesOf mid) + length (s .links)
     ct = rw (hs, kl)

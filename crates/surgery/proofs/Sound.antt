@@ -1,4 +1,4 @@
--- What a valid structure's splitBlocks are, and which lists of splitBlocks are tiled.
+-- What a valid structure's blocks are, and which lists of blocks are tiled.
 use mathlib.Core.Path.{_≡_, refl, sym, ap, ap₂, _∙_, subst}
 use mathlib.Core.List.{List, [], _∷_, _++_, map}
 use mathlib.Core.Bool.{Bool, true, false, cond}

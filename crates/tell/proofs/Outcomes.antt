@@ -1,8 +1,8 @@
 -- What the answers of sum, length and check say.
-use mathlib.Core.Path.{_≡_, refl, ap, sym, subst}
-use mathlib.Core.Bool.{Bool, true, false}
-use mathlib.Core.List.{List, List·Permᴰ, Permᴰ·refl}
-use Prim.Native.Nat.{ℕ, _%_, _≤_}
+use mathlib.Core.Path.{_≡_, refl, ap, ap₂, sym, _∙_, subst}
+use mathlib.Core.Bool.{Bool, true, false, cond}
+use mathlib.Core.List.{List, [], _∷_, List·Permᴰ, Permᴰ·refl}
+use Prim.Native.Nat.{ℕ, _+_, _%_, _≤_, max}
 use native.Mathlib.Omega.{arith}
 use lib.ListN.{length}
 use Rattle.bigendian.specs.BigEndian.{Bytes}
@@ -10,10 +10,12 @@ use Rattle.format.specs.WellFormed.{wellFormed}
 use Rattle.structure.specs.Structure.{decode, start}
 use Rattle.zone.specs.Bays.{Bays, last, more, sumS, maxS}
 use Rattle.zone.specs.OnBytes.{callBytes, inBays}
-use Rattle.zone.specs.OnBays.{step}
+use Rattle.zone.specs.OnBays.{Fixed, step}
 use Rattle.zone.specs.ZoneBays.{zoneBays}
 use Rattle.zone.specs.Promise.{Promise}
-use Rattle.zone.proofs.Run.{refused}
+use Rattle.zone.proofs.Run.{refused, well-whole, well-stored}
+use Rattle.zone.proofs.FixedWalk.{sumsS, free-walk}
+use Rattle.zone.specs.Claim.{freeIn}
 use Rattle.zone.specs.Group.{group}
 use Rattle.zone.specs.Bay.{baySum}
 use Rattle.calls.specs.Calls.{Call, Answer, sums, length-of, check}
@@ -24,6 +26,41 @@ use Rattle.tell.proofs.CheckLaws.{count-live, count-few}
 most-total : {B F : Type 0} (μ : B → ℕ) (s : Bays B F) → maxS μ s ≤ sumS μ s
 most-total μ (last b) = omega arith
 most-total μ (more b x s) = omega (arith, most-total μ s)
+
+-- ---- what each tells
+
+-- "The check says yes exactly when the bytes are a well-formed zone"
+pub check-says : (s : List ℕ) → (callBytes check s) .answer .value ≡ cond (wellFormed s) 1 0
+check-says s = go (wellFormed s) refl
+  where
+    go : (t : Bool) → wellFormed s ≡ t → (callBytes check s) .answer .value ≡ cond (wellFormed s) 1 0
+    go true h = rw h
+    go false h = rw h
+
+pub totalOf : List ℕ → ℕ
+totalOf [] = 0
+totalOf (n ∷ ns) = n + totalOf ns
+
+pub mostOf : List ℕ → ℕ
+mostOf [] = 0
+mostOf (n ∷ ns) = max n (mostOf ns)
+
+total-list : {B : Type 0} (μ : B → ℕ) (s : Bays B Fixed) → sumS μ s ≡ totalOf (sumsS μ s)
+unfolding totalOf
+total-list μ (last b) = omega arith
+total-list μ (more b x s) = ap (μ b +_) (total-list μ s)
+
+most-list : {B : Type 0} (μ : B → ℕ) (s : Bays B Fixed) → maxS μ s ≡ mostOf (sumsS μ s)
+unfolding mostOf
+most-list μ (last b) = omega arith
+most-list μ (more b x s) = ap (max (μ b)) (most-list μ s)
+
+-- sum: the total and the largest of the free bytes that a walk through the zone meets between fixed blocks
+pub sum-says : (s : List ℕ) → Bytes s → wellFormed s ≡ true → ((callBytes sums s) .answer .value ≡ totalOf (freeIn s)) × ((callBytes sums s) .answer .second ≡ mostOf (freeIn s))
+sum-says s y h =
+    let b = group (start (decode s)) (decode s .blocks) in
+    let w = free-walk s (inBays (length s) (decode s)) (well-whole s y h) (well-stored s y h) in
+    (rw h (total-list baySum b ∙ ap totalOf (sym w)), rw h (most-list baySum b ∙ ap mostOf (sym w)))
 
 -- no bay has more free bytes than the zone
 pub largest-total : (s : List ℕ) → (callBytes sums s) .answer .second ≤ (callBytes sums s) .answer .value

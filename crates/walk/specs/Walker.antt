@@ -1,4 +1,4 @@
--- A walk over the splitBlocks of a zone, in terms of its structure.
+-- A walk over the blocks of a zone, in terms of its structure.
 use mathlib.Core.Path.{_≡_, refl, sym, ap, _∙_}
 use mathlib.Core.List.{List, [], _∷_, map}
 use mathlib.Core.Bool.{Bool, true, false, cond}
@@ -9,7 +9,7 @@ use Rattle.format.specs.WellFormed.{isFree, sizeOf, splitBlocks}
 use Rattle.format.specs.OneWalk.{blocksOk}
 use Rattle.structure.specs.Structure.{Block, free, fixed, reloc, size, decodeBlock}
 
--- the splitBlocks from offset p on
+-- the blocks from offset p on
 unfoldable pub blocksAt : List ℕ → ℕ → List Block
 blocksAt z p = map decodeBlock (splitBlocks (drop p z))
 

@@ -41,7 +41,7 @@ fn free_size(z: &[u8], p: usize, n: usize) -> usize
     0
 }
 
-// The total size of the free splitBlocks.
+// The total size of the free blocks.
 pub fn free_total(z: &[u8], first: usize) -> usize
     requires { ⌜ (Edge (now z) first first) × (first ≤ length (now z)) ⌝ }
     ensures { λ r. ⌜ r ≡ freeTotal (blocksAt (now (z .entry)) first) ⌝ }

@@ -115,7 +115,7 @@ cut-less n cs h =
       same = simp (items-packed, items-gap, append-nil);
     })
 
--- a branch: `choose` for any family, where both arms prove it
+-- a branch, for any family, where both arms prove it
 pub cond-ap : {A B : Type 0} (f : A → B) (t : Bool) {a b : A} {c d : B} → f a ≡ c → f b ≡ d → f (cond t a b) ≡ cond t c d
 cond-ap f true p q = p
 cond-ap f false p q = q

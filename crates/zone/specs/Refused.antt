@@ -33,7 +33,8 @@ pub record Unchanged (zone second : List ℕ) (r : Result) : Type 0 where
   pub no-records : r .answer .records ≡ []
   pub zone-buffer : r .bytes ≡ zone
 
--- of every call, for all inputs
+-- of every call, for all inputs. (A view has no number, so this says nothing of it: refused, it shows no bytes, and refused or not it
+-- leaves every byte, by its definition.)
 abbrev pub RefusedUnchanged : Type 0
 RefusedUnchanged = (c : Call) (zone : List ℕ) → Bytes zone → ((callBytes c zone) .answer .number ≡ 0 → ⊥) → Unchanged zone (lent c) (callBytes c zone)
 

@@ -1,4 +1,5 @@
-use Rattle.nafelode_c.proofs.Laws.{start-word, view-ordered, length-word, offset-named, length-named, view-in-zone, view-in-buffer}
+use Rattle.locate.proofs.Laws.{bytes-of}
+use Rattle.nafelode_c.proofs.Laws.{view-named, start-word, view-ordered, length-word, offset-named, length-named, view-in-zone, view-in-buffer}
 use borrow.Author.Needs.{needs}
 use Rattle.nafelode_c.proofs.nafelode_view.Statement.{statement}
 use Rattle.nafelode_c.proofs.nafelode_view.Tie as tie
@@ -13,7 +14,7 @@ cast-length : tie.Need-cast-length
 cast-length c = search length-word
 
 returns : tie.Need-returns
-returns c = (search offset-named, (search length-named, (search view-in-zone, search view-in-buffer)))
+returns c = (search (view-named, bytes-of), (search offset-named, (search length-named, (search view-in-zone, search view-in-buffer))))
 
 pub nafelode-view-spec : {M : Type 1} → statement M
 nafelode-view-spec = tie.close (tie.spec (λ c κs. search needs) (λ c κs. search needs) sub-n cast-start cast-length returns)

@@ -1,6 +1,5 @@
 -- `walker::Walker::advance` meets its contract: a walk of its MIR, by hand. The borrow is opened, the walker is copied out and passed to `Walker::go` beside the slice, the walker that comes back is stored, and the borrow is closed at it.
 -- All that the proof knows of `go` is that it meets its contract.
--- Assumes nothing.
 use mathlib.Core.Path.{_≡_, refl, ap}
 use Prim.Native.Nat.{ℕ, _<_, _^_}
 use mathlib.Core.List.{[], _∷_, List}
