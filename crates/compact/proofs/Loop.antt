@@ -19,9 +19,9 @@ use Rattle.find_bay.proofs.Numbers.{sizes-append}
 use Rattle.compact_bay.specs.Tidy.{IsLow, tidied}
 use Rattle.compact_bay.proofs.Squeeze.{squeeze-sizes}
 use Rattle.surgery.proofs.Sound.{lastFree, firstFree}
-use Rattle.compact.specs.All.{tidyFrom, compacted, larger, largestFrom, largest, stretchN, nextBay}
+use Rattle.compact.specs.All.{tidyFrom, compacted, larger, largestFrom, largest, stretchN, nextBay, tailOf}
 use Rattle.compact.specs.Going.{At, at-edge, Bayed, bayed, Going, going}
-use Rattle.compact.proofs.Rest.{sp, so-rest, rest-bytes, long, next-is, sum-is, after, tidyPost, largestPost, lead, mid-row, mid-low, end-in, end-is, next-in, next-up, sizes-none, last-snoc}
+use Rattle.compact.proofs.Rest.{sp, so-rest, rest-bytes, long, next-is, sum-is, after, still, tidyPost, largestPost, lead, mid-row, mid-low, end-in, end-is, next-in, next-up, sizes-none, last-snoc}
 
 module _ (z : List ℕ) (o : ℕ) (a : At z o) where
   pub ask-row : Row (drop o z)
@@ -72,6 +72,12 @@ module _ (z : List ℕ) (o : ℕ) (a : At z o) where
       where
         go : At z o → next ≤ length z
         go (at-edge s x) = next-in s z o x end sum next q
+
+    pub is-still : (tail : ℕ) → tail ≡ tailOf 0 (blocksOf (drop o z)) → sum ≡ tail → o < length z → Bayed z o z sum next
+    is-still tail et es l = go a
+      where
+        go : At z o → Bayed z o z sum next
+        go (at-edge s x) = bayed end q (still s z o x end sum next q tail et es l)
 
 pub is-bayed : (z z′ : List ℕ) (o end sum next : ℕ) → stretchN end sum next ≡ nextBay o 0 (blocksOf (drop o z)) → z′ ≡ tidied z o (end - o) → Bayed z o z′ sum next
 is-bayed z z′ o end sum next q e = bayed end q e

@@ -5,7 +5,7 @@ use mathlib.Core.Bool.{Bool, true, false}
 use Prim.Native.Nat.{ℕ, zero, suc, _+_, _-_, _<_, _≤_}
 use native.Mathlib.Nat.{add-zero, zero-add, add-assoc}
 use native.Mathlib.Omega.{arith}
-use borrow.Author.Tests.{lt-ltb, le-ltb}
+use borrow.Author.Tests.{ne-eqb, lt-ltb, le-ltb}
 use lib.ListN.{length, drop}
 use Rattle.bigendian.specs.BigEndian.{slice}
 use Rattle.structure.specs.Structure.{Block, free, fixed, reloc, Structure, size, sizes, start, encode}
@@ -14,13 +14,13 @@ use Rattle.structure.proofs.Round.{length-is, rest-is}
 use Rattle.row.specs.Row.{blocksOf, bytesOf, freeB, fixedB, Sound, Row, row}
 use Rattle.row.proofs.Laws.{sound-left, sound-right, tiles-join, low-of, bytes-append, bytes-long}
 use lib.Seq.{drop-drop, drop-at}
-use Rattle.find_bay.specs.Spots.{freeSize, freeTotal, Spot, spot, put, squeeze}
+use Rattle.find_bay.specs.Spots.{freeSize, freeTotal, used, Spot, spot, put, squeeze}
 use Rattle.find_bay.proofs.Numbers.{sizes-append}
 use Rattle.compact_bay.specs.Tidy.{IsLow, is-low, Low, tidied}
 use Rattle.surgery.proofs.Sound.{valid-sound, valid-low, low-append, low-left, lastFree, firstFree}
 use Rattle.surgery.proofs.Carved.{part-bytes}
 use Rattle.surgery.proofs.Spots.{IsBay, bay-tidied, bay-valid, bay-start}
-use Rattle.compact.specs.All.{tidyFrom, larger, largestFrom, StretchN, stretchN, nextBay}
+use Rattle.compact.specs.All.{tidyFrom, larger, largestFrom, StretchN, stretchN, nextBay, tailOf}
 use Rattle.compact.specs.Going.{AtOf}
 
 pub larger-yes : (a b : ℕ) → a < b → b ≡ larger a b
@@ -43,6 +43,25 @@ abbrev pub largestPost : ℕ → List Block → ℕ
 largestPost v [] = v
 largestPost v (b ∷ bs) = largestFrom v [] bs
 
+-- the free bytes of the last block
+abbrev lastSize : ℕ → List Block → ℕ
+lastSize t [] = t
+lastSize t (b ∷ bs) = lastSize (freeSize b) bs
+
+last-le : (t : ℕ) (bs : List Block) → lastSize t bs ≤ t + freeTotal bs
+unfolding freeTotal
+last-le t [] = omega arith
+last-le t (b ∷ bs) = omega (arith, last-le (freeSize b) bs)
+
+-- blocks whose last has all the free bytes are compact
+packed : (bs : List Block) → Sound bs → freeTotal bs ≡ lastSize 0 bs → squeeze bs ≡ bs
+unfolding squeeze used freeTotal
+packed [] so e = refl
+packed (free n ∷ []) so e = rw (add-zero n, ne-eqb n 0 (omega (arith, so .0 .0)))
+packed (free n ∷ b ∷ bs) so e = let x : ⊥ = omega (arith, so .0 .0, last-le (freeSize b) bs) in absurd x
+packed (fixed d ∷ bs) so e = rw (zero-add (freeTotal bs)) (ap (λ (t : List Block). fixed d ∷ t) (packed bs (so .1) (sym (zero-add (freeTotal bs)) ∙ e)))
+packed (reloc h d ∷ bs) so e = rw (zero-add (freeTotal bs)) (ap (λ (t : List Block). reloc h d ∷ t) (packed bs (so .1) (sym (zero-add (freeTotal bs)) ∙ e)))
+
 pub record Split (o sum : ℕ) (bs : List Block) : Type 0 where
   pub mid : List Block
   pub post : List Block
@@ -51,9 +70,10 @@ pub record Split (o sum : ℕ) (bs : List Block) : Type 0 where
   pub numbers : nextBay o sum bs ≡ stretchN (o + sizes mid) (sum + freeTotal mid) (o + sizes mid + lead post)
   pub tidy : (acc : List Block) → tidyFrom acc bs ≡ squeeze (acc ++ mid) ++ tidyPost post
   pub most : (best : ℕ) (acc : List Block) → largestFrom best acc bs ≡ largestPost (larger best (freeTotal (acc ++ mid))) post
+  pub tail : (t : ℕ) → tailOf t bs ≡ lastSize t mid
 
 pub split : (o sum : ℕ) (bs : List Block) → Split o sum bs
-unfolding nextBay tidyFrom largestFrom sizes freeTotal
+unfolding nextBay tidyFrom largestFrom sizes freeTotal tailOf
 split o sum [] = record {
   mid = [];
   post = [];
@@ -62,6 +82,7 @@ split o sum [] = record {
   numbers = rw (add-zero, add-zero, add-zero);
   tidy = λ acc. rw (append-nil, append-nil);
   most = λ best acc. rw append-nil;
+  tail = λ t. refl;
 }
 split o sum (b ∷ bs) = go (fixedB b) refl (split (o + size b) (sum + freeSize b) bs)
   where
@@ -74,6 +95,7 @@ split o sum (b ∷ bs) = go (fixedB b) refl (split (o + size b) (sum + freeSize 
       numbers = rw (e, add-zero, add-zero);
       tidy = λ acc. rw (e, append-nil);
       most = λ best acc. rw (e, append-nil);
+      tail = λ t. rw e;
     }
       where
         fixed-used : (b : Block) → fixedB b ≡ true → freeB b ≡ false
@@ -88,6 +110,7 @@ split o sum (b ∷ bs) = go (fixedB b) refl (split (o + size b) (sum + freeSize 
       numbers = rw e (r .numbers ∙ (rw (add-assoc o (size b) (sizes (r .mid)), add-assoc sum (freeSize b) (freeTotal (r .mid)))));
       tidy = λ acc. rw e (r .tidy (acc ++ b ∷ []) ∙ ap (λ (x : List Block). squeeze x ++ tidyPost (r .post)) (append-assoc acc (b ∷ []) (r .mid)));
       most = λ best acc. rw e (r .most best (acc ++ b ∷ []) ∙ ap (λ (x : List Block). largestPost (larger best (freeTotal x)) (r .post)) (append-assoc acc (b ∷ []) (r .mid)));
+      tail = λ t. rw e (r .tail (freeSize b));
     }
 
 -- ---- at a bay's start
@@ -207,3 +230,10 @@ module _ (s : Structure) (z : List ℕ) (o : ℕ) (a : AtOf s z o) where
         let b = is-bay l in
         let le : end - o ≡ sizes (sp .mid) = omega (arith, end-is) in
         (e ∙ ap (λ (y : List ℕ). tidied y o (end - o)) (a .image) ∙ ap₂ (tidied (encode s)) (a .place) le ∙ bay-tidied s v p b, bay-valid s v p b, bay-start s v p b)
+
+    -- a bay that is compact already is as it would be compacted
+    pub still : (tail : ℕ) → tail ≡ tailOf 0 (blocksOf (drop o z)) → sum ≡ tail → o < length z → z ≡ tidied z o (end - o)
+    still tail et es l =
+        let so-mid = sound-left (sp .mid) (sp .post) so-parts in
+        let m = packed (sp .mid) so-mid (sym sum-is ∙ es ∙ et ∙ ap (tailOf 0) rest-tiles ∙ sp .tail 0) in
+        a .image ∙ ap (λ (x : List Block). encode (record { links = s .links; blocks = x })) (is-bay l .parts ∙ ap (put p) (sym m)) ∙ sym (after l (tidied z o (end - o)) refl .0)

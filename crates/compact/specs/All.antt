@@ -39,3 +39,8 @@ stretchN e s n = record { end = e; sum = s; next = n }
 unfoldable pub nextBay : ℕ → ℕ → List Block → StretchN
 nextBay at sum [] = stretchN at sum at
 nextBay at sum (b ∷ bs) = cond (fixedB b) (stretchN at sum (at + size b)) (nextBay (at + size b) (sum + freeSize b) bs)
+
+-- the free bytes of the bay's last block; t is those of the block before
+unfoldable pub tailOf : ℕ → List Block → ℕ
+tailOf t [] = t
+tailOf t (b ∷ bs) = cond (fixedB b) t (tailOf (freeSize b) bs)

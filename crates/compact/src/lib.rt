@@ -3,7 +3,7 @@ ghost use mathlib.Core.Path.{_≡_};
 ghost use Prim.Native.Nat.{_+_, _-_, _<_, _≤_};
 ghost use lib.ListN.{length, drop};
 ghost use Rattle.row.specs.Row.{Row, blocksOf};
-ghost use Rattle.compact.specs.All.{stretchN, nextBay, larger, largest, compacted};
+ghost use Rattle.compact.specs.All.{stretchN, nextBay, tailOf, larger, largest, compacted};
 ghost use Rattle.bigendian.specs.BigEndian.{fromBE, slice};
 ghost use Rattle.structure.specs.Structure.{encode, decodeZone};
 ghost use Rattle.access.specs.Edit.{IsZone};
@@ -18,15 +18,17 @@ pub struct Stretch {
     pub end: usize,
     pub sum: usize,
     pub next: usize,
+    pub tail: usize,
 }
 
-// The bay that begins at `start`: its end, its sum, and where the next one begins.
+// The bay that begins at `start`: its end, its sum, where the next one begins, and the free bytes of its last block.
 fn next_bay(z: &[u8], start: usize) -> Stretch
     requires { ⌜ Row (drop start (now z)) × (start ≤ length (now z)) × (length (now z) ≤ 1048576) ⌝ }
-    ensures { λ r. ⌜ stretchN (r .end) (r .sum) (r .next) ≡ nextBay start 0 (blocksOf (drop start (now (z .entry)))) ⌝ }
+    ensures { λ r. ⌜ (stretchN (r .end) (r .sum) (r .next) ≡ nextBay start 0 (blocksOf (drop start (now (z .entry))))) × (r .tail ≡ tailOf 0 (blocksOf (drop start (now (z .entry))))) ⌝ }
 {
     let mut at = start;
     let mut sum = 0;
+    let mut tail = 0;
     while at < z.len() {
         let n = row::step(z, at);
         let k = block_check::type_at(z, at);
@@ -35,19 +37,22 @@ fn next_bay(z: &[u8], start: usize) -> Stretch
                 end: at,
                 sum,
                 next: at + n,
+                tail,
             };
         }
-        sum += find_bay::free_part(k, n);
+        tail = find_bay::free_part(k, n);
+        sum += tail;
         at += n;
     }
     Stretch {
         end: at,
         sum,
         next: at,
+        tail,
     }
 }
 
-// Compacts the bay that begins at o.
+// Compacts the bay that begins at o, unless all its free bytes are at its end.
 fn one_bay(z: &mut [u8], o: usize) -> Stretch
     requires { ⌜ At (now z) o × (o < length (now z)) ⌝ }
     ensures { λ r. ⌜ Bayed (now (z .entry)) o (now (z .exit)) (r .sum) (r .next) × (o < r .next) × (r .next ≤ length (now (z .entry))) ⌝ }
@@ -56,8 +61,22 @@ fn one_bay(z: &mut [u8], o: usize) -> Stretch
     let end = b.end;
     let sum = b.sum;
     let next = b.next;
+    let tail = b.tail;
+    if sum == tail {
+        return Stretch {
+            end,
+            sum,
+            next,
+            tail,
+        };
+    }
     compact_bay::compact_bay(z, o, end);
-    Stretch { end, sum, next }
+    Stretch {
+        end,
+        sum,
+        next,
+        tail,
+    }
 }
 
 fn larger_of(a: usize, b: usize) -> usize

@@ -6,7 +6,7 @@ use Prim.Native.Nat.{ℕ, zero, suc, _+_, _-_, _/_, _%_, _<_, _≤_}
 use native.Mathlib.Omega.{arith}
 use lib.Dec.{eqb}
 use borrow.Author.Tests.{eq-eqb, ne-eqb}
-use lib.ListN.{length, take, drop, replicate, length-replicate, length-append, length-take, length-drop, drop-of-length-le}
+use lib.ListN.{length, take, drop, replicate, length-replicate, length-append, length-take, length-drop, drop-of-length-le, take-append-drop}
 use lib.Seq.{drop-drop, take-at, drop-append-add, length-take-le}
 use Rattle.bigendian.specs.BigEndian.{toBE, slice, overwrite}
 use Rattle.bigendian.proofs.Laws.{length-toBE}
@@ -29,6 +29,13 @@ drop-write s at n b h k =
     let e : n ≡ length p + m = simp (length-append, length-take) (omega arith) in
     let e′ : at + length b + m ≡ n = omega arith in
     ap (λ (j : ℕ). drop j (overwrite s at b)) e ∙ drop-append-add p (drop (at + length b) s) m ∙ drop-drop m (at + length b) s ∙ ap (λ (j : ℕ). drop j s) e′
+
+-- what is written where it stands changes nothing
+pub write-still : (s : List ℕ) (at n : ℕ) → at + n ≤ length s → s ≡ overwrite s at (slice s at n)
+write-still s at n h =
+    let lc : length (slice s at n) ≡ n = simp (length-take, length-drop) (omega arith) in
+    let d : slice s at n ++ drop (at + n) s ≡ drop at s = ap (λ (x : List ℕ). slice s at n ++ x) (sym (drop-drop n at s)) ∙ take-append-drop n (drop at s) in
+    rw lc (sym (append-assoc (take at s) (slice s at n) (drop (at + n) s) ∙ ap (λ (x : List ℕ). take at s ++ x) d ∙ take-append-drop at s))
 
 module _ (s : List ℕ) (to at n k : ℕ) (h : at < length s) (le : to ≤ at) (q : to % 4 ≡ 0) (st : Stepped s at n) (ek : k ≡ typeOf (drop at s)) where
   abbrev b : Block
@@ -64,6 +71,11 @@ module _ (s : List ℕ) (to at n k : ℕ) (h : at < length s) (le : to ≤ at) (
         front = rw (d, t, u, st .image) (append-assoc (take to s) (slice s at n) (bytesOf (used (blocksOf (drop (at + n) s)))));
         sum = rw d (omega arith);
       }
+
+  pub keep-still : (k ≡ 0 → ⊥) → at ≤ to → Kept s to at n s (to + n)
+  keep-still z g =
+      let e : to ≡ at = omega arith in
+      keep-used z s (rw e (write-still s at n (st .fits)))
 
 pub front-step : (s₀ s s′ : List ℕ) (to at n r : ℕ) → Kept s to at n s′ r → take to s ++ bytesOf (used (blocksOf (drop at s))) ≡ bytesOf (used (blocksOf s₀))
     → take r s′ ++ bytesOf (used (blocksOf (drop (at + n) s′))) ≡ bytesOf (used (blocksOf s₀))

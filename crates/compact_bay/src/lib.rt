@@ -9,7 +9,7 @@ ghost use Rattle.row.specs.Row.{Row, Stepped, blocksOf, bytesOf};
 ghost use Rattle.find_bay.specs.Spots.{gapOf, squeeze};
 ghost use Rattle.compact_bay.specs.Tidy.{Kept, Gathered, IsLow, Owner, Turned, setAll, tidied};
 
-// One turn: the block of n bytes at `at` goes to `to`, unless it is free. The place after what is kept.
+// One turn: the block of n bytes at `at` goes to `to`, unless it is free or stands there. The place after what is kept.
 fn keep(s: &mut [u8], to: usize, at: usize, n: usize) -> usize
     requires { ⌜ (at < length (now s)) × (to ≤ at) × (to % 4 ≡ 0) × Row (drop at (now s)) × Stepped (now s) at n ⌝ }
     ensures { λ r. ⌜ Kept (now (s .entry)) to at n (now (s .exit)) r ⌝ }
@@ -17,7 +17,10 @@ fn keep(s: &mut [u8], to: usize, at: usize, n: usize) -> usize
     if block_check::type_at(s, at) == BlockType::FREE_CODE {
         return to;
     }
-    memory::slide_down(s, to, at, n);
+    if to < at {
+        memory::slide_down(s, to, at, n);
+        return to + n;
+    }
     to + n
 }
 

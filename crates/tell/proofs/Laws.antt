@@ -1,6 +1,6 @@
 -- The laws that the proofs cite.
 use mathlib.Core.Path.{_≡_, refl, ap, ap₂, sym, _∙_}
-use mathlib.Core.Bool.{Bool, true, false, not}
+use mathlib.Core.Bool.{Bool, true, false, not, true≢false}
 use mathlib.Core.List.{List}
 use Prim.Native.Nat.{ℕ, _+_, _≤_, _<_, max}
 use native.Mathlib.Omega.{arith}
@@ -14,14 +14,14 @@ use Rattle.release.proofs.Reach.{tiles-are}
 use Rattle.bigendian.specs.BigEndian.{fromBE, slice, Bytes}
 use Rattle.format.specs.WellFormed.{typeOf, sizeOf, handleOf, wellFormed, firstField, lengthField, zoneOf}
 use Rattle.format.specs.OneWalk.{blockOk}
-use Rattle.structure.specs.Structure.{free, fixed, reloc, decodeBlock, byType, decode, decodeZone, start, len}
+use Rattle.structure.specs.Structure.{Block, free, fixed, reloc, decodeBlock, byType, decode, decodeZone, start, len}
 use Rattle.structure.proofs.Table.{by, whole, len-is}
-use Rattle.walk.specs.Walker.{blocksAt, Edge, edge, Seen, blockAt, freeAt, freeTotal}
+use Rattle.walk.specs.Walker.{blocksAt, Edge, edge, Seen, blockAt, freeAt, freeSize, freeTotal}
 use Rattle.walk.proofs.Laws.{tiles-end, first-good}
 use Rattle.format.proofs.Walk.{is-first, kind-take}
 use Rattle.calls.specs.Calls.{sums, length-of, told}
 use Rattle.zone.specs.OnBytes.{callBytes}
-use Rattle.tell.specs.Largest.{largestOf, fixedB, summed, SumsIn, sums-in, Stepped}
+use Rattle.tell.specs.Largest.{largestOf, fixedB, summed, SumsFrom, sums-from, SumsIn, Stepped}
 use Rattle.tell.proofs.SumLaws.{total-is, largest-is}
 use Rattle.tell.proofs.Opened.{well, fields-of}
 
@@ -44,27 +44,47 @@ fixed-seen z first p (edge prev g) l =
     let f = is-first z first prev p r g₀ in
     fixed-dec z first prev p (take (sizeOf r) r) g₀ ∙ ap (λ (k : ℕ). eqb k 1) (kind-take (sizeOf r) r (f .low))
 
-module _ (z : List ℕ) (first p n cur best : ℕ) (s : Seen z first p n) (g : Edge z first p) (l : p < length z) (lc : cur ≤ p) (lb : best ≤ p) where
-  pub after-fixed : (b : ℕ) (f : Bool) → f ≡ eqb (typeOf (drop p z)) 1 → f ≡ true → b ≡ max best cur → Stepped z p n cur best 0 b
-  unfolding largestOf
-  after-fixed b f e q eb = record { same = rw (s .blocks, fixed-seen z first p g l, ← e, q, eb); cur-low = omega arith; best-low = omega arith }
+fixed-free : (b : Block) → fixedB b ≡ true → freeSize b ≡ 0
+fixed-free (free n) e = absurd (true≢false (sym e))
+fixed-free (fixed d) e = refl
+fixed-free (reloc h d) e = refl
 
-  pub after-other : (k : ℕ) (f : Bool) → f ≡ eqb (typeOf (drop p z)) 1 → f ≡ false → k ≡ freeAt z p n → k ≤ n → Stepped z p n cur best (cur + k) best
-  unfolding largestOf
-  after-other k f e q ek lk = record { same = rw (s .blocks, fixed-seen z first p g l, ← e, q, s .bytes, s .kind, ek); cur-low = omega arith; best-low = lb }
+module _ (z : List ℕ) (first p n cur best total : ℕ) (s : Seen z first p n) (g : Edge z first p) (l : p < length z) (low : total + cur ≤ p) where
+  pub after-fixed : (b : ℕ) (f : Bool) → f ≡ eqb (typeOf (drop p z)) 1 → f ≡ true → b ≡ max best cur → Stepped z p n cur best total 0 b (total + cur)
+  unfolding largestOf freeTotal
+  after-fixed b f e q eb =
+      let x : fixedB (blockAt z p) ≡ true = fixed-seen z first p g l ∙ sym e ∙ q in
+      record {
+        same = rw (s .blocks, x, eb);
+        all = rw (s .blocks, fixed-free (blockAt z p) x) (omega arith);
+        low = omega arith;
+      }
 
-pub largest-step : (z : List ℕ) (first p n cur best c b : ℕ) → Stepped z p n cur best c b → largestOf cur best (blocksAt z p) ≡ largestOf 0 0 (blocksAt z first)
-    → largestOf c b (blocksAt z (p + n)) ≡ largestOf 0 0 (blocksAt z first)
-largest-step z first p n cur best c b s inv = s .same ∙ inv
+  pub after-other : (k : ℕ) (f : Bool) → f ≡ eqb (typeOf (drop p z)) 1 → f ≡ false → k ≡ freeAt z p n → k ≤ n → Stepped z p n cur best total (cur + k) best total
+  unfolding largestOf freeTotal
+  after-other k f e q ek lk = record {
+    same = rw (s .blocks, fixed-seen z first p g l, ← e, q, s .bytes, s .kind, ek);
+    all = rw (s .blocks, s .bytes, s .kind, ← ek) (omega arith);
+    low = omega arith;
+  }
 
-pub largest-end : (z : List ℕ) (p cur best r w : ℕ) → length z ≤ p → r ≡ max best cur → largestOf cur best (blocksAt z p) ≡ w → r ≡ w
-unfolding largestOf
-largest-end z p cur best r w l e inv = e ∙ (rw (tiles-end z p l) at inv)
+module _ (z : List ℕ) (first p n cur best total c b t : ℕ) (s : Stepped z p n cur best total c b t) where
+  pub largest-step : largestOf cur best (blocksAt z p) ≡ largestOf 0 0 (blocksAt z first) → largestOf c b (blocksAt z (p + n)) ≡ largestOf 0 0 (blocksAt z first)
+  largest-step inv = s .same ∙ inv
+
+  pub total-step : total + cur + freeTotal (blocksAt z p) ≡ freeTotal (blocksAt z first) → t + c + freeTotal (blocksAt z (p + n)) ≡ freeTotal (blocksAt z first)
+  total-step inv = s .all ∙ inv
 
 -- ---- the sums of a zone
 
-pub sums-zone : (z : List ℕ) (first total most : ℕ) → first ≡ firstField z → total ≡ freeTotal (blocksAt z first) → most ≡ largestOf 0 0 (blocksAt z first) → SumsIn z 0 total most
-sums-zone z first total most e t m = sums-in refl (rw (← e) t) (rw (← e) m)
+pub sums-end : (z : List ℕ) (first p cur best total r : ℕ) → length z ≤ p → r ≡ max best cur → largestOf cur best (blocksAt z p) ≡ largestOf 0 0 (blocksAt z first)
+    → total + cur + freeTotal (blocksAt z p) ≡ freeTotal (blocksAt z first) → SumsFrom z first 0 (total + cur) r
+unfolding largestOf freeTotal
+sums-end z first p cur best total r l e most all =
+    sums-from refl (omega (arith, rw (tiles-end z p l) at all)) (e ∙ (rw (tiles-end z p l) at most))
+
+pub sums-zone : (z : List ℕ) (first n total most : ℕ) → first ≡ firstField z → SumsFrom z first n total most → SumsIn z n total most
+sums-zone z first n total most e s = rw (← e) s
 
 -- ---- the calls
 
@@ -74,7 +94,7 @@ sums-1 s ok e q = rw (← e, not-true ok q)
 pub sums-0 : (s : List ℕ) (ok : Bool) (l n total most : ℕ) → ok ≡ wellFormed s → not ok ≡ false → l ≡ fromBE (slice s 0 4) → ((i : ℕ) → Fits w8 (getD s i 0)) → SumsIn (take l s) n total most
     → summed n total most ≡ (callBytes sums s) .answer
 unfolding decode
-sums-0 s ok l n total most e q el y (sums-in a b c) =
+sums-0 s ok l n total most e q el y (sums-from a b c) =
     let h : wellFormed s ≡ true = well s ok e q in
     let i : IsZone (zoneOf s) = is-zone (whole s (λ j. y j .fits) h) in
     let d = decodeZone (zoneOf s) in

@@ -1,15 +1,15 @@
 // The calls that only tell: the sums of the bays, the length of the zone, and whether it is well-formed.
 ghost use mathlib.Core.Path.{_≡_};
 ghost use mathlib.Core.Bool.{cond};
-ghost use Prim.Native.Nat.{_<_, _≤_, max};
+ghost use Prim.Native.Nat.{_+_, _<_, _≤_, max};
 ghost use lib.ListN.{length, drop};
 ghost use lib.Dec.{eqb};
 ghost use Rattle.format.specs.WellFormed.{typeOf};
-ghost use Rattle.walk.specs.Walker.{blocksAt, Edge, Seen, freeAt};
+ghost use Rattle.walk.specs.Walker.{Edge, Seen, freeAt};
 ghost use Rattle.access.specs.Edit.{IsZone};
 ghost use Rattle.zone.specs.OnBytes.{callBytes};
 ghost use Rattle.calls.specs.Calls.{told, answersTwo, sums, length-of, check};
-ghost use Rattle.tell.specs.Largest.{largestOf, summed, SumsIn, Stepped};
+ghost use Rattle.tell.specs.Largest.{summed, SumsFrom, SumsIn, Stepped};
 use calls::Told;
 
 fn is_fixed(z: &[u8], p: usize) -> bool
@@ -38,42 +38,34 @@ fn larger(a: usize, b: usize) -> usize
     a
 }
 
-// The sum of the bay so far, and the largest sum of the bays before it.
+// The sum of the bay so far, and the largest and the total of the bays before it.
 pub struct Run {
     pub cur: usize,
     pub best: usize,
+    pub total: usize,
 }
 
-// The two sums after the block at p: a fixed block ends the bay.
-fn after(z: &[u8], first: usize, p: usize, n: usize, cur: usize, best: usize) -> Run
-    requires { ⌜ (Seen (now z) first p n) × (Edge (now z) first p) × (p < length (now z)) × (cur ≤ p) × (best ≤ p) ⌝ }
-    ensures { λ r. ⌜ Stepped (now (z .entry)) p n cur best (r .cur) (r .best) ⌝ }
+// The three sums after the block at p: a fixed block ends the bay.
+fn after(z: &[u8], first: usize, p: usize, n: usize, cur: usize, best: usize, total: usize) -> Run
+    requires { ⌜ (Seen (now z) first p n) × (Edge (now z) first p) × (p < length (now z)) × (total + cur ≤ p) ⌝ }
+    ensures { λ r. ⌜ Stepped (now (z .entry)) p n cur best total (r .cur) (r .best) (r .total) ⌝ }
 {
     if is_fixed(z, p) {
         let most = larger(best, cur);
-        return Run { cur: 0, best: most };
+        let before = total + cur;
+        return Run {
+            cur: 0,
+            best: most,
+            total: before,
+        };
     }
     let k = free_size(z, p, n);
     let sum = cur + k;
-    Run { cur: sum, best }
-}
-
-// The largest sum of a bay.
-fn largest(z: &[u8], first: usize) -> usize
-    requires { ⌜ (Edge (now z) first first) × (first ≤ length (now z)) ⌝ }
-    ensures { λ r. ⌜ r ≡ largestOf 0 0 (blocksAt (now (z .entry)) first) ⌝ }
-{
-    let mut p = first;
-    let mut cur = 0;
-    let mut best = 0;
-    while p < z.len() {
-        let n = walk::step(z, first, p);
-        let r = after(z, first, p, n, cur, best);
-        cur = r.cur;
-        best = r.best;
-        p += n;
+    Run {
+        cur: sum,
+        best,
+        total,
     }
-    larger(best, cur)
 }
 
 pub struct Sums {
@@ -82,19 +74,39 @@ pub struct Sums {
     pub largest: usize,
 }
 
+// The sums of the blocks from `first` on, by one walk.
+fn sums_from(z: &[u8], first: usize) -> Sums
+    requires { ⌜ (Edge (now z) first first) × (first ≤ length (now z)) ⌝ }
+    ensures { λ r. ⌜ SumsFrom (now (z .entry)) first (r .number) (r .total) (r .largest) ⌝ }
+{
+    let mut p = first;
+    let mut cur = 0;
+    let mut best = 0;
+    let mut total = 0;
+    while p < z.len() {
+        let n = walk::step(z, first, p);
+        let r = after(z, first, p, n, cur, best, total);
+        cur = r.cur;
+        best = r.best;
+        total = r.total;
+        p += n;
+    }
+    let most = larger(best, cur);
+    let all = total + cur;
+    Sums {
+        number: 0,
+        total: all,
+        largest: most,
+    }
+}
+
 // The sums of a well-formed zone, with no bytes beyond its length.
 fn sum_in(z: &[u8]) -> Sums
     requires { ⌜ IsZone (now z) ⌝ }
     ensures { λ r. ⌜ SumsIn (now (z .entry)) (r .number) (r .total) (r .largest) ⌝ }
 {
     let first = bigendian::get4(z, 4) as usize;
-    let total = walk::free_total(z, first);
-    let most = largest(z, first);
-    Sums {
-        number: 0,
-        total,
-        largest: most,
-    }
+    sums_from(z, first)
 }
 
 // Total of free bytes and the largest bay's sum; 0 for each when refused.

@@ -14,7 +14,7 @@ use Rattle.format.specs.OneWalk.{blockOk, blocksOk}
 use Rattle.format.proofs.Walk.{First, is-first, blocks-cons, blocks-nil, free-take}
 use Rattle.structure.specs.Structure.{Block, free, fixed, reloc, size, decodeBlock, byType}
 use Rattle.structure.proofs.Table.{by, size-dec}
-use Rattle.walk.specs.Walker.{blocksAt, Edge, edge, Seen, blockAt, freeB, lowOf, freeAt, freeSize, freeTotal}
+use Rattle.walk.specs.Walker.{blocksAt, Edge, edge, Seen, blockAt, freeB, lowOf, freeAt}
 
 free-dec : (z : List ℕ) (first : ℕ) (prev : Bool) (at : ℕ) (b : List ℕ) → blockOk z first prev at b ≡ true → freeB (decodeBlock b) ≡ isFree b
 unfolding decodeBlock isFree
@@ -76,17 +76,9 @@ module _ (z : List ℕ) (first p n : ℕ) (s : Seen z first p n) where
   unfolding lowOf
   low-used t w f e ef q inv = rw (s .blocks, s .bytes, eq-eqb (p + n) t e, s .kind, ← ef, q) at inv
 
-  pub total-step : (acc f w : ℕ) → f ≡ freeAt z p n → acc + freeTotal (blocksAt z p) ≡ w → acc + f + freeTotal (blocksAt z (p + n)) ≡ w
-  unfolding freeTotal
-  total-step acc f w e inv = omega (arith, rw (s .blocks, s .bytes, s .kind, ← e) at inv)
-
 pub low-end : (z : List ℕ) (p t w : ℕ) → length z ≤ p → lowOf t p (blocksAt z p) ≡ w → t ≡ w
 unfolding lowOf
 low-end z p t w h inv = rw (tiles-end z p h) at inv
-
-pub total-end : (z : List ℕ) (p acc w : ℕ) → length z ≤ p → acc + freeTotal (blocksAt z p) ≡ w → acc ≡ w
-unfolding freeTotal
-total-end z p acc w h inv = omega (arith, rw (tiles-end z p h) at inv)
 
 pub free-yes : (z : List ℕ) (p n : ℕ) (f : Bool) → f ≡ isFree (drop p z) → f ≡ true → n ≡ freeAt z p n
 free-yes z p n f e q = rw (← e, q)

@@ -2,7 +2,7 @@
 ghost use mathlib.Core.Path.{_≡_};
 ghost use Prim.Native.Nat.{_+_, _<_, _≤_};
 ghost use lib.ListN.{length};
-ghost use Rattle.walk.specs.Walker.{blocksAt, Edge, Seen, lowOf, freeAt, freeTotal};
+ghost use Rattle.walk.specs.Walker.{blocksAt, Edge, Seen, lowOf};
 
 // The size of the block at p, with what a walk relies on.
 pub fn step(z: &[u8], first: usize, p: usize) -> usize
@@ -29,29 +29,4 @@ pub fn low(z: &[u8], first: usize, t: usize) -> usize
         p += n;
     }
     t
-}
-
-fn free_size(z: &[u8], p: usize, n: usize) -> usize
-    requires { ⌜ p < length (now z) ⌝ }
-    ensures { λ r. ⌜ (r ≡ freeAt (now (z .entry)) p n) × (r ≤ n) ⌝ }
-{
-    if block_check::is_free(z, p) {
-        return n;
-    }
-    0
-}
-
-// The total size of the free blocks.
-pub fn free_total(z: &[u8], first: usize) -> usize
-    requires { ⌜ (Edge (now z) first first) × (first ≤ length (now z)) ⌝ }
-    ensures { λ r. ⌜ r ≡ freeTotal (blocksAt (now (z .entry)) first) ⌝ }
-{
-    let mut p = first;
-    let mut acc = 0;
-    while p < z.len() {
-        let n = step(z, first, p);
-        acc += free_size(z, p, n);
-        p += n;
-    }
-    acc
 }

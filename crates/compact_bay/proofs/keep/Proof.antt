@@ -1,11 +1,4 @@
-use mathlib.Core.Path.{_≡_, refl}
-use mathlib.Core.List.{_++_}
-use mathlib.Core.Bool.{true}
-use Prim.Native.Nat.{_+_, _-_, _%_, _≤_}
-use native.Mathlib.Omega.{arith}
-use lib.ListN.{length, take, drop, length-take}
-use Rattle.row.specs.Row.{Row, blocksOf, bytesOf}
-use Rattle.compact_bay.proofs.Part.{keep-free, keep-used}
+use Rattle.compact_bay.proofs.Part.{keep-free, keep-used, keep-still}
 use borrow.Author.Needs.{needs}
 use Rattle.compact_bay.proofs.keep.Statement.{statement}
 use Rattle.compact_bay.proofs.keep.Tie as tie
@@ -15,6 +8,9 @@ returns c = search keep-free
 
 returns-2 : tie.Need-returns-2
 returns-2 c = search keep-used
+
+returns-3 : tie.Need-returns-3
+returns-3 c = search keep-still
 
 pub keep-spec : {M : Type 1} → statement M
 keep-spec =
@@ -26,4 +22,7 @@ keep-spec =
     (λ c κs. search needs)
     (λ c. search needs)
     (λ c. search needs)
-    returns-2)
+    returns-2
+    (λ c. search needs)
+    (λ c. search needs)
+    returns-3)
