@@ -37,7 +37,7 @@ def fact_at(crate, place, line):
     where = re.sub(r"^proofs/|/Proof\.antt$|\.antt$", "", place)
     if name.endswith("-spec"):
         return f"`{where}`: what a callee requires, or a bound"
-    return f"`{where}`: `{name}`"
+    return f"`{where}`: `{name}`" if name else f"`{where}`"
 
 
 def code(text):
