@@ -1,7 +1,8 @@
 #!/usr/bin/env python3
 """Writes docs/MUST_FAIL.md: each must-fail edit with its text and the fact that refused it.
 
-Usage: tools/edits.py GATE_LOG.. The logs are what .ci/run or rt must-fail print; they name the place of the first error of each edit.
+Usage: tools/edits.py reads the logs that rt leaves in target/must-fail and writes the page. It stops at an edit whose first error is no fact
+       of the program: a bound of a sum or a cast, or a proof's text that no longer fits the code.
        tools/edits.py --check tests that the page has each edit of the tree with its text, and no other.
 """
 import pathlib
@@ -10,8 +11,10 @@ import sys
 
 ROOT = pathlib.Path(__file__).resolve().parent.parent
 PAGE = ROOT / "docs" / "MUST_FAIL.md"
-REFUSED = re.compile(r"must-fail (\w+)/(\w+): refused, as it must be \(first at ([^:]+):(\d+):\d+")
-NAMED = re.compile(r"^\s*(?:pub )?([^\s:()]+) : ")
+LOGS = ROOT / "target" / "must-fail"
+ERROR = re.compile(r"^(\S+?):(\d+):\d+: error: (?:`([^`]+)`: )?(.*)$", re.M)
+UNPROVED = re.compile(r"^note: (\S+?):(\d+):\d+: it is not proved that (.*) \(`([\w-]+)`\)$", re.M)
+FUNCTION = re.compile(r"^\s*(?:pub )?fn (\w+)")
 
 
 def read_edit(path):
@@ -27,17 +30,46 @@ def read_edit(path):
     return note, parts
 
 
-def fact_at(crate, place, line):
-    """The name of the law or of the need that stands at a place."""
-    path = ROOT / "crates" / crate / place
-    if not path.exists():
-        return place
+def function_at(path, line):
+    """The function of a source file that a line stands in."""
     lines = path.read_text(encoding="utf-8").split("\n")[:line]
-    name = next((m.group(1) for m in map(NAMED.match, reversed(lines)) if m), "")
-    where = re.sub(r"^proofs/|/Proof\.antt$|\.antt$", "", place)
-    if name.endswith("-spec"):
-        return f"`{where}`: what a callee requires, or a bound"
-    return f"`{where}`: `{name}`" if name else f"`{where}`"
+    return next(m.group(1) for m in map(FUNCTION.match, reversed(lines)) if m)
+
+
+def fact_of(need, function, message):
+    """What is to be proved of a function, in words; nothing for a bound or for a proof's text that does not fit."""
+    if "that can be named from here" in message:
+        return None
+    if need.startswith("returns") or re.match(rf"`search`: no proof of `\S*\b{function}\.Reads\.Post", message):
+        return f"what `{function}` returns"
+    if need.startswith(("loop-again", "loop-holds")):
+        return f"the invariant of the loop of `{function}`"
+    asked = re.search(r"([A-Za-z_]+)\.Reads\.Asked", message[:200])
+    if need.endswith("-requires"):
+        return f"what `{need[:-9].replace('-', '_')}` requires, in `{function}`"
+    if need.endswith("-spec") and asked:
+        return f"what `{asked.group(1)}` requires, in `{function}`"
+    return None
+
+
+def refused_by(crate, name):
+    """The fact at which the first error of an edit's log stands."""
+    folder = LOGS / crate / name
+    log = (folder / ".log").read_text(encoding="utf-8").replace(f"{folder}/", "")
+    unproved = UNPROVED.search(log)
+    if unproved:
+        place, line, message, need = unproved.groups()
+        function = function_at(folder / place, int(line))
+    else:
+        place, line, need, message = ERROR.search(log).groups()
+        found = re.fullmatch(r"proofs/(?:.*/)?(\w+)/Proof\.antt", place)
+        if not found:
+            return f"law `{need}` of `{place}`"
+        function = found.group(1)
+    fact = fact_of(need or "", function, message)
+    if fact is None:
+        sys.exit(f"{crate}/{name} is refused at no fact of the program: {place}, {need}: {message[:200]}")
+    return fact
 
 
 def code(text):
@@ -64,18 +96,15 @@ def check():
         sys.exit(f"{PAGE.name} has {len(lines)} edits, the tree {len(starts)}; not on the page: {missing}")
 
 
-def write(logs):
-    text = "".join(open(log, encoding="utf-8").read() for log in logs)
-    found = {m.group(1, 2): m.group(3, 4) for m in REFUSED.finditer(text)}
-    unseen = [edit for edit in all_edits() if edit not in found]
-    if unseen:
-        sys.exit("not in the logs: " + ", ".join("/".join(edit) for edit in unseen))
-    rows = [start_of_row(*edit) + fact_at(edit[0], found[edit][0], int(found[edit][1])) + " |" for edit in all_edits()]
+def write():
+    rows = [start_of_row(*edit) + refused_by(*edit) + " |" for edit in all_edits()]
     head = (ROOT / "tools" / "edits.txt").read_text(encoding="utf-8")
     PAGE.write_text(head + "\n".join(rows) + "\n", encoding="utf-8")
 
 
 if sys.argv[1:] == ["--check"]:
     check()
+elif not sys.argv[1:]:
+    write()
 else:
-    write(sys.argv[1:])
+    sys.exit(__doc__)

@@ -12,7 +12,7 @@ use Rattle.format.specs.WellFormed.{sizeOf, lengthField}
 use Rattle.format.proofs.Walk.{size-take}
 use Rattle.format.proofs.Count.{offsets, length-offsets}
 use Rattle.structure.specs.Structure.{Block, free, fixed, reloc, Structure, size, encodeBlock, sizes, start, len, count, placeOf, value, words, join, header, encode, decodeZone}
-use Rattle.structure.proofs.Valid.{Tiled, Valid}
+use Rattle.structure.specs.Valid.{Tiled, Valid}
 use Rattle.structure.proofs.Back.{size-reloc}
 use Rattle.structure.proofs.Round.{rest-is}
 use Rattle.bigendian.proofs.Laws.{length-toBE}

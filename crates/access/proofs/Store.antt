@@ -13,7 +13,7 @@ use Rattle.bigendian.specs.BigEndian.{fromBE, toBE, slice, overwrite, Bytes}
 use Rattle.bigendian.proofs.Laws.{length-toBE}
 use Rattle.format.proofs.Count.{offsets, length-offsets}
 use Rattle.structure.specs.Structure.{Block, free, fixed, reloc, Structure, size, encodeBlock, sizes, relocCount, count, start, len, headOf, placeOf, nextOf, value, words, join, header, encode}
-use Rattle.structure.proofs.Valid.{handlesOf, Tiled, Valid}
+use Rattle.structure.specs.Valid.{handlesOf, Tiled, Valid}
 use Rattle.structure.proofs.Codec.{bytes-take, bytes-drop}
 use Rattle.format.proofs.Count.{occurs}
 use Rattle.access.specs.Edit.{dataOf, edit, store}

@@ -9,7 +9,7 @@ use mir.Syntax.{w32}
 use Rattle.bigendian.specs.BigEndian.{toBE, overwrite}
 use Rattle.bigendian.proofs.Laws.{length-toBE}
 use Rattle.structure.specs.Structure.{Block, fixed, Structure, sizes, start, encodeBlock, join, encode, decodeZone}
-use Rattle.structure.proofs.Valid.{Valid}
+use Rattle.structure.specs.Valid.{Valid}
 use Rattle.structure.proofs.Table.{Whole, encode-zone}
 use Rattle.structure.proofs.Sound.{valid-zone}
 use Rattle.access.specs.Edit.{IsZone, whole-of}

@@ -10,8 +10,8 @@ use Rattle.structure.specs.Structure.{Block, fixed, Structure, sizes, start, de
 use Rattle.calls.specs.Calls.{told}
 use Rattle.zone.specs.OnBytes.{Result, result}
 use Rattle.find_bay.specs.Spots.{Spot, put, Choice, none, some}
-use Rattle.bay_changes.proofs.TakeHigh.{takeOff}
-use Rattle.take_high.proofs.Numbers.{highFor}
+use Rattle.bay_changes.specs.TakeOff.{takeOff}
+use Rattle.take_high.specs.Highest.{highFor}
 
 -- the bay that is taken
 abbrev pub bayFor : ℕ → Structure → Choice

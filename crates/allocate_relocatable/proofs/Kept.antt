@@ -4,7 +4,7 @@ use mathlib.Core.List.{List, [], _∷_, _++_}
 use Prim.Native.Nat.{ℕ, _+_, _%_, _<_, _≤_}
 use native.Mathlib.Omega.{arith}
 use Rattle.structure.specs.Structure.{Block, free, Structure}
-use Rattle.structure.proofs.Valid.{Valid}
+use Rattle.structure.specs.Valid.{Valid}
 use Rattle.find_bay.specs.Spots.{freeTotal, Spot, spot, put, Choice, none, some, firstFit, holes, used, squeeze, settle}
 use Rattle.surgery.proofs.Carved.{carvedFrom, carved-valid}
 use Rattle.surgery.proofs.Spots.{IsBay, bay-is, hole-is, bay-valid}

@@ -10,7 +10,7 @@ use lib.ListN.{length}
 use Rattle.bigendian.specs.BigEndian.{slice}
 use Rattle.format.proofs.Bool.{not-both}
 use Rattle.structure.specs.Structure.{Block, free, fixed, reloc, Structure, sizes, encodeBlock, count, start, headOf, join, encode, decodeZone}
-use Rattle.structure.proofs.Valid.{Valid}
+use Rattle.structure.specs.Valid.{Valid}
 use Rattle.structure.proofs.Table.{Whole, encode-zone}
 use Rattle.structure.proofs.Sound.{valid-zone}
 use Rattle.structure.proofs.Round.{length-is, offset-is}

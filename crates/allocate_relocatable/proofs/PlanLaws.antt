@@ -12,7 +12,7 @@ use Rattle.format.proofs.Count.{occurs, one-same}
 use Rattle.format.specs.WellFormed.{firstField}
 use Rattle.format.proofs.Masters.{Master}
 use Rattle.structure.specs.Structure.{Block, Structure, sizes, count, start, headOf, nextOf, encode, decodeZone}
-use Rattle.structure.proofs.Valid.{Valid}
+use Rattle.structure.specs.Valid.{Valid}
 use Rattle.structure.proofs.Table.{Whole, encode-zone, value-is, start-is, len-is}
 use Rattle.structure.proofs.Sound.{valid-zone}
 use Rattle.structure.proofs.Round.{offset-is, place-none}

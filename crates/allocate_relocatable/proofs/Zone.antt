@@ -11,7 +11,7 @@ use Rattle.bigendian.specs.BigEndian.{fromBE, slice}
 use Rattle.format.proofs.Bool.{not-both}
 use Rattle.format.proofs.Count.{occurs, one-same}
 use Rattle.structure.specs.Structure.{Block, Structure, sizes, count, start, headOf, decodeZone}
-use Rattle.structure.proofs.Valid.{Valid}
+use Rattle.structure.specs.Valid.{Valid}
 use Rattle.structure.proofs.Table.{Whole, encode-zone, start-is, head-is}
 use Rattle.structure.proofs.Sound.{valid-zone}
 use Rattle.structure.proofs.Round.{offset-is, rest-is}

@@ -6,7 +6,7 @@ ghost use Rattle.bigendian.specs.BigEndian.{toBE, overwrite};
 ghost use Rattle.structure.specs.Structure.{encode, decodeZone};
 ghost use Rattle.access.specs.Edit.{IsZone};
 ghost use Rattle.row.specs.Row.{bytesOf};
-ghost use Rattle.surgery.proofs.Carved.{carvedFrom, carvedBytes};
+ghost use Rattle.surgery.specs.Carved.{carvedFrom, carvedBytes};
 ghost use Rattle.allocate_relocatable.specs.Alloc.{allocated};
 ghost use Rattle.calls.specs.Calls.{told, allocate-relocatable};
 ghost use Rattle.zone.specs.OnBytes.{result, callBytes};

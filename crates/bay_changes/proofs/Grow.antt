@@ -8,7 +8,7 @@ use native.Mathlib.Omega.{arith}
 use borrow.Author.Tests.{eqb-true}
 use Rattle.format.proofs.Count.{occurs}
 use Rattle.structure.specs.Structure.{Block, free, reloc}
-use Rattle.structure.proofs.Valid.{handlesOf}
+use Rattle.structure.specs.Valid.{handlesOf}
 use Rattle.release.specs.Release as Release
 use Rattle.zone.specs.Bays.{over}
 use Rattle.zone.specs.Bay.{Item, is, count, Cell, free as gapCell, held, items, gap, inPlace, growHere}

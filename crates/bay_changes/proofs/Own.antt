@@ -10,17 +10,14 @@ use lib.Dec.{eqb, leb}
 use borrow.Author.Tests.{eqb-true}
 use Rattle.format.proofs.Count.{occurs}
 use Rattle.structure.specs.Structure.{Block}
-use Rattle.structure.proofs.Valid.{handlesOf}
+use Rattle.structure.specs.Valid.{handlesOf}
 use Rattle.access.specs.Edit.{dataOf}
 use Rattle.find_bay.specs.Spots.{freeTotal}
 use Rattle.zone.specs.Bay.{is, get, count, Cell, free as gapCell, held, baySum, items, roomFor}
 use Rattle.zone.specs.OnBays.{own}
 use Rattle.zone.specs.ZoneBays.{zoneBays}
 use Rattle.bay_spots.proofs.Spots.{blocksIn, sum-flat}
-
--- the bay has the handle (once), and its sum reaches a − b
-abbrev pub ownBlocks : ℕ → ℕ → List Block → Bool
-ownBlocks h a bs = cond (eqb (occurs h (handlesOf bs)) 1) (leb (a - length (dataOf h bs)) (freeTotal bs)) false
+pub use Rattle.bay_changes.specs.OwnBay.{ownBlocks}
 
 pub count-flat : (h : ℕ) (cs : List Cell) → count h (items cs) ≡ occurs h (handlesOf (blocksIn cs))
 unfolding occurs handlesOf

@@ -10,7 +10,7 @@ use lib.Dec.{eqb}
 use borrow.Author.Tests.{eq-eqb}
 use Rattle.format.proofs.Count.{occurs}
 use Rattle.structure.specs.Structure.{Block, free, fixed, reloc, sizes}
-use Rattle.structure.proofs.Valid.{handlesOf}
+use Rattle.structure.specs.Valid.{handlesOf}
 use Rattle.find_bay.specs.Spots.{used, gapOf}
 use Rattle.find_bay.proofs.Numbers.{sizes-append}
 use Rattle.zone.specs.Bay.{Item, itemSize, is, total, alter, Cell, baySize, baySum, items, gap, packed, sized}

@@ -12,21 +12,7 @@ use Rattle.find_bay.specs.Spots.{freeSize, freeTotal, used, gapOf}
 use Rattle.zone.specs.Bays.{over}
 use Rattle.zone.specs.Bay.{Cell, free as gapCell, held, baySum, items, gap, packed, trim, takeHigh}
 use Rattle.bay_spots.proofs.Spots.{blocksIn, sum-flat, packed-flat, gap-flat}
-
--- the size of the last block where that is free, else 0; and the blocks before the last
-abbrev pub endFree : List Block → ℕ
-endFree [] = 0
-endFree (b ∷ []) = freeSize b
-endFree (b ∷ (c ∷ bs)) = endFree (c ∷ bs)
-
-abbrev pub front : List Block → List Block
-front [] = []
-front (b ∷ []) = []
-front (b ∷ (c ∷ bs)) = b ∷ front (c ∷ bs)
-
--- "If its last block is free and big enough, the high end of that; else after compacting"
-abbrev pub takeOff : ℕ → List Block → List Block
-takeOff n bs = cond (leb n (endFree bs)) (front bs ++ gapOf (endFree bs - n)) (used bs ++ gapOf (freeTotal bs - n))
+pub use Rattle.bay_changes.specs.TakeOff.{endFree, front, takeOff}
 
 over-over : {A B C : Type 0} (f : A → B) (g : B → C) (o : Option A) → over g (over f o) ≡ over (λ (a : A). g (f a)) o
 over-over f g none = refl

@@ -14,6 +14,7 @@ use Rattle.zone.specs.Bays.{Bays, last, more, over, orElse}
 use Rattle.zone.specs.Bay.{Cell, free as gapCell, held, baySize, baySum, items, gap, packed}
 use Rattle.zone.specs.OnBays.{Fixed}
 use Rattle.zone.specs.Group.{flatBay, flatten}
+pub use Rattle.bay_spots.specs.Choose.{orSpot, firstBy, lastBy}
 
 -- ---- a bay's cells as blocks
 
@@ -94,23 +95,11 @@ paired-cond false false e p q = q refl
 paired-cond true false e p q = absurd (true≢false e)
 paired-cond false true e p q = absurd (false≢true e)
 
-abbrev pub orSpot : Choice → Choice → Choice
-orSpot noSpot d = d
-orSpot (theSpot p) d = theSpot p
-
 pub paired-else : {A : Type 0} {R : A → Spot → Type 0} {a b : Option A} {c d : Choice} → Paired R a c → Paired R b d → Paired R (orElse a b) (orSpot c d)
 paired-else neither q = q
 paired-else (both r) q = both r
 
 -- ---- the lowest and the highest spot whose blocks pass a test
-
-abbrev pub firstBy : (List Block → Bool) → List Spot → Choice
-firstBy t [] = noSpot
-firstBy t (p ∷ ps) = cond (t (p .inside)) (theSpot p) (firstBy t ps)
-
-abbrev pub lastBy : (List Block → Bool) → List Spot → Choice
-lastBy t [] = noSpot
-lastBy t (p ∷ ps) = orSpot (lastBy t ps) (cond (t (p .inside)) (theSpot p) noSpot)
 
 pub first-fit : (need : ℕ) (ps : List Spot) → firstFit need ps ≡ firstBy (λ (bs : List Block). leb need (freeTotal bs)) ps
 unfolding firstFit

@@ -10,7 +10,7 @@ use borrow.Author.Tests.{le-leb, leb-true, leb-false, ltb-true, ltb-false}
 use Rattle.bigendian.specs.BigEndian.{Bytes}
 use Rattle.format.specs.WellFormed.{wellFormed}
 use Rattle.structure.specs.Structure.{Block, free, fixed, reloc, decode}
-use Rattle.structure.proofs.Valid.{Tiled}
+use Rattle.structure.specs.Valid.{Tiled}
 use Rattle.structure.proofs.Sound.{valid}
 use Rattle.zone.specs.Census.{limitsFrom, countIf, countsOf, freeWords, census}
 

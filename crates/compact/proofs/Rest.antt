@@ -9,7 +9,7 @@ use borrow.Author.Tests.{ne-eqb, lt-ltb, le-ltb}
 use lib.ListN.{length, drop}
 use Rattle.bigendian.specs.BigEndian.{slice}
 use Rattle.structure.specs.Structure.{Block, free, fixed, reloc, Structure, size, sizes, start, encode}
-use Rattle.structure.proofs.Valid.{Valid}
+use Rattle.structure.specs.Valid.{Valid}
 use Rattle.structure.proofs.Round.{length-is, rest-is}
 use Rattle.row.specs.Row.{blocksOf, bytesOf, freeB, fixedB, Sound, Row, row}
 use Rattle.row.proofs.Laws.{sound-left, sound-right, tiles-join, low-of, bytes-append, bytes-long}

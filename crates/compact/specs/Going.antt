@@ -5,10 +5,10 @@ use mathlib.Core.Bool.{false}
 use Prim.Native.Nat.{ℕ, _+_, _-_, _<_}
 use lib.ListN.{drop}
 use Rattle.structure.specs.Structure.{Block, Structure, sizes, start, encode}
-use Rattle.structure.proofs.Valid.{Valid}
+use Rattle.structure.specs.Valid.{Valid}
 use Rattle.row.specs.Row.{blocksOf}
 use Rattle.compact_bay.specs.Tidy.{tidied}
-use Rattle.surgery.proofs.Sound.{lastFree}
+use Rattle.surgery.specs.Bays.{lastFree}
 use Rattle.compact.specs.All.{tidyFrom, largestFrom, stretchN, nextBay}
 
 -- z is the bytes of the structure s, in which a bay begins at offset o

@@ -11,7 +11,7 @@ use lib.Seq.{drop-drop, take-at, drop-at, length-take-le}
 use Rattle.bigendian.specs.BigEndian.{fromBE, toBE, slice, overwrite}
 use Rattle.format.proofs.Walk.{drop-take}
 use Rattle.structure.specs.Structure.{Block, free, fixed, reloc, size, sizes, encodeBlock, join}
-use Rattle.structure.proofs.Valid.{handlesOf}
+use Rattle.structure.specs.Valid.{handlesOf}
 use Rattle.row.specs.Row.{blocksOf, bytesOf, kindB, freeB, Row, row, Sound, Sound1}
 use Rattle.row.proofs.Laws.{tiles-join, row-bytes, row-sound, bytes-long, sound-append}
 use Rattle.find_bay.specs.Spots.{freeTotal, used, gapOf, squeeze}

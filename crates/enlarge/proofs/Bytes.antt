@@ -10,7 +10,7 @@ use Rattle.bigendian.specs.BigEndian.{toBE, overwrite}
 use Rattle.bigendian.proofs.Laws.{length-toBE}
 use Rattle.format.proofs.Count.{occurs}
 use Rattle.structure.specs.Structure.{Block, free, Structure, sizes, relocCount, count, start, len, headOf, placeOf, nextOf, value, encodeBlock, join, encode}
-use Rattle.structure.proofs.Valid.{handlesOf, Valid}
+use Rattle.structure.specs.Valid.{handlesOf, Valid}
 use Rattle.find_bay.specs.Spots.{gapOf}
 use Rattle.row.specs.Row.{bytesOf, Sound}
 use Rattle.row.proofs.Laws.{enc-of, bytes-append, bytes-long, sound-left, sound-right}

@@ -14,7 +14,7 @@ use Rattle.bigendian.specs.BigEndian.{fromBE, slice, toBE, overwrite, Bytes}
 use Rattle.format.specs.WellFormed.{wellFormed, zoneOf, lengthField, firstField}
 use Rattle.format.proofs.Bool.{and-left, and-right}
 use Rattle.structure.specs.Structure.{Block, free, Structure, sizes, start, len, encodeBlock, encode, decode, decodeZone}
-use Rattle.structure.proofs.Valid.{Valid}
+use Rattle.structure.specs.Valid.{Valid}
 use Rattle.structure.proofs.Table.{Whole, whole, start-is, len-is, encode-zone, encode-decode}
 use Rattle.structure.proofs.Sound.{valid-zone}
 use Rattle.access.specs.Edit.{IsZone, whole-of}

@@ -8,7 +8,7 @@ use native.Mathlib.Omega.{arith}
 use lib.ListN.{length}
 use borrow.Author.Tests.{eq-eqb, ne-eqb}
 use Rattle.structure.specs.Structure.{Block, free, fixed, reloc, size, sizes}
-use Rattle.structure.proofs.Valid.{Tiled}
+use Rattle.structure.specs.Valid.{Tiled}
 use Rattle.find_bay.specs.Spots.{gapOf}
 use Rattle.walk.specs.Walker.{lowOf, freeB}
 use Rattle.zone.specs.Bays.{Bays, last, more, onLast}

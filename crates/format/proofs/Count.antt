@@ -8,13 +8,8 @@ use lib.Dec.{eqb}
 use borrow.Author.Tests.{eqb-true, eqb-false, eq-eqb, ne-eqb}
 use lib.ListN.{length, length-append}
 unfoldable pub use Rattle.format.specs.WellFormed.{offsets}
-
-abbrev pub one : ℕ → ℕ → ℕ
-one h k = cond (eqb h k) 1 0
-
-unfoldable pub occurs : ℕ → List ℕ → ℕ
-occurs h [] = 0
-occurs h (k ∷ ks) = one h k + occurs h ks
+pub use Rattle.format.specs.Occurs.{one}
+unfoldable pub use Rattle.format.specs.Occurs.{occurs}
 
 abbrev pub All : (ℕ → Type 0) → List ℕ → Type 0
 All P [] = Unit {0}

@@ -1,3 +1,4 @@
 pub mod OneWalk
 pub mod Steps
 pub mod WellFormed
+pub mod Occurs

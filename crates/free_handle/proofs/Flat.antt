@@ -8,7 +8,7 @@ use lib.ListN.{length}
 use lib.Dec.{eqb}
 use Rattle.format.proofs.Count.{occurs}
 use Rattle.structure.specs.Structure.{Block, free, fixed, reloc}
-use Rattle.structure.proofs.Valid.{handlesOf, Tiled}
+use Rattle.structure.specs.Valid.{handlesOf, Tiled}
 use Rattle.release.specs.Release.{gap, release}
 use Rattle.zone.specs.Bays.{Bays, last, more, mapS}
 use Rattle.zone.specs.Bay as Bay

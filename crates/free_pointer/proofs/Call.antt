@@ -11,7 +11,7 @@ use mir.Syntax.{w8}
 use Rattle.bigendian.specs.BigEndian.{fromBE, slice, overwrite, Bytes}
 use Rattle.format.specs.WellFormed.{wellFormed, zoneOf, lengthField}
 use Rattle.structure.specs.Structure.{Block, free, Structure, sizes, start, encodeBlock, encode, decode, decodeZone, join}
-use Rattle.structure.proofs.Valid.{handlesOf, Valid}
+use Rattle.structure.specs.Valid.{handlesOf, Valid}
 use Rattle.structure.proofs.Table.{Whole, len-is, encode-zone}
 use Rattle.structure.proofs.Sound.{valid-zone}
 use Rattle.access.specs.Edit.{IsZone, whole-of}

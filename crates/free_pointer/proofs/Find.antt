@@ -10,7 +10,7 @@ use lib.ListN.{length}
 use lib.Dec.{eqb}
 use borrow.Author.Tests.{eqb-true, eq-eqb, ne-eqb}
 use Rattle.structure.specs.Structure.{Block, free, fixed, reloc, size, sizes}
-use Rattle.structure.proofs.Valid.{handlesOf, Tiled}
+use Rattle.structure.specs.Valid.{handlesOf, Tiled}
 use Rattle.walk.specs.Walker.{lowOf, freeB}
 use Rattle.release.specs.Release.{gap}
 use Rattle.release.proofs.Find.{leadOf}

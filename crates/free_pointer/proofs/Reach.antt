@@ -12,7 +12,7 @@ use Rattle.format.specs.WellFormed.{isFree, firstField}
 use Rattle.structure.specs.Structure.{Block, free, fixed, reloc, size, sizes, start, decodeZone}
 use Rattle.structure.proofs.Table.{Whole, start-is, len-is}
 use Rattle.structure.proofs.Sound.{valid-zone}
-use Rattle.structure.proofs.Valid.{Tiled}
+use Rattle.structure.specs.Valid.{Tiled}
 use Rattle.access.specs.Edit.{IsZone, whole-of}
 use Rattle.walk.specs.Walker.{blocksAt, Edge, Seen, blockAt, freeB, lowOf}
 use Rattle.walk.proofs.Laws.{tiles-end}

@@ -9,7 +9,7 @@ use lib.ListN.{length}
 use lib.Dec.{eqb}
 use borrow.Author.Tests.{eq-eqb, ne-eqb}
 use Rattle.structure.specs.Structure.{Block, free, fixed, reloc}
-use Rattle.structure.proofs.Valid.{Tiled}
+use Rattle.structure.specs.Valid.{Tiled}
 use Rattle.release.specs.Release.{gap}
 use Rattle.zone.specs.Bays.{Bays, last, more, over, glue}
 use Rattle.zone.specs.Bay as Bay

@@ -7,7 +7,7 @@ use Prim.Native.Nat.{ℕ, _+_, _≤_}
 use lib.ListN.{length, take}
 use Rattle.format.specs.WellFormed.{wellFormed, zoneOf, lengthField}
 use Rattle.structure.specs.Structure.{Block, free, sizes, start, decodeZone}
-use Rattle.structure.proofs.Valid.{handlesOf}
+use Rattle.structure.specs.Valid.{handlesOf}
 use Rattle.access.specs.Edit.{IsZone}
 use Rattle.calls.specs.Calls.{by-pointer}
 use Rattle.zone.specs.Bays.{over}

@@ -17,7 +17,7 @@ use Rattle.format.proofs.Header.{header-facts}
 use Rattle.format.proofs.Count.{occurs, one-same}
 use Rattle.structure.specs.Structure as Structure
 use Rattle.structure.specs.Structure.{free, fixed, reloc, start, count, decodeBlock, decodeZone}
-use Rattle.structure.proofs.Valid.{handlesOf, Tiled}
+use Rattle.structure.specs.Valid.{handlesOf, Tiled}
 use Rattle.structure.proofs.Round.{offset-is, rest-is}
 use Rattle.structure.proofs.Table.{Whole, whole, start-is, encode-zone}
 use Rattle.structure.proofs.Sound.{valid-zone}

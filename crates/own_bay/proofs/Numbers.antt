@@ -10,7 +10,7 @@ use lib.Dec.{eqb, ltb, leb}
 use borrow.Author.Tests.{eqb-true, eqb-false, ne-eqb, eq-eqb, lt-ltb, le-ltb, ltb-true, ltb-false, le-leb}
 use Rattle.format.proofs.Count.{one, occurs, one-same, one-other, occurs-append}
 use Rattle.structure.specs.Structure.{Block, free, fixed, reloc, size, sizes, placeOf}
-use Rattle.structure.proofs.Valid.{handlesOf}
+use Rattle.structure.specs.Valid.{handlesOf}
 use Rattle.access.specs.Edit.{dataOf}
 use Rattle.row.specs.Row.{fixedB}
 use Rattle.find_bay.specs.Spots.{freeSize, freeTotal, Spot, spot, baysFrom, bays, Choice, none, some}

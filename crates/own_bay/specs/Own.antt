@@ -3,13 +3,13 @@ use mathlib.Core.List.{List, [], _∷_}
 use mathlib.Core.Bool.{Bool, true, cond}
 use Prim.Native.Nat.{ℕ, _+_}
 use lib.Dec.{ltb}
-use Rattle.format.proofs.Count.{occurs}
+use Rattle.format.specs.Occurs.{occurs}
 use Rattle.structure.specs.Structure.{Block, size}
-use Rattle.structure.proofs.Valid.{handlesOf}
+use Rattle.structure.specs.Valid.{handlesOf}
 use Rattle.row.specs.Row.{fixedB}
 use Rattle.find_bay.specs.Spots.{freeSize, Choice, bays}
 use Rattle.find_bay.specs.Find.{BayN, bayN}
-use Rattle.bay_spots.proofs.Spots.{firstBy}
+use Rattle.bay_spots.specs.Choose.{firstBy}
 
 abbrev pub hasHandle : ℕ → List Block → Bool
 hasHandle h bs = ltb 0 (occurs h (handlesOf bs))

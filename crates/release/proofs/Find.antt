@@ -10,18 +10,12 @@ use borrow.Author.Tests.{eqb-true, eqb-false, eq-eqb, ne-eqb}
 use lib.ListN.{length}
 use Rattle.format.proofs.Count.{one, occurs, one-same, one-other}
 use Rattle.structure.specs.Structure.{Block, free, fixed, reloc, size, sizes, placeOf}
-use Rattle.structure.proofs.Valid.{handlesOf, Tiled}
+use Rattle.structure.specs.Valid.{handlesOf, Tiled}
 use Rattle.access.specs.Edit.{dataOf}
 use Rattle.format.proofs.Bool.{not-both}
 use Rattle.walk.specs.Walker.{lowOf, freeB}
 use Rattle.release.specs.Release.{gap, release, Span}
-
--- the size of a free block in front
-unfoldable pub leadOf : List Block → ℕ
-leadOf [] = 0
-leadOf (free n ∷ bs) = n
-leadOf (fixed d ∷ bs) = 0
-leadOf (reloc h d ∷ bs) = 0
+unfoldable pub use Rattle.release.specs.Release.{leadOf}
 
 -- the block of handle h, with what stands before and behind it
 pub record Mid (h at : ℕ) (bs : List Block) : Type 0 where

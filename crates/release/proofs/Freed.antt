@@ -13,7 +13,7 @@ use Rattle.bigendian.specs.BigEndian.{fromBE, toBE, overwrite}
 use Rattle.bigendian.proofs.Laws.{length-toBE}
 use Rattle.format.proofs.Count.{one, occurs, offsets, one-same, one-other, occurs-append, length-offsets}
 use Rattle.structure.specs.Structure.{Block, free, fixed, reloc, Structure, size, encodeBlock, sizes, relocCount, count, start, len, headOf, placeOf, nextOf, value, join, encode}
-use Rattle.structure.proofs.Valid.{handlesOf, Tiled, Valid}
+use Rattle.structure.specs.Valid.{handlesOf, Tiled, Valid}
 use Rattle.structure.proofs.Round.{offset-le, offset-is, place-none, next-none}
 use Rattle.access.proofs.Store.{length-enc}
 use Rattle.release.proofs.ZoneLayout.{lay, values, encode-lay, lay-chain, lay-master, lay-rest, lay-same, write-mid}

@@ -11,7 +11,7 @@ use Rattle.format.specs.WellFormed.{sizeOf, isFree, firstField, mastersField, c
 use Rattle.structure.specs.Structure.{Block, free, fixed, reloc, size, sizes, start, decodeZone, placeOf}
 use Rattle.structure.proofs.Table.{Whole, start-is, len-is}
 use Rattle.structure.proofs.Sound.{valid-zone}
-use Rattle.structure.proofs.Valid.{Tiled, Valid}
+use Rattle.structure.specs.Valid.{Tiled, Valid}
 use Rattle.access.specs.Edit.{IsZone, whole-of, placeIn, dataIn, dataOf}
 use Rattle.access.proofs.PutLaws.{data-fits}
 use mir.Val.{Fits}

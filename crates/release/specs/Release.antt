@@ -6,7 +6,7 @@ use Prim.Native.Nat.{ℕ, _+_}
 use lib.ListN.{length}
 use lib.Dec.{eqb}
 use Rattle.structure.specs.Structure.{Block, free, fixed, reloc, Structure, sizes, start, decodeZone}
-use Rattle.structure.proofs.Valid.{handlesOf}
+use Rattle.structure.specs.Valid.{handlesOf}
 
 -- n free bytes in front, merged with a free block that follows
 unfoldable pub gap : ℕ → List Block → List Block
@@ -14,6 +14,13 @@ gap n [] = free n ∷ []
 gap n (free k ∷ bs) = free (n + k) ∷ bs
 gap n (fixed d ∷ bs) = free n ∷ fixed d ∷ bs
 gap n (reloc h d ∷ bs) = free n ∷ reloc h d ∷ bs
+
+-- the size of a free block in front
+unfoldable pub leadOf : List Block → ℕ
+leadOf [] = 0
+leadOf (free n ∷ bs) = n
+leadOf (fixed d ∷ bs) = 0
+leadOf (reloc h d ∷ bs) = 0
 
 -- the block of handle h is free, and merged with its free neighbours
 unfoldable pub release : ℕ → List Block → List Block

@@ -11,7 +11,7 @@ use Rattle.format.specs.WellFormed.{firstField}
 use Rattle.format.proofs.Bool.{not-both}
 use Rattle.format.proofs.Count.{occurs}
 use Rattle.structure.specs.Structure.{Block, Structure, sizes, start, placeOf, decodeZone}
-use Rattle.structure.proofs.Valid.{handlesOf, Valid}
+use Rattle.structure.specs.Valid.{handlesOf, Valid}
 use Rattle.structure.proofs.Table.{Whole, start-is}
 use Rattle.structure.proofs.Round.{place-none}
 use Rattle.structure.proofs.Sound.{valid-zone}

@@ -10,7 +10,7 @@ use borrow.Author.Tests.{eq-eqb, le-leb, lt-leb, ltb-true}
 use Rattle.format.proofs.Bool.{not-both}
 use Rattle.format.proofs.Count.{occurs}
 use Rattle.structure.specs.Structure.{Block, Structure, sizes, start, placeOf, decodeZone}
-use Rattle.structure.proofs.Valid.{handlesOf}
+use Rattle.structure.specs.Valid.{handlesOf}
 use Rattle.structure.proofs.Table.{Whole, start-is}
 use Rattle.access.specs.Edit.{IsZone, whole-of, placeIn, dataIn, dataOf}
 use Rattle.row.specs.Row.{blocksOf, Row}

@@ -10,7 +10,7 @@ use lib.ListN.{length, drop, length-take, length-drop}
 use Rattle.bigendian.specs.BigEndian.{slice}
 use Rattle.format.proofs.Bool.{not-both}
 use Rattle.structure.specs.Structure.{Block, Structure, sizes, start, encode, decodeZone}
-use Rattle.structure.proofs.Valid.{Valid}
+use Rattle.structure.specs.Valid.{Valid}
 use Rattle.structure.proofs.Table.{Whole, encode-zone, len-is}
 use Rattle.structure.proofs.Sound.{valid-zone}
 use Rattle.access.specs.Edit.{IsZone, whole-of}

@@ -10,8 +10,8 @@ use Rattle.structure.specs.Structure.{Block, Structure, start, placeOf, decode,
 use Rattle.access.specs.Edit.{dataOf}
 use Rattle.release.specs.Release.{release}
 use Rattle.find_bay.specs.Spots.{Choice, none, some, bays, firstFit}
-use Rattle.bay_spots.proofs.Spots.{firstBy}
-use Rattle.bay_changes.proofs.Own.{ownBlocks}
+use Rattle.bay_spots.specs.Choose.{firstBy}
+use Rattle.bay_changes.specs.OwnBay.{ownBlocks}
 use Rattle.calls.specs.Calls.{told}
 use Rattle.zone.specs.OnBytes.{Result, result}
 use Rattle.resize_in_place.specs.InPlace.{leadAfter, resizedIn}

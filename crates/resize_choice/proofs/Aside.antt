@@ -5,7 +5,7 @@ use Prim.Native.Nat.{ℕ, _+_, _≤_}
 use native.Mathlib.Omega.{arith}
 use Rattle.format.proofs.Count.{occurs, one-same}
 use Rattle.structure.specs.Structure.{Block, free, fixed, sizes}
-use Rattle.structure.proofs.Valid.{handlesOf}
+use Rattle.structure.specs.Valid.{handlesOf}
 use Rattle.find_bay.proofs.Numbers.{sizes-append}
 use Rattle.release.specs.Release.{Span}
 use Rattle.resize_layout.proofs.Parts.{occurs-two}

@@ -9,7 +9,7 @@ use lib.Dec.{eqb}
 use borrow.Author.Tests.{eqb-true, ne-eqb}
 use Rattle.format.proofs.Count.{occurs, one-same}
 use Rattle.structure.specs.Structure.{Block, free, fixed, reloc, size, sizes}
-use Rattle.structure.proofs.Valid.{handlesOf, Tiled}
+use Rattle.structure.specs.Valid.{handlesOf, Tiled}
 use Rattle.access.specs.Edit.{dataOf}
 use Rattle.find_bay.specs.Spots.{freeSize, freeTotal}
 use Rattle.release.specs.Release.{gap, release}

@@ -13,7 +13,7 @@ use borrow.Author.Tests.{eqb-true, eq-eqb, ne-eqb}
 use Rattle.bigendian.specs.BigEndian.{overwrite}
 use Rattle.format.proofs.Count.{occurs, one-same}
 use Rattle.structure.specs.Structure.{Block, free, fixed, reloc}
-use Rattle.structure.proofs.Valid.{handlesOf}
+use Rattle.structure.specs.Valid.{handlesOf}
 use Rattle.access.specs.Edit.{dataOf, edit}
 use Rattle.find_bay.specs.Spots.{freeTotal, Spot, spot, put, holes, Choice, none as noSpot, some as theSpot, firstFit, used, gapOf, carve, orElse, settle}
 use Rattle.surgery.proofs.Spots.{hole-is}

@@ -13,7 +13,7 @@ use Rattle.block_type.specs.Limits.{relocLimit, up4}
 use Rattle.format.specs.WellFormed.{wellFormed, zoneOf, lengthField}
 use Rattle.format.proofs.Count.{occurs, one-same, occurs-append}
 use Rattle.structure.specs.Structure.{Block, reloc, Structure, start, encode, decode, decodeZone}
-use Rattle.structure.proofs.Valid.{handlesOf, Tiled, Valid}
+use Rattle.structure.specs.Valid.{handlesOf, Tiled, Valid}
 use Rattle.structure.proofs.Sound.{valid}
 use Rattle.access.specs.Edit.{placeIn, dataIn, dataOf}
 use Rattle.compact_bay.proofs.Squeeze.{handles-append}

@@ -11,7 +11,7 @@ use lib.Dec.{eqb, leb}
 use borrow.Author.Tests.{eqb-true, eq-eqb, ne-eqb, le-leb, lt-leb, leb-true, leb-false}
 use Rattle.format.proofs.Count.{one, occurs, one-same, occurs-append}
 use Rattle.structure.specs.Structure.{Block, free, fixed, reloc}
-use Rattle.structure.proofs.Valid.{handlesOf, Tiled}
+use Rattle.structure.specs.Valid.{handlesOf, Tiled}
 use Rattle.access.specs.Edit.{dataOf}
 use Rattle.find_bay.specs.Spots.{gapOf, freeTotal}
 use Rattle.compact_bay.proofs.Squeeze.{handles-append}

@@ -9,7 +9,7 @@ use borrow.Author.Tests.{eqb-true, eqb-false, eq-eqb, ne-eqb}
 use lib.ListN.{length}
 use Rattle.format.proofs.Count.{one, occurs, one-same}
 use Rattle.structure.specs.Structure.{Block, free, fixed, reloc}
-use Rattle.structure.proofs.Valid.{handlesOf, Tiled}
+use Rattle.structure.specs.Valid.{handlesOf, Tiled}
 use Rattle.access.specs.Edit.{dataOf}
 use Rattle.find_bay.specs.Spots.{gapOf, freeTotal}
 use Rattle.release.proofs.Find.{leadOf}

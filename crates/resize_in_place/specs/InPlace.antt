@@ -9,7 +9,7 @@ use lib.Dec.{eqb}
 use Rattle.structure.specs.Structure.{Block, free, fixed, reloc, Structure, decodeZone}
 use Rattle.access.specs.Edit.{IsZone, placeIn, dataIn}
 use Rattle.find_bay.specs.Spots.{gapOf}
-use Rattle.release.proofs.Find.{leadOf}
+use Rattle.release.specs.Release.{leadOf}
 use Rattle.zone.specs.Bay.{sized}
 
 -- what stands behind a free block in front

@@ -12,7 +12,7 @@ use Rattle.block_type.specs.Limits.{up4}
 use Rattle.format.specs.WellFormed.{wellFormed, zoneOf, lengthField}
 use Rattle.format.proofs.Count.{occurs}
 use Rattle.structure.specs.Structure.{Block, reloc, Structure, start, encode, decode}
-use Rattle.structure.proofs.Valid.{handlesOf, Valid}
+use Rattle.structure.specs.Valid.{handlesOf, Valid}
 use Rattle.structure.proofs.Sound.{valid}
 use Rattle.access.specs.Edit.{placeIn, dataOf}
 use Rattle.find_bay.specs.Spots.{freeTotal, Spot, put, Choice, none as noSpot, some as theSpot, bays, gapOf}

@@ -13,7 +13,7 @@ use Rattle.format.proofs.Count.{occurs, one-same}
 use Rattle.format.proofs.Walk.{drop-take}
 use Rattle.format.proofs.Masters.{Master}
 use Rattle.structure.specs.Structure.{Block, free, fixed, reloc, Structure, sizes, encodeBlock, count, start, placeOf, nextOf, value, join, encode, decodeZone}
-use Rattle.structure.proofs.Valid.{handlesOf, Valid}
+use Rattle.structure.specs.Valid.{handlesOf, Valid}
 use Rattle.structure.proofs.Table.{Whole, encode-zone}
 use Rattle.structure.proofs.Sound.{valid-zone}
 use Rattle.structure.proofs.Round.{offset-is, next-none, length-is, master-is}

@@ -10,7 +10,7 @@ use lib.Dec.{eqb, leb}
 use borrow.Author.Tests.{eq-eqb, ne-eqb, leb-true}
 use Rattle.format.proofs.Count.{one, occurs, one-same, occurs-append}
 use Rattle.structure.specs.Structure.{Block, free, fixed, reloc, sizes, placeOf}
-use Rattle.structure.proofs.Valid.{handlesOf}
+use Rattle.structure.specs.Valid.{handlesOf}
 use Rattle.access.specs.Edit.{dataOf}
 use Rattle.find_bay.specs.Spots.{freeTotal, used, gapOf}
 use Rattle.compact_bay.specs.Tidy.{Low}

@@ -13,8 +13,8 @@ use Rattle.row.specs.Row.{Sound, blocksOf, bytesOf}
 use Rattle.compact_bay.specs.Tidy.{Low, setAll}
 use Rattle.grow_bay.specs.Grow.{grownBytes}
 use Rattle.zone.specs.Bay.{sized}
-use Rattle.bay_spots.proofs.Spots.{firstBy}
-use Rattle.bay_changes.proofs.Own.{ownBlocks}
+use Rattle.bay_spots.specs.Choose.{firstBy}
+use Rattle.bay_changes.specs.OwnBay.{ownBlocks}
 
 -- the block of handle h has a data bytes, and the blocks behind it follow
 unfoldable pub sizeOnly : ℕ → ℕ → List Block → List Block

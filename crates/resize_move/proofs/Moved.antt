@@ -11,7 +11,7 @@ use borrow.Author.Tests.{eq-eqb, ne-eqb}
 use Rattle.bigendian.specs.BigEndian.{toBE, overwrite}
 use Rattle.format.proofs.Count.{one, occurs, offsets, one-same, occurs-append}
 use Rattle.structure.specs.Structure.{Block, free, fixed, reloc, Structure, sizes, relocCount, encodeBlock, count, start, len, headOf, placeOf, value, join, encode}
-use Rattle.structure.proofs.Valid.{handlesOf, Valid}
+use Rattle.structure.specs.Valid.{handlesOf, Valid}
 use Rattle.structure.proofs.Round.{offset-is}
 use Rattle.access.specs.Edit.{dataOf, store}
 use Rattle.access.proofs.Store.{write-length, store-bytes}

@@ -9,7 +9,7 @@ use lib.Dec.{ltb}
 use borrow.Author.Tests.{ne-eqb, ltb-true, ltb-false}
 use Rattle.format.proofs.Count.{occurs}
 use Rattle.structure.specs.Structure.{Block, free, fixed, reloc}
-use Rattle.structure.proofs.Valid.{handlesOf}
+use Rattle.structure.specs.Valid.{handlesOf}
 use Rattle.find_bay.specs.Spots.{Spot, baysFrom, bays, Choice, none, some}
 use Rattle.zone.specs.Bays.{Bays, onLow, AllS}
 use Rattle.zone.specs.Bay.{Cell}

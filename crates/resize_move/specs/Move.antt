@@ -8,7 +8,7 @@ use Rattle.structure.specs.Structure.{Block, free, Structure, sizes, start, enc
 use Rattle.access.specs.Edit.{store}
 use Rattle.row.specs.Row.{bytesOf}
 use Rattle.release.specs.Release.{release, Span}
-use Rattle.surgery.proofs.Carved.{carvedFrom}
+use Rattle.surgery.specs.Carved.{carvedFrom}
 use Rattle.allocate_relocatable.specs.Site.{Fit}
 
 -- two stretches apart: the one from `from` up to `to`, the other of n bytes at `at`

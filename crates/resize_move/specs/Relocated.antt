@@ -3,9 +3,9 @@ use mathlib.Core.Path.{_≡_}
 use mathlib.Core.List.{List}
 use mathlib.Core.Bool.{false}
 use Prim.Native.Nat.{ℕ, _+_}
-use Rattle.format.proofs.Count.{occurs}
+use Rattle.format.specs.Occurs.{occurs}
 use Rattle.structure.specs.Structure.{Block, Structure, sizes}
-use Rattle.structure.proofs.Valid.{handlesOf, Tiled}
+use Rattle.structure.specs.Valid.{handlesOf, Tiled}
 use Rattle.access.specs.Edit.{store}
 use Rattle.find_bay.specs.Spots.{Spot, put, some, bays, firstFit, settleIn}
 use Rattle.release.specs.Release.{release, Span}

@@ -11,7 +11,7 @@ use Rattle.format.specs.WellFormed.{firstField}
 use Rattle.format.proofs.Walk.{drop-take}
 use Rattle.format.proofs.Count.{occurs, one-same}
 use Rattle.structure.specs.Structure.{Block, reloc, Structure, sizes, encodeBlock, start, placeOf, join, encode, decodeZone}
-use Rattle.structure.proofs.Valid.{handlesOf, Valid}
+use Rattle.structure.specs.Valid.{handlesOf, Valid}
 use Rattle.structure.proofs.Table.{Whole, encode-zone, len-is}
 use Rattle.structure.proofs.Sound.{valid-zone}
 use Rattle.access.specs.Edit.{IsZone, whole-of, placeIn, dataIn, dataOf}

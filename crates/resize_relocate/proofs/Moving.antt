@@ -13,7 +13,7 @@ use Rattle.bigendian.specs.BigEndian.{slice, Bytes}
 use Rattle.format.specs.WellFormed.{wellFormed, zoneOf, lengthField}
 use Rattle.format.proofs.Count.{occurs, one-same}
 use Rattle.structure.specs.Structure.{Block, free, fixed, reloc, Structure, sizes, encodeBlock, count, start, placeOf, join, encode, decode, decodeZone}
-use Rattle.structure.proofs.Valid.{handlesOf, Valid}
+use Rattle.structure.specs.Valid.{handlesOf, Valid}
 use Rattle.structure.proofs.Table.{Whole, whole}
 use Rattle.structure.proofs.Round.{length-is, offset-is, heads-self, well-formed, decode-encode}
 use Rattle.access.specs.Edit.{IsZone, is-zone, placeIn, dataIn, dataOf, store}

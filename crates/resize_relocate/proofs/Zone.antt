@@ -11,7 +11,7 @@ use Rattle.bigendian.specs.BigEndian.{slice, Bytes}
 use Rattle.format.proofs.Bool.{not-both}
 use Rattle.format.proofs.Count.{occurs}
 use Rattle.structure.specs.Structure.{Block, free, Structure, sizes, start, encode, decodeZone}
-use Rattle.structure.proofs.Valid.{handlesOf, Valid}
+use Rattle.structure.specs.Valid.{handlesOf, Valid}
 use Rattle.structure.proofs.Table.{Whole, encode-zone}
 use Rattle.structure.proofs.Sound.{valid-zone}
 use Rattle.structure.proofs.Round.{length-is}

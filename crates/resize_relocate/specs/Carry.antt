@@ -4,14 +4,14 @@ use mathlib.Core.List.{List}
 use mathlib.Core.Bool.{Bool}
 use Prim.Native.Nat.{ℕ, _+_, _%_, _<_, _≤_}
 use lib.ListN.{length}
-use Rattle.format.proofs.Count.{occurs}
+use Rattle.format.specs.Occurs.{occurs}
 use Rattle.structure.specs.Structure.{Structure, sizes, start, decodeZone}
-use Rattle.structure.proofs.Valid.{handlesOf}
+use Rattle.structure.specs.Valid.{handlesOf}
 use Rattle.access.specs.Edit.{IsZone, placeIn, dataIn, dataOf}
 use Rattle.row.specs.Row.{bytesOf}
 use Rattle.find_bay.specs.Spots.{Spot, some, bays, firstFit}
 use Rattle.release.specs.Release.{SpanIn}
-use Rattle.surgery.proofs.Carved.{carvedFrom}
+use Rattle.surgery.specs.Carved.{carvedFrom}
 use Rattle.allocate_relocatable.specs.Site.{Fit, HoleOf}
 use Rattle.resize_move.specs.Move.{Apart, movedBytes}
 use Rattle.resize_move.specs.Relocated.{OtherBay}

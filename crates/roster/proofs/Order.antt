@@ -11,7 +11,7 @@ use lib.ListN.{length}
 use Rattle.format.specs.WellFormed.{mastersField, offsets}
 use Rattle.format.proofs.Count.{one, occurs, one-same, one-other}
 use Rattle.structure.specs.Structure.{Block, free, fixed, reloc, start, placeOf, relocCount, decodeZone}
-use Rattle.structure.proofs.Valid.{handlesOf, Valid}
+use Rattle.structure.specs.Valid.{handlesOf, Valid}
 use Rattle.structure.proofs.Round.{place-none, offset-le}
 use Rattle.structure.proofs.Sound.{valid-zone}
 use Rattle.structure.proofs.Table.{count-is}

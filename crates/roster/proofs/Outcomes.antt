@@ -11,7 +11,7 @@ use Rattle.block_type.specs.Limits.{recordSize}
 use Rattle.format.specs.WellFormed.{wellFormed}
 use Rattle.format.proofs.Count.{one, occurs}
 use Rattle.structure.specs.Structure.{Block, free, fixed, reloc, start, count, decode}
-use Rattle.structure.proofs.Valid.{handlesOf}
+use Rattle.structure.specs.Valid.{handlesOf}
 use Rattle.structure.proofs.Sound.{valid}
 use Rattle.structure.proofs.Round.{offset-le}
 use Rattle.calls.specs.Calls.{Card, Answer, roster}

@@ -8,7 +8,7 @@ use mir.Val.{Fits}
 use mir.Syntax.{w32}
 use Rattle.bigendian.specs.BigEndian.{toBE, overwrite}
 use Rattle.structure.specs.Structure.{Block, free, Structure, sizes, start, len, encode, decodeZone}
-use Rattle.structure.proofs.Valid.{Valid}
+use Rattle.structure.specs.Valid.{Valid}
 use Rattle.structure.proofs.Table.{Whole, encode-zone}
 use Rattle.structure.proofs.Sound.{valid-zone}
 use Rattle.access.specs.Edit.{IsZone, whole-of}

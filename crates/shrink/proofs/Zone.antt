@@ -7,7 +7,7 @@ use native.Mathlib.Omega.{arith}
 use lib.ListN.{drop}
 use Rattle.bigendian.specs.BigEndian.{fromBE, slice}
 use Rattle.structure.specs.Structure.{Structure, start, decodeZone}
-use Rattle.structure.proofs.Valid.{Valid}
+use Rattle.structure.specs.Valid.{Valid}
 use Rattle.structure.proofs.Sound.{valid-zone}
 use Rattle.access.specs.Edit.{IsZone, whole-of}
 use Rattle.row.specs.Row.{blocksOf, Sound}

@@ -9,8 +9,8 @@ use Rattle.structure.specs.Structure.{Block, Structure, decode, encode}
 use Rattle.calls.specs.Calls.{told}
 use Rattle.zone.specs.OnBytes.{Result, result}
 use Rattle.find_bay.specs.Spots.{freeTotal, Choice, none, some}
-use Rattle.bay_changes.proofs.TakeHigh.{takeOff}
-use Rattle.take_high.proofs.Numbers.{highFor}
+use Rattle.bay_changes.specs.TakeOff.{takeOff}
+use Rattle.take_high.specs.Highest.{highFor}
 
 -- the last bay: every bay's sum reaches 0
 abbrev pub lastBay : Structure → Choice

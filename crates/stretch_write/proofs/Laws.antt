@@ -12,7 +12,7 @@ use borrow.Author.Tests.{ne-eqb, leb-true}
 use Rattle.bigendian.specs.BigEndian.{Bytes, overwrite}
 use Rattle.format.specs.WellFormed.{wellFormed, zoneOf, lengthField}
 use Rattle.structure.specs.Structure.{Structure, start, len, encode, decode}
-use Rattle.structure.proofs.Valid.{Valid}
+use Rattle.structure.specs.Valid.{Valid}
 use Rattle.structure.proofs.Round.{length-is}
 use Rattle.structure.proofs.Sound.{valid}
 use Rattle.structure.proofs.Table.{whole, encode-decode}

@@ -1,3 +1,4 @@
 pub mod Refill
 pub mod Laws
 pub mod Outcomes
+pub mod Hardware

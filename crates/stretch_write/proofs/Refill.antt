@@ -12,7 +12,7 @@ use Rattle.bigendian.specs.BigEndian.{toBE, overwrite}
 use Rattle.bigendian.proofs.Laws.{length-toBE}
 use Rattle.format.proofs.Count.{occurs, offsets, length-offsets}
 use Rattle.structure.specs.Structure.{Block, free, fixed, reloc, Structure, size, sizes, relocCount, count, start, len, encodeBlock, placeOf, nextOf, value, words, join, header, encode}
-use Rattle.structure.proofs.Valid.{handlesOf, Valid}
+use Rattle.structure.specs.Valid.{handlesOf, Valid}
 use Rattle.structure.proofs.Round.{offset-le}
 use Rattle.access.proofs.Store.{write-right, write-left, length-words, length-header}
 use Rattle.row.specs.Row.{Sound, bytesOf}

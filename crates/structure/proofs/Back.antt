@@ -20,7 +20,7 @@ use Rattle.format.proofs.Count.{one, occurs, All, offsets, one-same, one-other,
 use Rattle.format.proofs.Live.{chain}
 use Rattle.structure.specs.Structure.{Block, free, fixed, reloc, Structure, size, encodeBlock, decodeBlock, byType, sizes, relocCount, count, start, len, headOf, placeOf, nextOf, value, words, join, header, encode, decodeZone, decode}
 use Rattle.structure.proofs.Codec.{blocks-join, size-free, size-used}
-use Rattle.structure.proofs.Valid.{handlesOf, Tiled, Valid}
+use Rattle.structure.specs.Valid.{handlesOf, Tiled, Valid}
 
 -- ---- one block
 

@@ -3,4 +3,3 @@ pub mod Codec
 pub mod Round
 pub mod Sound
 pub mod Table
-pub mod Valid

@@ -19,7 +19,7 @@ use Rattle.format.proofs.Count.{one, occurs, All, offsets, one-same, one-other,
 use Rattle.format.proofs.Live.{chain}
 use Rattle.structure.specs.Structure.{Block, free, fixed, reloc, Structure, size, encodeBlock, decodeBlock, sizes, relocCount, count, start, len, headOf, placeOf, nextOf, value, words, join, header, encode, decodeZone, decode}
 use Rattle.structure.proofs.Codec.{blocks-join}
-use Rattle.structure.proofs.Valid.{handlesOf, Tiled, Valid}
+use Rattle.structure.specs.Valid.{handlesOf, Tiled, Valid}
 use Rattle.structure.proofs.Back.{Placed, Encs, encs, Linked, chain-links, chain-back, length-words, words-at}
 
 -- ---- the header

@@ -19,7 +19,7 @@ use Rattle.structure.specs.Structure.{Block, free, fixed, reloc, Structu
 use Rattle.structure.proofs.Codec.{bytes-drop, bytes-left, bytes-right, join-blocks, size-used}
 use Rattle.structure.proofs.Table.{Whole, whole, by, count-is, len-is}
 use Rattle.structure.proofs.Round.{offset-is}
-use Rattle.structure.proofs.Valid.{handlesOf, Tiled, Valid}
+use Rattle.structure.specs.Valid.{handlesOf, Tiled, Valid}
 
 module _ (z : List ℕ) (first : ℕ) where
   handle-dec : (prev : Bool) (at : ℕ) (b : List ℕ) (bs : List Block) → blockOk z first prev at b ≡ true

@@ -13,7 +13,7 @@ use lib.Seq.{drop-drop, drop-at, take-at}
 use Rattle.bigendian.specs.BigEndian.{toBE, slice, overwrite, Bytes}
 use Rattle.format.proofs.Count.{one, occurs, offsets, one-same, one-other}
 use Rattle.structure.specs.Structure.{Block, free, fixed, reloc, Structure, size, sizes, encodeBlock, count, start, len, headOf, placeOf, nextOf, value, join, encode}
-use Rattle.structure.proofs.Valid.{handlesOf, Tiled, Valid}
+use Rattle.structure.specs.Valid.{handlesOf, Tiled, Valid}
 use Rattle.structure.proofs.Round.{next-none, offset-is, rest-is}
 use Rattle.row.specs.Row.{bytesOf, Sound}
 use Rattle.row.proofs.Laws.{bytes-append, bytes-long, sound-left, sound-right}
@@ -22,14 +22,7 @@ use Rattle.compact_bay.proofs.Squeeze.{gap-sound, gap-sizes}
 use Rattle.surgery.proofs.Image.{img, encode-img, upd, img-chain, img-master, img-rest}
 use Rattle.surgery.proofs.Sound.{handle-in, handle-once, valid-sound, lastFree, tiled-left, tiled-right, tiled-join, tiled-false}
 use Rattle.surgery.proofs.Replace.{replaced, replaced-valid, place-same, place-mid}
-
--- the blocks that take the place of a free block of n bytes
-abbrev pub carvedFrom : ℕ → ℕ → ℕ → List Block
-carvedFrom need h n = reloc h (replicate (need - 4) 0) ∷ gapOf (n - need)
-
--- the writes: the blocks, the chain's head, the master
-abbrev pub carvedBytes : List ℕ → ℕ → ℕ → ℕ → ℕ → ℕ → List ℕ
-carvedBytes z need h next at n = overwrite (overwrite (overwrite z at (bytesOf (carvedFrom need h n))) 12 (toBE 2 next)) h (toBE 4 (at + 4))
+pub use Rattle.surgery.specs.Carved.{carvedFrom, carvedBytes}
 
 -- the bytes of a stretch of a zone
 pub part-bytes : (s : Structure) → Valid s → (pre mid post : List Block) → s .blocks ≡ pre ++ (mid ++ post) → slice (encode s) (start s + sizes pre) (sizes mid) ≡ bytesOf mid

@@ -12,7 +12,7 @@ use lib.ListN.{length, set, length-map}
 use Rattle.bigendian.specs.BigEndian.{toBE, overwrite}
 use Rattle.format.proofs.Count.{one, occurs, offsets, one-same, one-other, length-offsets}
 use Rattle.structure.specs.Structure.{Block, free, fixed, reloc, Structure, size, encodeBlock, count, start, len, headOf, placeOf, value, join, encode}
-use Rattle.structure.proofs.Valid.{handlesOf}
+use Rattle.structure.specs.Valid.{handlesOf}
 use Rattle.structure.proofs.Round.{offset-is}
 use Rattle.row.specs.Row.{bytesOf}
 use Rattle.release.proofs.ZoneLayout.{lay, encode-lay, lay-chain, lay-master, lay-rest}

@@ -8,7 +8,7 @@ use lib.ListN.{length, replicate, length-replicate, length-append}
 use Rattle.bigendian.specs.BigEndian.{toBE, overwrite}
 use Rattle.format.proofs.Count.{occurs, offsets}
 use Rattle.structure.specs.Structure.{Block, free, fixed, reloc, Structure, size, sizes, count, start, len, headOf, placeOf, nextOf, value, encode}
-use Rattle.structure.proofs.Valid.{handlesOf, Tiled, Valid}
+use Rattle.structure.specs.Valid.{handlesOf, Tiled, Valid}
 use Rattle.row.specs.Row.{bytesOf, Sound}
 use Rattle.row.proofs.Laws.{sound-append, sound-left, sound-right}
 use Rattle.find_bay.specs.Spots.{gapOf}

@@ -11,7 +11,7 @@ use lib.ListN.{length, length-append, replicate, length-replicate}
 use Rattle.bigendian.specs.BigEndian.{toBE, overwrite}
 use Rattle.format.proofs.Count.{one, occurs, offsets, one-same, one-other, occurs-append}
 use Rattle.structure.specs.Structure.{Block, free, fixed, reloc, Structure, size, sizes, relocCount, encodeBlock, count, start, len, headOf, placeOf, nextOf, value, join, encode}
-use Rattle.structure.proofs.Valid.{handlesOf, Tiled, Valid}
+use Rattle.structure.specs.Valid.{handlesOf, Tiled, Valid}
 use Rattle.structure.proofs.Round.{next-none, place-none}
 use Rattle.row.specs.Row.{bytesOf, Sound}
 use Rattle.row.proofs.Laws.{bytes-append, bytes-long, sound-left, sound-right}

@@ -7,10 +7,11 @@ use native.Mathlib.Omega.{arith}
 use lib.ListN.{length}
 use Rattle.format.proofs.Count.{one, occurs, offsets, one-same}
 use Rattle.structure.specs.Structure.{Block, free, fixed, reloc, Structure, size, sizes, count, start, len}
-use Rattle.structure.proofs.Valid.{handlesOf, Tiled, Valid}
+use Rattle.structure.specs.Valid.{handlesOf, Tiled, Valid}
 use Rattle.structure.proofs.Round.{offset-is, offset-le}
 use Rattle.row.specs.Row.{Sound, freeB}
 use Rattle.compact_bay.specs.Tidy.{Low}
+pub use Rattle.surgery.specs.Bays.{lastFree, firstFree}
 
 tiled-sound : (prev : Bool) (bs : List Block) → Tiled prev bs → ((h : ℕ) → 0 < occurs h (handlesOf bs) → h < 65536) → Sound bs
 unfolding handlesOf occurs
@@ -52,15 +53,6 @@ low-left lim (fixed d ∷ a) b x = low-left lim a b x
 low-left lim (reloc h d ∷ a) b x = (x .0, x .1, low-left lim a b (x .2))
 
 -- ---- tiled lists, in parts
-
--- whether the last block is free; prev where there is none
-abbrev pub lastFree : Bool → List Block → Bool
-lastFree prev [] = prev
-lastFree prev (b ∷ bs) = lastFree (freeB b) bs
-
-abbrev pub firstFree : List Block → Bool
-firstFree [] = false
-firstFree (b ∷ bs) = freeB b
 
 pub tiled-left : (prev : Bool) (a b : List Block) → Tiled prev (a ++ b) → Tiled prev a
 tiled-left prev [] b t = tt

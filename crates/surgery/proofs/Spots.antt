@@ -9,7 +9,7 @@ use borrow.Author.Tests.{eqb-true, eqb-false, leb-true}
 use lib.ListN.{length}
 use Rattle.bigendian.specs.BigEndian.{slice}
 use Rattle.structure.specs.Structure.{Block, free, fixed, reloc, Structure, size, sizes, start, encode}
-use Rattle.structure.proofs.Valid.{handlesOf, Tiled, Valid}
+use Rattle.structure.specs.Valid.{handlesOf, Tiled, Valid}
 use Rattle.row.specs.Row.{freeB, fixedB, Sound, blocksOf, bytesOf}
 use Rattle.row.proofs.Laws.{sound-left, sound-right, tiles-join}
 use Rattle.find_bay.specs.Spots.{freeTotal, Spot, spot, put, baysFrom, bays, holesFrom, holes, Choice, none, some, firstFit, used, gapOf, squeeze}
@@ -18,6 +18,7 @@ use Rattle.compact_bay.proofs.Squeeze.{squeeze-sizes, squeeze-sound, squeeze-ha
 use Rattle.surgery.proofs.Sound.{valid-sound, lastFree, firstFree, tiled-left, tiled-right, tiled-join, tiled-any, tiled-false}
 use Rattle.surgery.proofs.Replace.{start-same, moved, moved-valid, sizes-parts}
 use Rattle.surgery.proofs.Carved.{part-bytes}
+pub use Rattle.surgery.specs.Bays.{IsBay}
 
 abbrev pub AllS : (Spot → Type 0) → List Spot → Type 0
 AllS P [] = Unit {0}
@@ -38,13 +39,6 @@ fit-all P need (q ∷ ps) p a e = go (leb need (freeTotal (q .inside))) refl e (
         → P p × (need ≤ freeTotal (p .inside))
     go true l x f = subst (λ (r : Spot). P r × (need ≤ freeTotal (r .inside))) (some-is q p x) (a .0, leb-true need (freeTotal (q .inside)) l)
     go false l x f = f x
-
--- ---- bays: what stands before ends with no free block, what stands after begins with none
-
-pub record IsBay (bs : List Block) (p : Spot) : Type 0 where
-  pub parts : bs ≡ put p (p .inside)
-  pub left : lastFree false (p .before) ≡ false
-  pub right : firstFree (p .after) ≡ false
 
 last-snoc : (q : Bool) (a : List Block) (b : Block) → lastFree q (a ++ b ∷ []) ≡ freeB b
 last-snoc q [] b = refl

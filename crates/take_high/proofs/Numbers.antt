@@ -13,6 +13,7 @@ use Rattle.find_bay.proofs.Numbers.{sizes-append, free-append}
 use Rattle.bay_spots.proofs.Spots.{orSpot, lastBy}
 use Rattle.bay_changes.proofs.TakeHigh.{endFree}
 use Rattle.take_high.specs.High.{HighN, highN, noHigh, better, findHigh, highAt}
+pub use Rattle.take_high.specs.Highest.{reaching, highFor}
 
 sizes-snoc : (a : List Block) (b : Block) → sizes (a ++ b ∷ []) ≡ sizes a + size b
 unfolding sizes
@@ -34,13 +35,6 @@ end-snoc : (a : List Block) (b : Block) → endFree (a ++ b ∷ []) ≡ freeSize
 end-snoc [] b = refl
 end-snoc (x ∷ []) b = refl
 end-snoc (x ∷ (y ∷ a)) b = end-snoc (y ∷ a) b
-
--- whose sum reaches the need
-abbrev pub reaching : ℕ → List Block → Bool
-reaching need bs = leb need (freeTotal bs)
-
-abbrev pub highFor : ℕ → List Block → Choice
-highFor need bs = lastBy (reaching need) (bays bs)
 
 or-or : (a b c : Choice) → orSpot (orSpot a b) c ≡ orSpot a (orSpot b c)
 or-or none b c = refl

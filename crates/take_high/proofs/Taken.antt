@@ -10,7 +10,7 @@ use borrow.Author.Tests.{ne-eqb, le-leb, lt-leb, leb-true, leb-false}
 use lib.ListN.{length, replicate, length-append, length-take, length-drop}
 use Rattle.bigendian.specs.BigEndian.{slice, overwrite}
 use Rattle.structure.specs.Structure.{Block, free, fixed, reloc, Structure, sizes, encodeBlock, start, join, encode, decodeZone}
-use Rattle.structure.proofs.Valid.{Valid}
+use Rattle.structure.specs.Valid.{Valid}
 use Rattle.structure.proofs.Table.{Whole, encode-zone}
 use Rattle.structure.proofs.Sound.{valid-zone}
 use Rattle.structure.proofs.Round.{length-is}

@@ -7,7 +7,7 @@ use native.Mathlib.Omega.{arith}
 use lib.ListN.{length, drop}
 use Rattle.bigendian.specs.BigEndian.{fromBE, slice}
 use Rattle.structure.specs.Structure.{Structure, start, decodeZone}
-use Rattle.structure.proofs.Valid.{Valid}
+use Rattle.structure.specs.Valid.{Valid}
 use Rattle.structure.proofs.Table.{Whole, encode-zone, start-is}
 use Rattle.structure.proofs.Sound.{valid-zone}
 use Rattle.structure.proofs.Round.{rest-is}

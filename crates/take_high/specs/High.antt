@@ -6,7 +6,7 @@ use lib.Dec.{leb}
 use Rattle.structure.specs.Structure.{Block, size, sizes}
 use Rattle.row.specs.Row.{fixedB}
 use Rattle.find_bay.specs.Spots.{freeSize, freeTotal, Choice, none, some}
-use Rattle.bay_changes.proofs.TakeHigh.{endFree}
+use Rattle.bay_changes.specs.TakeOff.{endFree}
 
 -- a bay from start to end; tail is the size of its last block where that is free, else 0
 pub record HighN : Type 0 where

@@ -1,2 +1,3 @@
 pub mod High
 pub mod Taken
+pub mod Highest

@@ -11,8 +11,8 @@ use Rattle.access.specs.Edit.{IsZone}
 use Rattle.row.specs.Row.{bytesOf}
 use Rattle.find_bay.specs.Spots.{freeTotal, Spot, gapOf}
 use Rattle.compact_bay.specs.Tidy.{tidied}
-use Rattle.surgery.proofs.Spots.{IsBay}
-use Rattle.bay_changes.proofs.TakeHigh.{endFree}
+use Rattle.surgery.specs.Bays.{IsBay}
+use Rattle.bay_changes.specs.TakeOff.{endFree}
 
 -- the free block of k bytes that ends at e, without its last n bytes, which are zero
 abbrev pub trimmed : List ℕ → ℕ → ℕ → ℕ → List ℕ

@@ -10,7 +10,7 @@ use lib.ListN.{length}
 use Rattle.bigendian.specs.BigEndian.{Bytes}
 use Rattle.format.specs.WellFormed.{wellFormed, lengthField, zoneOf}
 use Rattle.structure.specs.Structure.{Block, free, fixed, reloc, size, sizes, start, decode}
-use Rattle.structure.proofs.Valid.{Tiled}
+use Rattle.structure.specs.Valid.{Tiled}
 use Rattle.structure.proofs.Sound.{valid}
 use Rattle.structure.proofs.Table.{start-is, whole}
 use Rattle.release.proofs.Freed.{sizes-append}

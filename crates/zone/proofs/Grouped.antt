@@ -7,7 +7,7 @@ use native.Mathlib.Omega.{arith}
 use lib.ListN.{length}
 use Rattle.format.proofs.Count.{occurs, offsets}
 use Rattle.structure.specs.Structure.{Structure, Block, free, fixed, reloc, sizes, count, start, len}
-use Rattle.structure.proofs.Valid.{handlesOf, Tiled, Valid}
+use Rattle.structure.specs.Valid.{handlesOf, Tiled, Valid}
 use Rattle.zone.specs.Bays.{Bays, last, more, AllS}
 use Rattle.zone.proofs.BaysLaws.{Like, like-last, like-more}
 use Rattle.zone.specs.Bay.{Item, itemSize, Cell, free as gapCell, held, baySize, items}

@@ -13,7 +13,7 @@ use Rattle.bigendian.specs.BigEndian.{Bytes}
 use Rattle.format.proofs.Count.{one, occurs, offsets, All, sumOver, sum-occurs, one-same, one-other, one-comm, length-offsets, occurs-append}
 use Rattle.structure.proofs.Round.{offset-le}
 use Rattle.structure.specs.Structure.{Structure, Block, free, fixed, reloc, sizes, relocCount, count, start, len}
-use Rattle.structure.proofs.Valid.{handlesOf, Tiled, Valid}
+use Rattle.structure.specs.Valid.{handlesOf, Tiled, Valid}
 use Rattle.zone.specs.Bays.{Bays, last, more, sumS, AllS}
 use Rattle.zone.specs.Bay as Bay
 use Rattle.zone.specs.Bay.{Item, is, itemSize, Cell, free as gapCell, held, baySize, items}

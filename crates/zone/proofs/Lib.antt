@@ -8,6 +8,7 @@ pub mod Bounds
 pub mod Bytes
 pub mod Clean
 pub mod Encoders
+pub mod FirstCause
 pub mod FixedWalk
 pub mod GroupLaws
 pub mod Grouped
@@ -15,6 +16,7 @@ pub mod Handles
 pub mod InBuffer
 pub mod Keep
 pub mod Matching
+pub mod NoBay
 pub mod Outcomes
 pub mod Own
 pub mod Pack

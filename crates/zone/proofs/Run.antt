@@ -9,7 +9,7 @@ use lib.Seq.{drop-at}
 use Rattle.bigendian.specs.BigEndian.{Bytes}
 use Rattle.format.specs.WellFormed.{wellFormed, lengthField}
 use Rattle.structure.specs.Structure.{Structure, len, encode, decode}
-use Rattle.structure.proofs.Valid.{Valid}
+use Rattle.structure.specs.Valid.{Valid}
 use Rattle.structure.proofs.Round.{well-formed, decode-encode, length-is}
 use Rattle.structure.proofs.Sound.{valid}
 use Rattle.structure.proofs.Table.{encode-decode}

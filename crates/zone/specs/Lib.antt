@@ -1,8 +1,10 @@
 pub mod Bay
 pub mod Bays
+pub mod Causes
 pub mod Census
 pub mod Claim
 pub mod Group
+pub mod Hardware
 pub mod OnBays
 pub mod OnBytes
 pub mod Promise

@@ -5,7 +5,8 @@ use mathlib.Core.Bool.{Bool, true, false}
 use Prim.Native.Nat.{ℕ, _+_, _*_, _%_, _≤_}
 use lib.ListN.{length}
 use Rattle.bigendian.specs.BigEndian.{Bytes}
-use Rattle.format.proofs.Count.{occurs, offsets}
+use Rattle.format.specs.WellFormed.{offsets}
+use Rattle.format.specs.Occurs.{occurs}
 use Rattle.structure.specs.Structure.{Block, free, fixed, reloc, Structure, count, len}
 
 -- the handles of the blocks

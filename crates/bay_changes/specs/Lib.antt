@@ -1,0 +1,2 @@
+pub mod TakeOff
+pub mod OwnBay

@@ -1,0 +1,43 @@
+-- What hardware stores at a fixed block's pointer is what a write by that pointer leaves.
+use mathlib.Core.Path.{_≡_, refl, sym, ap, _∙_}
+use mathlib.Core.Bool.{Bool, true, false, cond}
+use mathlib.Core.List.{List, [], _∷_}
+use Prim.Native.Nat.{ℕ, _+_, _≤_}
+use native.Mathlib.Omega.{arith}
+use lib.ListN.{length, take}
+use lib.Seq.{take-length}
+use lib.Dec.{eqb}
+use borrow.Author.Tests.{eqb-true}
+use Rattle.bigendian.specs.BigEndian.{Bytes, overwrite}
+use Rattle.format.specs.WellFormed.{zoneOf}
+use Rattle.structure.specs.Structure.{Block, free, fixed, reloc, size, start, decodeZone}
+use Rattle.calls.specs.Calls.{by-pointer, write}
+use Rattle.zone.specs.OnBytes.{Result, callBytes}
+use Rattle.zone.specs.Hardware.{store, HardwareWrites}
+use Rattle.locate.specs.Locate.{placeAmong, targetPlace}
+use Rattle.stretch.specs.Stretch.{stretchNumber}
+use Rattle.stretch.proofs.Laws.{accepted}
+use Rattle.stretch_write.proofs.Laws.{write-is}
+
+-- the data of the block that a pointer names begin at the pointer
+pointer-is : (p at : ℕ) (bs : List Block) → (placeAmong (by-pointer p) at bs ≡ 0 → ⊥) → placeAmong (by-pointer p) at bs ≡ p
+unfolding placeAmong
+pointer-is p at [] l = absurd (l refl)
+pointer-is p at (free n ∷ bs) l = pointer-is p (at + size (free n)) bs l
+pointer-is p at (reloc h d ∷ bs) l = pointer-is p (at + size (reloc h d)) bs l
+pointer-is p at (fixed d ∷ bs) l = go (eqb p (at + 2)) refl l (pointer-is p (at + size (fixed d)) bs)
+  where
+    go : {later : ℕ} (t : Bool) → eqb p (at + 2) ≡ t → (cond t (at + 2) later ≡ 0 → ⊥) → ((later ≡ 0 → ⊥) → later ≡ p) → cond t (at + 2) later ≡ p
+    go true e k i = sym (eqb-true p (at + 2) e)
+    go false e k i = i k
+
+target-is : (p : ℕ) (z : List ℕ) → (targetPlace (by-pointer p) z ≡ 0 → ⊥) → targetPlace (by-pointer p) z ≡ p
+unfolding targetPlace
+target-is p z l = pointer-is p (start (decodeZone z)) (decodeZone z .blocks) l
+
+pub hardware-writes : HardwareWrites
+hardware-writes p i w s y done =
+    let is = write-is (by-pointer p) i (length w) w s y in
+    let none : stretchNumber (by-pointer p) i (length w) (length w) s ≡ 0 = sym (ap (λ (r : Result). r .answer .number) is) ∙ done in
+    let here : targetPlace (by-pointer p) (zoneOf s) ≡ p = target-is p (zoneOf s) (accepted s (by-pointer p) i (length w) (length w) none .live) in
+    ap (λ (r : Result). r .bytes) is ∙ (rw (none, here, take-length w))
