@@ -23,7 +23,7 @@ use Rattle.walk.specs.Walker.{blocksAt, Seen, blockAt, freeB}
 use Rattle.walk.proofs.Laws.{tiles-end}
 use Rattle.zone.specs.Census.{limitsFrom, lowerLimits, countIf, countsOf, freeWords, census}
 use Rattle.tell.proofs.Opened.{well}
-use Rattle.census.specs.Tally.{counted, Stratum, adding, OneMore, Tallied, CountsIn, counts-in}
+use Rattle.census.specs.Tally.{counted, Stratum, adding, CountsIn, counts-in}
 
 -- ---- the stratum
 
@@ -85,13 +85,17 @@ set-few cs j k b l h = go (ℕ-discrete k j)
     go (yes e) = rw (e, getD-set-same cs j (getD cs j 0 + 1) 0 l) (omega (arith, rw e at h))
     go (no e) = rw (getD-set-other cs j k (getD cs j 0 + 1) 0 e) (omega arith)
 
-pub counts-more : (cs : List ℕ) (w j : ℕ) → length cs ≡ 19 → j < 19 → Stratum j w → OneMore cs w (set cs j (getD cs j 0 + 1))
+-- ds are the counts cs with one block of w words more
+record OneMore (cs : List ℕ) (w : ℕ) (ds : List ℕ) : Type 0 where
+  same : (ws : List ℕ) → adding ds (countsOf lowerLimits ws) ≡ adding cs (countsOf lowerLimits (w ∷ ws))
+  few : (k b : ℕ) → getD cs k 0 ≤ b → getD ds k 0 ≤ b + 1
+
+counts-more : (cs : List ℕ) (w j : ℕ) → length cs ≡ 19 → j < 19 → Stratum j w → OneMore cs w (set cs j (getD cs j 0 + 1))
 counts-more cs w j e l t = record {
   same = λ ws.
       let z : 0 + j ≡ j = omega arith in
       let f : 0 + suc j ≡ j + 1 = omega arith in
       rw e at (one-more cs 0 j w ws (omega arith) (rw z (t .low)) (λ k. rw f (t .high (omega arith))));
-  long = length-set cs j (getD cs j 0 + 1) ∙ e;
   few = λ k b. set-few cs j k b (omega arith);
 }
 
@@ -109,19 +113,30 @@ words-used (free n) bs e = let z : _≡_ {A = ℕ} 0 1 = cc in let x : ⊥ = ome
 words-used (fixed d) bs e = refl
 words-used (reloc h d) bs e = refl
 
-module _ (z : List ℕ) (first p n : ℕ) (s : Seen z first p n) (f : Bool) (ef : f ≡ isFree (drop p z)) (cs : List ℕ) where
-  pub block-free : (ds : List ℕ) → f ≡ true → ((k : ℕ) → getD cs k 0 ≤ p) → OneMore cs (n / 2) ds → Tallied z p n cs ds
-  block-free ds q low o = record {
-    same = o .same (freeWords (blocksAt z (p + n))) ∙ (rw (s .blocks, words-free (blockAt z p) (blocksAt z (p + n)) (s .kind ∙ sym ef ∙ q), s .bytes));
-    long = o .long;
-    few = λ k. omega (arith, o .few k p (low k), s .low);
-  }
+-- cs are the counts cs₀ with the free blocks of z from first up to p
+pub record Tally (z : List ℕ) (first p : ℕ) (cs₀ cs : List ℕ) : Type 0 where
+  pub long : length cs ≡ 19
+  pub few : (k : ℕ) → getD cs k 0 ≤ p
+  pub same : adding cs (countsOf lowerLimits (freeWords (blocksAt z p))) ≡ adding cs₀ (countsOf lowerLimits (freeWords (blocksAt z first)))
 
-  pub block-used : f ≡ false → length cs ≡ 19 → ((k : ℕ) → getD cs k 0 ≤ p) → Tallied z p n cs cs
-  block-used q e low = record {
-    same = rw (s .blocks, words-used (blockAt z p) (blocksAt z (p + n)) (s .kind ∙ sym ef ∙ q));
-    long = e;
-    few = λ k. omega (arith, low k);
+pub tally-start : (z : List ℕ) (first : ℕ) (cs : List ℕ) → length cs ≡ 19 → ((k : ℕ) → getD cs k 0 ≤ first) → Tally z first first cs cs
+tally-start z first cs e low = record { long = e; few = low; same = refl }
+
+module _ (z : List ℕ) (first p n : ℕ) (s : Seen z first p n) (f : Bool) (ef : f ≡ isFree (drop p z)) (cs₀ cs ds : List ℕ) (t : Tally z first p cs₀ cs) where
+  pub tally-free : (j : ℕ) → f ≡ true → j < 19 → Stratum j (n / 2) → ds ≡ set cs j (getD cs j 0 + 1) → Tally z first (p + n) cs₀ ds
+  tally-free j q l i e =
+      let o = counts-more cs (n / 2) j (t .long) l i in
+      rw e record {
+        long = length-set cs j (getD cs j 0 + 1) ∙ t .long;
+        few = λ k. omega (arith, o .few k p (t .few k), s .low);
+        same = o .same (freeWords (blocksAt z (p + n))) ∙ (rw (s .blocks, words-free (blockAt z p) (blocksAt z (p + n)) (s .kind ∙ sym ef ∙ q), s .bytes) at (t .same));
+      }
+
+  pub tally-used : f ≡ false → ds ≡ cs → Tally z first (p + n) cs₀ ds
+  tally-used q e = rw e record {
+    long = t .long;
+    few = λ k. omega (arith, t .few k);
+    same = rw (s .blocks, words-used (blockAt z p) (blocksAt z (p + n)) (s .kind ∙ sym ef ∙ q)) at (t .same);
   }
 
 -- ---- all blocks
@@ -157,23 +172,16 @@ zeros-low zero k p = omega arith
 zeros-low (suc n) zero p = omega arith
 zeros-low (suc n) (suc k) p = zeros-low n k p
 
-pub all-start : (ws : List ℕ) → adding (replicate 19 0) (countsOf lowerLimits ws) ≡ countsOf lowerLimits ws
-all-start ws = adding-zeros 19 (countsOf lowerLimits ws) (length-counts 19 0 ws)
-
-pub all-step : (z : List ℕ) (first p n : ℕ) (cs ds : List ℕ) → Tallied z p n cs ds
-    → adding cs (countsOf lowerLimits (freeWords (blocksAt z p))) ≡ countsOf lowerLimits (freeWords (blocksAt z first))
-    → adding ds (countsOf lowerLimits (freeWords (blocksAt z (p + n)))) ≡ countsOf lowerLimits (freeWords (blocksAt z first))
-all-step z first p n cs ds t inv = t .same ∙ inv
-
-pub all-end : (z : List ℕ) (first p : ℕ) (cs : List ℕ) → length z ≤ p → adding cs (countsOf lowerLimits (freeWords (blocksAt z p))) ≡ countsOf lowerLimits (freeWords (blocksAt z first))
-    → cs ≡ countsOf lowerLimits (freeWords (blocksAt z first))
+pub tally-end : (z : List ℕ) (first p : ℕ) (cs₀ cs : List ℕ) → length z ≤ p → Tally z first p cs₀ cs → cs ≡ adding cs₀ (countsOf lowerLimits (freeWords (blocksAt z first)))
 unfolding freeWords
-all-end z first p cs l inv = sym (zeros-added 19 cs) ∙ ap (adding cs) (sym (zero-counts 19 0)) ∙ (rw (tiles-end z p l) at inv)
+tally-end z first p cs₀ cs l t = sym (zeros-added 19 cs) ∙ ap (adding cs) (sym (zero-counts 19 0)) ∙ (rw (tiles-end z p l) at (t .same))
 
 -- ---- the call
 
-pub in-law : (z : List ℕ) (first : ℕ) (cs : List ℕ) → first ≡ firstField z → cs ≡ countsOf lowerLimits (freeWords (blocksAt z first)) → CountsIn z cs
-in-law z first cs e q = counts-in (rw (← e) q)
+pub in-law : (z : List ℕ) (first : ℕ) (cs : List ℕ) → first ≡ firstField z → cs ≡ adding (replicate 19 0) (countsOf lowerLimits (freeWords (blocksAt z first))) → CountsIn z cs
+in-law z first cs e q =
+    let ws = freeWords (blocksAt z first) in
+    counts-in (rw (← e) (q ∙ adding-zeros 19 (countsOf lowerLimits ws) (length-counts 19 0 ws)))
 
 pub zone-short : (z : List ℕ) → IsZone z → length z ≤ 1048576
 zone-short z i = omega (arith, whole-of z i .all, whole-of z i .limit)
@@ -187,7 +195,3 @@ unfolding decode
 census-0 s ok l cs e q el y (counts-in c) =
     let h : wellFormed s ≡ true = well s ok e q in
     rw (h, c, el) (ap (λ (bs : List Block). counted 0 (countsOf lowerLimits (freeWords bs))) (tiles-are (zoneOf s) (is-zone (whole s (λ j. y j .fits) h))))
-
--- the counts stay below the largest number of their type
-pub counts-small : (cs : List ℕ) (p : ℕ) → p ≤ 1048576 → ((k : ℕ) → getD cs k 0 ≤ p) → ((k : ℕ) → getD cs k 0 < 4294967295)
-counts-small cs p l f k = omega (arith, f k)

@@ -1,11 +1,11 @@
 // The census: how many free blocks there are in each of nineteen strata.
 ghost use mathlib.Core.Path.{_≡_};
-ghost use Prim.Native.Nat.{ℕ, _+_, _/_, _^_, _<_, _≤_};
+ghost use Prim.Native.Nat.{ℕ, _^_, _<_, _≤_};
 ghost use lib.ListN.{length, getD};
-ghost use Rattle.walk.specs.Walker.{blocksAt, Edge, Seen};
+ghost use Rattle.walk.specs.Walker.{blocksAt, Edge};
 ghost use Rattle.access.specs.Edit.{IsZone};
 ghost use Rattle.zone.specs.Census.{countsOf, lowerLimits, freeWords, census};
-ghost use Rattle.census.specs.Tally.{counted, Stratum, OneMore, Tallied, CountsIn};
+ghost use Rattle.census.specs.Tally.{counted, Stratum, adding, CountsIn};
 
 // The refusal number, 0 for done, and the number of free blocks of each stratum.
 pub struct Counts {
@@ -60,39 +60,19 @@ fn stratum(words: u32) -> usize
     i
 }
 
-// The counts with one block more, of so many words.
-fn count_one(counts: [u32; 19], words: u32) -> [u32; 19]
-    requires { ⌜ (1 ≤ words) × (length counts ≡ 19) × ((k : ℕ) → getD counts k 0 < 4294967295) ⌝ }
-    ensures { λ r. ⌜ OneMore counts words r ⌝ }
+// The counts `before` with all free blocks of z, from `first` on, added.
+fn count_all(z: &[u8], first: usize, before: [u32; 19]) -> [u32; 19]
+    requires { ⌜ (Edge (now z) first first) × (first ≤ length (now z)) × (length (now z) ≤ 1048576) × (length before ≡ 19) × ((k : ℕ) → getD before k 0 ≤ first) ⌝ }
+    ensures { λ r. ⌜ r ≡ adding before (countsOf lowerLimits (freeWords (blocksAt (now (z .entry)) first))) ⌝ }
 {
-    let i = stratum(words);
-    let mut next = counts;
-    next[i] = next[i] + 1;
-    next
-}
-
-// The counts after the block of n bytes at p.
-fn count_block(z: &[u8], first: usize, p: usize, n: usize, counts: [u32; 19]) -> [u32; 19]
-    requires { ⌜ (Seen (now z) first p n) × (p < length (now z)) × (p ≤ 1048576) × (n ≤ 1048576) × (length counts ≡ 19) × ((k : ℕ) → getD counts k 0 ≤ p) ⌝ }
-    ensures { λ r. ⌜ Tallied (now (z .entry)) p n counts r ⌝ }
-{
-    if block_check::is_free(z, p) {
-        return count_one(counts, (n / 2) as u32);
-    }
-    counts
-}
-
-// The counts of all free blocks together.
-fn count_all(z: &[u8], first: usize) -> [u32; 19]
-    requires { ⌜ (Edge (now z) first first) × (first ≤ length (now z)) × (length (now z) ≤ 1048576) ⌝ }
-    ensures { λ r. ⌜ r ≡ countsOf lowerLimits (freeWords (blocksAt (now (z .entry)) first)) ⌝ }
-{
-    let mut counts = [0u32; 19];
+    let mut counts = before;
     let mut p = first;
     while p < z.len() {
         let n = walk::step(z, first, p);
-        let next = count_block(z, first, p, n, counts);
-        counts = next;
+        if block_check::is_free(z, p) {
+            let i = stratum((n / 2) as u32);
+            counts[i] = counts[i] + 1;
+        }
         p += n;
     }
     counts
@@ -104,7 +84,7 @@ fn count_in(z: &[u8]) -> [u32; 19]
     ensures { λ r. ⌜ CountsIn (now (z .entry)) r ⌝ }
 {
     let first = bigendian::get4(z, 4) as usize;
-    count_all(z, first)
+    count_all(z, first, [0u32; 19])
 }
 
 // All nineteen counts; 0 for each when refused.

@@ -3,7 +3,6 @@ use mathlib.Core.Path.{_≡_, refl, sym, ap, _∙_}
 use mathlib.Core.Bool.{Bool, true, cond, _&&_}
 use mathlib.Core.List.{List, _++_, append-assoc}
 use Prim.Native.Nat.{ℕ, zero, suc, _+_, _*_, _-_, _/_, _%_, _<_, _≤_}
-use native.Mathlib.Nat.{sub-zero}
 use native.Mathlib.Omega.{arith}
 use lib.Dec.{eqb, leb}
 use borrow.Author.Tests.{eq-eqb, ne-eqb, eqb-true, leb-true}
@@ -11,10 +10,11 @@ use lib.ListN.{length, take, replicate, length-append, length-replicate}
 use Rattle.bigendian.specs.BigEndian.{toBE, overwrite}
 use Rattle.bigendian.proofs.Laws.{length-toBE}
 use Rattle.memory.proofs.Writes.{write-none}
+use Rattle.memory.proofs.Slide.{write-before}
 use Rattle.format.proofs.Bool.{and-left, and-right}
 use Rattle.compact_bay.proofs.Part.{take-write, drop-write}
 use Rattle.zone.specs.OnBytes.{accepts}
-use Rattle.initialize.specs.Fresh.{sizeBytes, headBytes, linkAfter, chainBytes, freeBytes, freshBytes, Fresh}
+use Rattle.initialize.specs.Fresh.{sizeBytes, headBytes, chainBytes, freeBytes, freshBytes, Fresh}
 
 -- a write right behind a write
 pub write-more : (z u v : List ℕ) (at k : ℕ) → k ≡ at + length u → k + length v ≤ length z → overwrite (overwrite z at u) k v ≡ overwrite z at (u ++ v)
@@ -100,33 +100,54 @@ header-done z z₁ z₂ z₃ n m h x eh e₁ e₂ e₃ =
     let p₃ : z₃ ≡ overwrite z 0 ((a ++ toBE 2 h) ++ toBE 2 0) = e₃ ∙ (rw p₂ (write-more z (a ++ toBE 2 h) (toBE 2 0) 0 14 (omega arith) (omega arith))) in
     p₃ ∙ ap (λ (x : List ℕ). overwrite z 0 x) (append-assoc a (toBE 2 h) (toBE 2 0) ∙ ap (λ (y : ℕ). a ++ (toBE 2 y ++ toBE 2 0)) eh)
 
--- ---- chain
+-- ---- chain, from the last of m masters down
 
-pub link-more : (i m : ℕ) → i + 1 < m → 16 + 4 * i + 4 ≡ linkAfter (16 + 4 * i) (m - (i + 1))
-link-more i m l = rw (ne-eqb (m - (i + 1)) 0 (λ e. omega arith))
+-- how many masters there are from `at` on
+abbrev pub mastersFrom : ℕ → ℕ → ℕ
+mastersFrom m at = (16 + 4 * m - at) / 4
 
-pub link-none : (i m : ℕ) → m ≤ i + 1 → 0 ≡ linkAfter (16 + 4 * i) (m - (i + 1))
-link-none i m l = rw (eq-eqb (m - (i + 1)) 0 (omega arith))
+-- the master at `at`, where there is one
+abbrev pub masterOrNone : ℕ → ℕ → ℕ
+masterOrNone m at = cond (eqb (mastersFrom m at) 0) 0 at
 
-pub chain-step : (z z′ w : List ℕ) (i m v : ℕ) → i < m → 16 + 4 * m ≤ length z → v ≡ linkAfter (16 + 4 * i) (m - (i + 1)) → z′ ≡ overwrite z (16 + 4 * i) (toBE 4 v)
-    → overwrite z (16 + 4 * i) (chainBytes (16 + 4 * i) (m - i)) ≡ w
-    → overwrite z′ (16 + 4 * (i + 1)) (chainBytes (16 + 4 * (i + 1)) (m - (i + 1))) ≡ w
+none-from : (m : ℕ) → mastersFrom m (16 + 4 * m) ≡ 0
+none-from m = omega arith
+
+pub chain-none : (m : ℕ) → 0 ≡ masterOrNone m (16 + 4 * m)
+chain-none m = rw (none-from m)
+
+pub chain-start : (z : List ℕ) (m : ℕ) → z ≡ overwrite z (16 + 4 * m) (chainBytes (16 + 4 * m) (mastersFrom m (16 + 4 * m)))
 unfolding chainBytes
-chain-step z z′ w i m v l f ev ez inv =
-    let e : m - i ≡ suc (m - (i + 1)) = omega arith in
-    let k : 16 + 4 * (i + 1) ≡ 16 + 4 * i + 4 = omega arith in
-    let lc = chain-long (16 + 4 * i + 4) (m - (i + 1)) in
-    let lv = length-toBE 4 v in
-    (rw (ez, k, write-more z (toBE 4 v) (chainBytes (16 + 4 * i + 4) (m - (i + 1))) (16 + 4 * i) (16 + 4 * i + 4) (omega arith) (omega arith), ev)) ∙ (rw e at inv)
+chain-start z m = rw (none-from m) (sym (write-none z (16 + 4 * m)))
 
-pub chain-start : (z : List ℕ) (m : ℕ) → overwrite z (16 + 4 * 0) (chainBytes (16 + 4 * 0) (m - 0)) ≡ overwrite z 16 (chainBytes 16 m)
-chain-start z m = ap (λ (k : ℕ). overwrite z 16 (chainBytes 16 k)) (sub-zero m)
+module _ (at m : ℕ) (low : 16 < at) (four : at % 4 ≡ 0) (high : at ≤ 16 + 4 * m) where
+  one-from : mastersFrom m (at - 4) ≡ suc (mastersFrom m at)
+  one-from = omega arith
 
-pub chain-end : (z w : List ℕ) (i m : ℕ) → m ≤ i → overwrite z (16 + 4 * i) (chainBytes (16 + 4 * i) (m - i)) ≡ w → z ≡ w
-unfolding chainBytes
-chain-end z w i m l inv =
-    let e : m - i ≡ 0 = omega arith in
-    sym (write-none z (16 + 4 * i)) ∙ (rw e at inv)
+  pub chain-next : at - 4 ≡ masterOrNone m (at - 4)
+  chain-next = rw (ne-eqb (mastersFrom m (at - 4)) 0 (λ e. omega arith))
+
+  pub chain-step : (s z z′ : List ℕ) (next : ℕ) → 16 + 4 * m ≤ length s → next ≡ masterOrNone m at → z ≡ overwrite s at (chainBytes at (mastersFrom m at))
+      → z′ ≡ overwrite z (at - 4) (toBE 4 next) → z′ ≡ overwrite s (at - 4) (chainBytes (at - 4) (mastersFrom m (at - 4)))
+  unfolding chainBytes
+  chain-step s z z′ next f en ez e =
+      let k = mastersFrom m at in
+      let a = toBE 4 next in
+      let b = chainBytes at k in
+      let la = length-toBE 4 next in
+      let lb = chain-long at k in
+      let q : at - 4 + length a ≡ at = omega arith in
+      let r : at - 4 + 4 ≡ at = omega arith in
+      e
+      ∙ ap (λ (x : List ℕ). overwrite x (at - 4) a) (ez ∙ ap (λ (i : ℕ). overwrite s i b) (sym q))
+      ∙ write-before s a b (at - 4) (omega arith)
+      ∙ (rw (one-from, r, en))
+
+pub chain-end : (s z : List ℕ) (at m : ℕ) → 16 ≤ at → at ≤ 16 → z ≡ overwrite s at (chainBytes at (mastersFrom m at)) → z ≡ overwrite s 16 (chainBytes 16 m)
+chain-end s z at m l h e =
+    let a : at ≡ 16 = omega arith in
+    let k : mastersFrom m 16 ≡ m = omega arith in
+    e ∙ (rw (a, k))
 
 -- ---- the free block
 

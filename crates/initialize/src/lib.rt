@@ -1,4 +1,4 @@
-// Initialize: header, masters chained upwards, and one free block or none. Each byte of the zone is written once, from the front.
+// Initialize: header, masters chained upwards, and one free block or none. Each byte of the zone is written once.
 ghost use mathlib.Core.Path.{_≡_};
 ghost use mathlib.Core.Bool.{cond};
 ghost use Prim.Native.Nat.{_+_, _*_, _-_, _%_, _<_, _≤_};
@@ -7,7 +7,7 @@ ghost use lib.Dec.{eqb};
 ghost use Rattle.bigendian.specs.BigEndian.{overwrite};
 ghost use Rattle.calls.specs.Calls.{told};
 ghost use Rattle.zone.specs.OnBytes.{result, accepts, initBytes};
-ghost use Rattle.initialize.specs.Fresh.{sizeBytes, headBytes, linkAfter, chainBytes, freeBytes, freshBytes, Fresh};
+ghost use Rattle.initialize.specs.Fresh.{sizeBytes, headBytes, chainBytes, freeBytes, freshBytes, Fresh};
 use block_type::BlockType;
 use calls::Told;
 
@@ -49,27 +49,17 @@ fn put_header(z: &mut [u8], n: usize, m: usize)
     bigendian::put2(z, 14, 0);
 }
 
-// What master i of m holds: the next one, 0 for none.
-fn link_after(i: usize, m: usize) -> u32
-    requires { ⌜ (i < m) × (m ≤ 8188) ⌝ }
-    ensures { λ r. ⌜ r ≡ linkAfter (16 + 4 * i) (m - (i + 1)) ⌝ }
-{
-    if i + 1 < m {
-        return (16 + 4 * i + 4) as u32;
-    }
-    0
-}
-
-// The masters, each with the offset of the next one.
+// The masters, from the last one down, each with the offset of the one after it, which was written just before; 0 in the last.
 fn put_chain(z: &mut [u8], m: usize)
     requires { ⌜ (16 + 4 * m ≤ length (now z)) × (m ≤ 8188) ⌝ }
     ensures { λ _. ⌜ now (z .exit) ≡ overwrite (now (z .entry)) 16 (chainBytes 16 m) ⌝ }
 {
-    let mut i = 0;
-    while i < m {
-        let next = link_after(i, m);
-        bigendian::put4(z, 16 + 4 * i, next);
-        i += 1;
+    let mut next = 0;
+    let mut at = 16 + 4 * m;
+    while 16 < at {
+        at -= 4;
+        bigendian::put4(z, at, next);
+        next = at as u32;
     }
 }
 

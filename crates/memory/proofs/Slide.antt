@@ -4,17 +4,14 @@ use mathlib.Core.List.{List, _++_, append-assoc}
 use Prim.Native.Nat.{ℕ, _+_, _-_, _<_, _≤_}
 use native.Mathlib.Omega.{arith}
 use lib.ListN.{length, take, drop, length-append, length-take, length-drop, take-append-drop}
-use lib.Seq.{length-take-le, take-add, take-at, drop-at, take-take, drop-drop, take-append-le, drop-append-le, drop-append-add}
+use lib.Seq.{length-take-le, take-at, drop-at, take-take, drop-drop, take-append-le, drop-append-le, drop-append-add}
 use Rattle.bigendian.specs.BigEndian.{slice, overwrite}
-use Rattle.memory.proofs.Writes.{write-none}
+use Rattle.memory.proofs.Writes.{slice-add, write-none}
 
 -- ---- parts
 
 length-slice : (s : List ℕ) (at n : ℕ) → at + n ≤ length s → length (slice s at n) ≡ n
 length-slice s at n h = omega (arith, length-take n (drop at s), length-drop at s)
-
-slice-add : (s : List ℕ) (at m n : ℕ) → slice s at (m + n) ≡ slice s at m ++ slice s (at + m) n
-slice-add s at m n = take-add m n (drop at s) ∙ ap (λ (r : List ℕ). slice s at m ++ take n r) (drop-drop m at s)
 
 -- what lies before a place does not depend on what lies behind it
 slice-before : (s : List ℕ) (p at n : ℕ) → at + n ≤ p → p ≤ length s → slice (take p s) at n ≡ slice s at n
@@ -50,7 +47,7 @@ write-behind s a b p h =
     rw (t, d, e) (simp append-assoc)
 
 -- a write before one
-write-before : (s a b : List ℕ) (p : ℕ) → p + length a + length b ≤ length s → overwrite (overwrite s (p + length a) b) p a ≡ overwrite s p (a ++ b)
+pub write-before : (s a b : List ℕ) (p : ℕ) → p + length a + length b ≤ length s → overwrite (overwrite s (p + length a) b) p a ≡ overwrite s p (a ++ b)
 write-before s a b p h =
     let q = p + length a in
     let r = drop (q + length b) s in

@@ -10,7 +10,7 @@ use native.Mathlib.Omega.{arith}
 use lib.Dec.{eqb}
 use borrow.Author.Tests.{eq-eqb, ne-eqb}
 use lib.ListN.{length, getD, take, drop, set, replicate, length-set, length-append, length-take, length-drop, take-append-drop}
-use lib.Seq.{drop-cons, set-split, take-suc-set, drop-set-lt, append-snoc}
+use lib.Seq.{drop-cons, drop-drop, take-add, set-split, take-suc-set, drop-set-lt, append-snoc}
 use Rattle.bigendian.specs.BigEndian.{slice, overwrite, Bytes}
 use Rattle.memory.specs.Zeros.{allZero}
 
@@ -20,31 +20,71 @@ cut-step s i to h k =
     let h′ : i < length s = omega arith in
     rw (e, drop-cons s i 0, add-one)
 
--- most: the largest byte so far
-pub zero-step : (s : List ℕ) (i to most next : ℕ) (whole : Bool) → next ≡ max most (getD s i 0) → i < to → to ≤ length s
-    → eqb most 0 && allZero (slice s i (to - i)) ≡ whole → eqb next 0 && allZero (slice s (i + 1) (to - (i + 1))) ≡ whole
-unfolding allZero
-zero-step s i to most next whole e h k inv =
-    ap (_&& allZero (slice s (i + 1) (to - (i + 1)))) (ap (λ (n : ℕ). eqb n 0) e ∙ both most (getD s i 0))
-    ∙ and-assoc (eqb most 0) (eqb (getD s i 0) 0) (allZero (slice s (i + 1) (to - (i + 1)))) ∙ (rw (cut-step s i to h k) at inv)
-  where
-    and-assoc : (a b c : Bool) → a && b && c ≡ a && (b && c)
-    and-assoc true b c = refl
-    and-assoc false b c = refl
+-- ---- zeros; most: the largest byte so far
 
+and-assoc : (a b c : Bool) → a && b && c ≡ a && (b && c)
+and-assoc true b c = refl
+and-assoc false b c = refl
+
+zero-more : (most next x : ℕ) (xs rest : List ℕ) (whole : Bool) → next ≡ max most x → xs ≡ x ∷ rest → eqb most 0 && allZero xs ≡ whole → eqb next 0 && allZero rest ≡ whole
+unfolding allZero
+zero-more most next x xs rest whole e q inv =
+    ap (_&& allZero rest) (ap (λ (n : ℕ). eqb n 0) e ∙ both most x) ∙ and-assoc (eqb most 0) (eqb x 0) (allZero rest) ∙ (rw q at inv)
+  where
     both : (a b : ℕ) → eqb (max a b) 0 ≡ eqb a 0 && eqb b 0
     both zero b = let e : max 0 b ≡ b = omega arith in rw e
     both (suc a) b = (rw (ne-eqb (max (suc a) b) 0 (λ e. omega arith), ne-eqb (suc a) 0 (λ e. omega arith)))
 
-pub zero-done : (s : List ℕ) (i to most : ℕ) (whole : Bool) → to ≤ i → eqb most 0 && allZero (slice s i (to - i)) ≡ whole → eqb most 0 ≡ whole
+pub zero-step : (s : List ℕ) (i to most next : ℕ) (whole : Bool) → next ≡ max most (getD s i 0) → i < to → to ≤ length s
+    → eqb most 0 && allZero (slice s i (to - i)) ≡ whole → eqb next 0 && allZero (slice s (i + 1) (to - (i + 1))) ≡ whole
+zero-step s i to most next whole e h k = zero-more most next (getD s i 0) (slice s i (to - i)) (slice s (i + 1) (to - (i + 1))) whole e (cut-step s i to h k)
+
+-- the same for n bytes from a place on
+pub zero-step-from : (s : List ℕ) (from i n most next : ℕ) (whole : Bool) → next ≡ max most (getD s (from + i) 0) → i < n → from + n ≤ length s
+    → eqb most 0 && allZero (slice s (from + i) (n - i)) ≡ whole → eqb next 0 && allZero (slice s (from + (i + 1)) (n - (i + 1))) ≡ whole
+zero-step-from s from i n most next whole e h k =
+    let e₁ : from + n - (from + i) ≡ n - i = omega arith in
+    let e₂ : from + n - (from + i + 1) ≡ n - (i + 1) = omega arith in
+    let e₃ : from + i + 1 ≡ from + (i + 1) = omega arith in
+    zero-more most next (getD s (from + i) 0) (slice s (from + i) (n - i)) (slice s (from + (i + 1)) (n - (i + 1))) whole e
+    (rw (e₁, e₂, e₃) at (cut-step s (from + i) (from + n) (omega arith) k))
+
+pub zero-done : (s : List ℕ) (at i n most : ℕ) (whole : Bool) → n ≤ i → eqb most 0 && allZero (slice s at (n - i)) ≡ whole → eqb most 0 ≡ whole
 unfolding allZero
-zero-done s i to most whole h inv =
-    let e : to - i ≡ 0 = omega arith in
+zero-done s at i n most whole h inv =
+    let e : n - i ≡ 0 = omega arith in
     sym (and-true (eqb most 0)) ∙ (rw e at inv)
   where
     and-true : (a : Bool) → a && true ≡ a
     and-true true = refl
     and-true false = refl
+
+-- ---- zeros of a part and of the rest; most: the largest byte of the part
+
+pub slice-add : (s : List ℕ) (at m n : ℕ) → slice s at (m + n) ≡ slice s at m ++ slice s (at + m) n
+slice-add s at m n = take-add m n (drop at s) ∙ ap (λ (r : List ℕ). slice s at m ++ take n r) (drop-drop m at s)
+
+zeros-append : (a b : List ℕ) → allZero (a ++ b) ≡ allZero a && allZero b
+unfolding allZero
+zeros-append [] b = refl
+zeros-append (x ∷ xs) b = ap (eqb x 0 &&_) (zeros-append xs b) ∙ sym (and-assoc (eqb x 0) (allZero xs) (allZero b))
+
+module _ (s : List ℕ) (at m to most : ℕ) (whole : Bool) (h : m ≤ to - at) (e : eqb most 0 ≡ allZero (slice s at m)) (inv : allZero (slice s at (to - at)) ≡ whole) where
+  part-rest : eqb most 0 && allZero (slice s (at + m) (to - (at + m))) ≡ whole
+  part-rest =
+      let k : to - at ≡ m + (to - (at + m)) = omega arith in
+      ap (_&& allZero (slice s (at + m) (to - (at + m)))) e
+      ∙ sym (ap (λ (n : ℕ). allZero (slice s at n)) k ∙ ap allZero (slice-add s at m (to - (at + m))) ∙ zeros-append (slice s at m) (slice s (at + m) (to - (at + m))))
+      ∙ inv
+
+  pub part-zero : most ≡ 0 → allZero (slice s (at + m) (to - (at + m))) ≡ whole
+  part-zero z = rw (eq-eqb most 0 z) at part-rest
+
+  pub part-other : (most ≡ 0 → ⊥) → false ≡ whole
+  part-other z = rw (ne-eqb most 0 z) at part-rest
+
+pub rest-zero : (s : List ℕ) (at to most : ℕ) (whole : Bool) → eqb most 0 ≡ allZero (slice s at (to - at)) → allZero (slice s at (to - at)) ≡ whole → eqb most 0 ≡ whole
+rest-zero s at to most whole e inv = e ∙ inv
 
 -- ---- writes
 

@@ -2,6 +2,7 @@
 ghost use mathlib.Core.Path.{_≡_};
 ghost use Prim.Native.Nat.{_+_, _-_, _<_, _≤_, max};
 ghost use lib.ListN.{length, replicate};
+ghost use lib.Dec.{eqb};
 ghost use Rattle.bigendian.specs.BigEndian.{slice, overwrite};
 ghost use Rattle.memory.specs.Zeros.{allZero};
 
@@ -14,10 +15,10 @@ fn larger(a: u8, b: u8) -> u8
     a
 }
 
-// Whether every byte from `from` up to `to` is 0: whether the largest is. There is no early exit, so the loop is compiled to wide loads.
-pub fn all_zero(s: &[u8], from: usize, to: usize) -> bool
+// The largest of the bytes from `from` up to `to`. There is no early exit, so the loop is compiled to wide loads.
+fn largest(s: &[u8], from: usize, to: usize) -> u8
     requires { ⌜ (from ≤ to) × (to ≤ length (now s)) ⌝ }
-    ensures { λ r. ⌜ r ≡ allZero (slice (now (s .entry)) from (to - from)) ⌝ }
+    ensures { λ r. ⌜ eqb r 0 ≡ allZero (slice (now (s .entry)) from (to - from)) ⌝ }
 {
     let mut most = 0;
     let mut i = from;
@@ -25,7 +26,36 @@ pub fn all_zero(s: &[u8], from: usize, to: usize) -> bool
         most = larger(most, s[i]);
         i += 1;
     }
-    most == 0
+    most
+}
+
+// The largest of the 256 bytes from `from` on: a loop of a known length, which is compiled without a branch.
+fn largest_of_256(s: &[u8], from: usize) -> u8
+    requires { ⌜ from + 256 ≤ length (now s) ⌝ }
+    ensures { λ r. ⌜ eqb r 0 ≡ allZero (slice (now (s .entry)) from 256) ⌝ }
+{
+    let mut most = 0;
+    let mut i = 0;
+    while i < 256 {
+        most = larger(most, s[from + i]);
+        i += 1;
+    }
+    most
+}
+
+// Whether every byte from `from` up to `to` is 0: whether the largest of each 256 is, and of the rest.
+pub fn all_zero(s: &[u8], from: usize, to: usize) -> bool
+    requires { ⌜ (from ≤ to) × (to ≤ length (now s)) ⌝ }
+    ensures { λ r. ⌜ r ≡ allZero (slice (now (s .entry)) from (to - from)) ⌝ }
+{
+    let mut at = from;
+    while 256 <= to - at {
+        if largest_of_256(s, at) != 0 {
+            return false;
+        }
+        at += 256;
+    }
+    largest(s, at, to) == 0
 }
 
 // Sets the bytes from `from` up to `to` to 0.

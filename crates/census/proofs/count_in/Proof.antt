@@ -1,4 +1,5 @@
-use Rattle.census.proofs.Laws.{in-law, zone-short}
+use mathlib.Core.Path.{refl}
+use Rattle.census.proofs.Laws.{in-law, zone-short, zeros-low}
 use Rattle.tell.proofs.Opened.{get-first}
 use Rattle.release.proofs.Reach.{zone-edge, zone-first}
 use borrow.Author.Needs.{needs}
@@ -9,7 +10,7 @@ get4-requires : tie.Need-get4-requires
 get4-requires c κs = search get-first
 
 count-all-requires : tie.Need-count-all-requires
-count-all-requires c κs = (search zone-edge, search zone-first, search zone-short)
+count-all-requires c κs = (search zone-edge, search zone-first, search zone-short, refl, λ k. zeros-low 19 k _)
 
 returns : tie.Need-returns
 returns c = search in-law

@@ -1,44 +1,43 @@
 use mathlib.Core.Path.{_≡_, refl}
-use Prim.Native.Nat.{_+_, _*_, _-_, _≤_}
+use Prim.Native.Nat.{_+_, _*_, _%_, _≤_}
 use native.Mathlib.Omega.{arith}
-use borrow.Author.Needs.{needs}
 use lib.ListN.{length}
 use Rattle.bigendian.specs.BigEndian.{overwrite}
 use Rattle.initialize.specs.Fresh.{chainBytes}
-use Rattle.initialize.proofs.Write.{chain-start, chain-step, chain-end}
+use Rattle.initialize.proofs.Write.{mastersFrom, masterOrNone, chain-none, chain-start, chain-next, chain-step, chain-end}
 use Rattle.initialize.proofs.put_chain.Statement.{statement}
 use Rattle.initialize.proofs.put_chain.Tie as tie
 
 abbrev Inv-loop : tie.InvT-loop
-Inv-loop z₀ m i₀ z i =
-    (i ≤ m) × (16 + 4 * m ≤ length z) × (length z ≡ length z₀) × (overwrite z (16 + 4 * i) (chainBytes (16 + 4 * i) (m - i)) ≡ overwrite z₀ 16 (chainBytes 16 m))
+Inv-loop z₀ m next₀ at₀ z next at =
+    (16 ≤ at) × (at % 4 ≡ 0) × (at ≤ 16 + 4 * m) × (length z ≡ length z₀) × (next ≡ masterOrNone m at) × (z ≡ overwrite z₀ at (chainBytes at (mastersFrom m at)))
 
 abbrev μ-loop : tie.MeasureT-loop
-μ-loop z₀ m i₀ z i = m - i
+μ-loop z₀ m next₀ at₀ z next at = at
+
+mul-at : tie.Need-mul-at Inv-loop μ-loop
+mul-at c = omega arith
+
+add-at : tie.Need-add-at Inv-loop μ-loop
+add-at c = omega arith
 
 loop-holds : tie.Need-loop-holds Inv-loop μ-loop
-loop-holds c = (omega arith, omega arith, refl, search chain-start)
+loop-holds c = (omega arith, omega arith, omega arith, refl, search chain-none, search chain-start)
 
-link-after-requires : tie.Need-link-after-requires Inv-loop μ-loop
-link-after-requires c κs = search needs
-
-mul-put4 : tie.Need-mul-put4 Inv-loop μ-loop
-mul-put4 c = omega arith
-
-add-put4 : tie.Need-add-put4 Inv-loop μ-loop
-add-put4 c = omega arith
+sub-at : tie.Need-sub-at Inv-loop μ-loop
+sub-at c = omega arith
 
 put4-requires : tie.Need-put4-requires Inv-loop μ-loop
 put4-requires c κs = omega arith
 
-add-i : tie.Need-add-i Inv-loop μ-loop
-add-i c = omega arith
+cast-next : tie.Need-cast-next Inv-loop μ-loop
+cast-next c = omega arith
 
 loop-less : tie.Need-loop-less Inv-loop μ-loop
 loop-less c = omega arith
 
 loop-again : tie.Need-loop-again Inv-loop μ-loop
-loop-again c = (omega arith, omega arith, omega arith, search chain-step)
+loop-again c = (omega arith, omega arith, omega arith, omega arith, search chain-next, search chain-step)
 
 same-length : tie.Need-same-length Inv-loop μ-loop
 same-length c = omega arith
@@ -52,12 +51,12 @@ put-chain-spec =
     (tie.spec
     Inv-loop
     μ-loop
+    mul-at
+    add-at
     loop-holds
-    link-after-requires
-    mul-put4
-    add-put4
+    sub-at
     put4-requires
-    add-i
+    cast-next
     loop-less
     loop-again
     same-length

@@ -1,0 +1,42 @@
+use mathlib.Core.Path.{_≡_}
+use mathlib.Core.Bool.{_&&_}
+use Prim.Native.Nat.{_+_, _-_, _≤_}
+use native.Mathlib.Nat.{add-zero}
+use borrow.Author.Needs.{needs}
+use native.Mathlib.Omega.{arith}
+use lib.Dec.{eqb}
+use Rattle.bigendian.specs.BigEndian.{slice}
+use Rattle.memory.specs.Zeros.{allZero}
+use Rattle.memory.proofs.Writes.{zero-step-from, zero-done}
+use Rattle.memory.proofs.largest_of_256.Statement.{statement}
+use Rattle.memory.proofs.largest_of_256.Tie as tie
+
+abbrev Inv-loop : tie.InvT-loop
+Inv-loop s from most₀ i₀ most i = (i ≤ 256) × (eqb most 0 && allZero (slice s (from + i) (256 - i)) ≡ allZero (slice s from 256))
+
+abbrev μ-loop : tie.MeasureT-loop
+μ-loop s from most₀ i₀ most i = 256 - i
+
+loop-holds : tie.Need-loop-holds Inv-loop μ-loop
+loop-holds c = (omega arith, rw add-zero)
+
+loop-again : tie.Need-loop-again Inv-loop μ-loop
+loop-again c = (omega arith, search zero-step-from)
+
+returns : tie.Need-returns Inv-loop μ-loop
+returns c = search zero-done
+
+pub largest-of-256-spec : {M : Type 1} → statement M
+largest-of-256-spec =
+    tie.close
+    (tie.spec
+    Inv-loop
+    μ-loop
+    loop-holds
+    (λ c. search needs)
+    (λ c. search needs)
+    (λ c κs. search needs)
+    (λ c. search needs)
+    (λ c. search needs)
+    loop-again
+    returns)
