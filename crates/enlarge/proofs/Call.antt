@@ -17,13 +17,16 @@ use Rattle.structure.specs.Structure.{Block, free, Structure, sizes, start, len
 use Rattle.structure.specs.Valid.{Valid}
 use Rattle.structure.proofs.Table.{Whole, whole, start-is, len-is, encode-zone, encode-decode}
 use Rattle.structure.proofs.Sound.{valid-zone}
-use Rattle.access.specs.Edit.{IsZone, whole-of}
+use Rattle.bigendian.proofs.Laws.{length-toBE}
+use Rattle.access.specs.Edit.{IsZone, is-zone, whole-of}
 use Rattle.row.specs.Row.{Sound}
 use Rattle.row.proofs.Laws.{low-of, sound-right}
 use Rattle.find_bay.specs.Spots.{gapOf}
 use Rattle.compact_bay.proofs.Squeeze.{gap-sizes}
 use Rattle.walk.specs.Walker.{blocksAt, lowOf}
+use Rattle.release.specs.Release.{Hole, nothing, zeros, Between}
 use Rattle.release.proofs.Freed.{sizes-append}
+use Rattle.release.proofs.Hole.{swap, free-hole}
 use Rattle.release.proofs.Reach.{tiles-are}
 use Rattle.surgery.proofs.Sound.{valid-sound}
 use Rattle.calls.specs.Calls.{told, refusal, enlarge}
@@ -32,7 +35,7 @@ use Rattle.zone.specs.Bay.{Cell, gap, joinBays}
 use Rattle.zone.specs.OnBays.{done, refuse, step}
 use Rattle.zone.specs.ZoneBays.{zoneBays}
 use Rattle.zone.specs.OnBytes.{Zone, inBays, inLine, result, replacing, callBytes}
-use Rattle.call_laws.proofs.Plan.{bytes-of, has-zone}
+use Rattle.call_laws.proofs.Plan.{bytes-of, slice-take, has-zone}
 use Rattle.call_laws.proofs.Outcome.{call-ill, call-same, call-of, same-length}
 use Rattle.enlarge.specs.Enlarge.{accepts, longer, Tail, TailIn, tail-in, tail-of, Planned, ill-formed, refused, planned}
 use Rattle.enlarge.proofs.Last.{tail-at}
@@ -64,9 +67,18 @@ module _ (s : List ℕ) (k l : ℕ) (ok t : Bool) (e : ok ≡ wellFormed s) (q :
 
 -- ---- the writes
 
-pub extend-law : (z y₁ y₂ : List ℕ) (from : ℕ) → y₁ ≡ overwrite z 0 (toBE 4 (length z)) → y₂ ≡ overwrite y₁ from (encodeBlock (free (length z - from)))
+-- the length lies below the blocks, so it may as well be written first
+pub extend-law : (z y₁ y₂ : List ℕ) (from old : ℕ) → 4 ≤ from → Between z from old (length z) (length z) → y₁ ≡ overwrite z from (encodeBlock (free (length z - from))) → y₂ ≡ overwrite y₁ 0 (toBE 4 (length z))
     → y₂ ≡ overwrite (overwrite z 0 (toBE 4 (length z))) from (encodeBlock (free (length z - from)))
-extend-law z y₁ y₂ from e₁ e₂ = e₂ ∙ ap (λ (x : List ℕ). overwrite x from (encodeBlock (free (length z - from)))) e₁
+extend-law z y₁ y₂ from old l b e₁ e₂ =
+    e₂
+    ∙ ap (λ (x : List ℕ). overwrite x 0 (toBE 4 (length z))) e₁
+    ∙ swap z (toBE 4 (length z)) (encodeBlock (free (length z - from))) 0 from (omega (arith, length-toBE 4 (length z))) (omega (arith, b .low, b .some, b .high))
+
+-- what is free in a zone is free in a longer part of the buffer
+hole-longer : (s : List ℕ) (n m a b : ℕ) → b ≤ n → b ≤ m → Hole (take n s) a b → Hole (take m s) a b
+hole-longer s n m a b l u (nothing e) = nothing e
+hole-longer s n m a b l u (zeros k e) = zeros k (slice-take s m (a + 4) (b - (a + 4)) (omega arith) ∙ sym (slice-take s n (a + 4) (b - (a + 4)) (omega arith)) ∙ e)
 
 -- ---- what is accepted
 
@@ -156,6 +168,33 @@ module _ (s : List ℕ) (y : Bytes s) (wf : wellFormed s ≡ true) where
         room : from + 4 ≤ lengthField s + k
         room = omega (arith, total, len-zone, sum-four)
 
+        above : 4 ≤ from
+        above = omega (arith, t .is-from)
+
+        last-hole : Hole (zoneOf s) from (lengthField s)
+        last-hole = go (eqb (t .last) 0) refl (t .parts)
+          where
+            go : (x : Bool) → eqb (t .last) 0 ≡ x → decodeZone (zoneOf s) .blocks ≡ t .pre ++ cond x [] (free (t .last) ∷ []) → Hole (zoneOf s) from (lengthField s)
+            go true e p = nothing (omega (arith, eqb-true (t .last) 0 e, total, len-zone))
+            go false e p =
+                subst (Hole (zoneOf s) from) (sym total ∙ len-zone)
+                (subst (λ (o : ℕ). Hole (zoneOf s) o (o + t .last)) (sym (t .is-from)) (free-hole (zoneOf s) (is-zone w) (t .pre) (t .last) [] p))
+
+        between : Between (take (lengthField s + k) s) from (lengthField s + k - k) (length (take (lengthField s + k) s)) (length (take (lengthField s + k) s))
+        between =
+            let l = lengthField s in
+            let n : length (take (l + k) s) ≡ l + k = omega (arith, length-take (l + k) s, within (length s) (l + k) k a) in
+            let o : l ≡ l + k - k = omega arith in
+            record {
+              low = omega (arith, total, len-zone);
+              some = omega (arith, by4 (length s) (l + k) k a);
+              high = omega arith;
+              fits = omega arith;
+              short = omega (arith, limit (length s) (l + k) k a);
+              ahead = subst (Hole (take (l + k) s) from) o (hole-longer s l (l + k) from l (omega arith) (omega arith) last-hole);
+              behind = nothing refl;
+            }
+
         abbrev u : Structure
         u = record { links = decodeZone (zoneOf s) .links; blocks = t .pre ++ free (t .last + k) ∷ [] }
 
@@ -200,13 +239,13 @@ module _ (s : List ℕ) (k number n from : ℕ) (f : Planned s k number n from) 
         go (refused w a e) = let x : ⊥ = omega arith in absurd x
         go (planned w a e en t) = omega (arith, within (length s) (lengthField s + k) k a)
 
-    pub call-limit : length (take n s) ≤ 1048576
-    call-limit = go f
+    pub call-old : k ≤ n
+    call-old = go f
       where
-        go : Planned s k number n from → length (take n s) ≤ 1048576
+        go : Planned s k number n from → k ≤ n
         go (ill-formed w e) = let x : ⊥ = omega arith in absurd x
         go (refused w a e) = let x : ⊥ = omega arith in absurd x
-        go (planned w a e en t) = omega (arith, limit (length s) (lengthField s + k) k a, length-take n s)
+        go (planned w a e en t) = omega arith
 
     module _ (b : (i : ℕ) → Fits w8 (getD s i 0)) where
       pub call-idle : k ≡ 0 → result (told 0 0) s ≡ callBytes (enlarge k) s
@@ -218,15 +257,23 @@ module _ (s : List ℕ) (k number n from : ℕ) (f : Planned s k number n from) 
           go (planned w a e en t) = idle s (bytes-of s b) w k a from t q
 
       module _ (ne : k ≡ 0 → ⊥) where
-        pub call-room : from + 4 ≤ length (take n s)
-        call-room = go f
+        pub call-above : 4 ≤ from
+        call-above = go f
           where
-            go : Planned s k number n from → from + 4 ≤ length (take n s)
+            go : Planned s k number n from → 4 ≤ from
+            go (ill-formed w e) = let x : ⊥ = omega arith in absurd x
+            go (refused w a e) = let x : ⊥ = omega arith in absurd x
+            go (planned w a e en t) = let p : 0 < k = omega arith in above s (bytes-of s b) w k a from t p
+
+        pub call-between : Between (take n s) from (n - k) (length (take n s)) (length (take n s))
+        call-between = go f
+          where
+            go : Planned s k number n from → Between (take n s) from (n - k) (length (take n s)) (length (take n s))
             go (ill-formed w e) = let x : ⊥ = omega arith in absurd x
             go (refused w a e) = let x : ⊥ = omega arith in absurd x
             go (planned w a e en t) =
                 let p : 0 < k = omega arith in
-                omega (arith, room s (bytes-of s b) w k a from t p, within (length s) (lengthField s + k) k a, length-take n s)
+                subst (λ (j : ℕ). Between (take j s) from (j - k) (length (take j s)) (length (take j s))) (sym en) (between s (bytes-of s b) w k a from t p)
 
         pub call-end : (x : List ℕ) → x ≡ overwrite (overwrite (take n s) 0 (toBE 4 (length (take n s)))) from (encodeBlock (free (length (take n s) - from)))
             → result (told 0 0) (x ++ drop n s) ≡ callBytes (enlarge k) s

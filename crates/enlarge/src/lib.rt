@@ -1,10 +1,11 @@
 // Enlarge: the zone grows by k bytes of its buffer, which become zero and free, merged with a free last block.
 ghost use mathlib.Core.Path.{_≡_};
-ghost use Prim.Native.Nat.{_+_, _-_, _≤_};
+ghost use Prim.Native.Nat.{_-_, _≤_};
 ghost use lib.ListN.{length};
 ghost use Rattle.bigendian.specs.BigEndian.{toBE, overwrite};
 ghost use Rattle.structure.specs.Structure.{encodeBlock, free};
 ghost use Rattle.access.specs.Edit.{IsZone};
+ghost use Rattle.release.specs.Release.{Between};
 ghost use Rattle.calls.specs.Calls.{told, enlarge};
 ghost use Rattle.zone.specs.OnBytes.{result, callBytes};
 ghost use Rattle.enlarge.specs.Enlarge.{accepts, TailIn, Planned};
@@ -62,14 +63,14 @@ fn enlarge_plan(zone: &[u8], k: u32) -> EnlargePlan
     }
 }
 
-// The zone's length is that of z, and from `from` on z is one free block.
-fn extend(z: &mut [u8], from: usize)
-    requires { ⌜ (from + 4 ≤ length (now z)) × (length (now z) ≤ 1048576) ⌝ }
+// The zone's length is that of z, and from `from` on z is one free block, of which the bytes from `old` on are new.
+fn extend(z: &mut [u8], from: usize, old: usize)
+    requires { ⌜ (4 ≤ from) × (Between (now z) from old (length (now z)) (length (now z))) ⌝ }
     ensures { λ _. ⌜ now (z .exit) ≡ overwrite (overwrite (now (z .entry)) 0 (toBE 4 (length (now (z .entry))))) from (encodeBlock (free (length (now (z .entry)) - from))) ⌝ }
 {
     let n = z.len();
+    release::blank_between(z, from, old, n, n);
     bigendian::put4(z, 0, n as u32);
-    release::blank(z, from, n);
 }
 
 // Lengthens the zone by k bytes. Answers the refusal number, 0 if done, and 0.
@@ -87,7 +88,8 @@ pub fn enlarge(zone: &mut [u8], k: u32) -> Told
                 value: 0,
             };
         }
-        extend(&mut zone[..n], from);
+        let old = n - k as usize;
+        extend(&mut zone[..n], from, old);
         return Told {
             number: 0,
             value: 0,

@@ -17,6 +17,7 @@ use Rattle.structure.proofs.Sound.{valid-zone}
 use Rattle.access.specs.Edit.{IsZone, whole-of}
 use Rattle.row.specs.Row.{Sound}
 use Rattle.row.proofs.Laws.{low-of, sound-left, sound-right}
+use Rattle.release.specs.Release.{Between}
 use Rattle.release.proofs.Freed.{sizes-append}
 use Rattle.surgery.proofs.Sound.{valid-sound}
 use Rattle.surgery.proofs.Plain.{plain}
@@ -32,15 +33,15 @@ use Rattle.call_laws.proofs.Outcome.{call-ill, call-same, call-done}
 use Rattle.locate.specs.Locate as Locate
 use Rattle.locate.specs.Locate.{Located, targetPlace, targetData}
 use Rattle.locate.proofs.Data.{content-none}
-use Rattle.free_pointer.specs.Free.{joined, Span, SpanIn, span-of, Planned, ill-formed, absent, planned}
+use Rattle.free_pointer.specs.Free.{joined, Span, SpanIn, span-of, Extended, Planned, ill-formed, absent, planned}
 
 -- ---- the plan
 
 module _ (s : List ℕ) (p number at size : ℕ) (f : Located s (by-pointer p) number at size) where
-  pub plan-no : (number ≡ 0 → ⊥) → Planned s p number 0 0 0
+  pub plan-no : (number ≡ 0 → ⊥) → Planned s p number 0 0 0 0 0
   plan-no ne = go f
     where
-      go : Located s (by-pointer p) number at size → Planned s p number 0 0 0
+      go : Located s (by-pointer p) number at size → Planned s p number 0 0 0 0 0
       go (Locate.ill-formed y w k a n) = ill-formed w k
       go (Locate.absent y w t k a n) = absent w t k
       go (Locate.present y w a l n k) = absurd (ne k)
@@ -96,8 +97,8 @@ module _ (s : List ℕ) (p number at size : ℕ) (f : Located s (by-pointer p) n
           go (Locate.absent y w t k a n) = let x : ⊥ = omega arith in absurd x
           go (Locate.present y w a g n k) = rw el n
 
-      pub plan-yes : (from to : ℕ) → SpanIn (take l s) p from to → Planned s p 0 l from to
-      plan-yes from to sp = planned is-well refl el plan-fits plan-zone sp
+      pub plan-yes : (from to : ℕ) → Extended (take l s) p at size from to → Planned s p 0 l from (at - 2) (at + size) to
+      plan-yes from to x = planned is-well refl el plan-fits plan-zone (x .span) (x .between)
 
 -- ---- one write
 
@@ -125,13 +126,10 @@ module _ (z : List ℕ) (i : IsZone z) (p from to : ℕ) (sp : SpanIn z p from t
   four : n % 4 ≡ 0
   four = sound-four (q .mid) (sound-left (q .mid) (q .post) (sound-right (q .pre) (q .mid ++ q .post) (subst Sound (q .parts) (valid-sound d v))))
 
-  pub act-low : from + 4 ≤ to
-  act-low = omega (arith, four, q .low, q .is-to)
-
-  pub act-high : to ≤ length z
+  act-high : to ≤ length z
   act-high = omega (arith, q .is-to, q .is-from, len-is z w, w .all, ap sizes (q .parts), sizes-append (q .pre) (q .mid ++ q .post), sizes-append (q .mid) (q .post))
 
-  pub act-limit : length z ≤ 1048576
+  act-limit : length z ≤ 1048576
   act-limit = omega (arith, w .limit, w .all)
 
   freed : (y : List ℕ) → y ≡ overwrite z from (encodeBlock (free (to - from))) → y ≡ encode (record { links = d .links; blocks = q .pre ++ free n ∷ q .post })
@@ -185,55 +183,38 @@ module _ (s : List ℕ) (y : Bytes s) (wf : wellFormed s ≡ true) (p : ℕ) whe
       ap (λ (b : List ℕ). result (told 0 0) (b ++ drop (lengthField s) s)) (freed (zoneOf s) i p from to sp x e)
       ∙ sym (call-0 (q .pre ++ free (sizes (q .mid)) ∷ q .post) (q .result))
 
-module _ (s : List ℕ) (p number l from to : ℕ) (f : Planned s p number l from to) where
+module _ (s : List ℕ) (p number l from at end to : ℕ) (f : Planned s p number l from at end to) where
   module _ (z : number ≡ 0) where
     pub call-fits : l ≤ length s
     call-fits = go f
       where
-        go : Planned s p number l from to → l ≤ length s
+        go : Planned s p number l from at end to → l ≤ length s
         go (ill-formed w k) = let x : ⊥ = omega arith in absurd x
         go (absent w t k) = let x : ⊥ = omega arith in absurd x
-        go (planned w k el g i sp) = g
+        go (planned w k el g i sp bt) = g
 
-    call-zone : IsZone (take l s)
-    call-zone = go f
+    pub call-between : Between (take l s) from at end to
+    call-between = go f
       where
-        go : Planned s p number l from to → IsZone (take l s)
+        go : Planned s p number l from at end to → Between (take l s) from at end to
         go (ill-formed w k) = let x : ⊥ = omega arith in absurd x
         go (absent w t k) = let x : ⊥ = omega arith in absurd x
-        go (planned w k el g i sp) = i
-
-    call-span : SpanIn (take l s) p from to
-    call-span = go f
-      where
-        go : Planned s p number l from to → SpanIn (take l s) p from to
-        go (ill-formed w k) = let x : ⊥ = omega arith in absurd x
-        go (absent w t k) = let x : ⊥ = omega arith in absurd x
-        go (planned w k el g i sp) = sp
-
-    pub call-low : from + 4 ≤ to
-    call-low = act-low (take l s) call-zone p from to call-span
-
-    pub call-high : to ≤ length (take l s)
-    call-high = act-high (take l s) call-zone p from to call-span
-
-    pub call-limit : length (take l s) ≤ 1048576
-    call-limit = act-limit (take l s) call-zone p from to call-span
+        go (planned w k el g i sp bt) = bt
 
     pub call-end : (y : List ℕ) → ((i : ℕ) → Fits w8 (getD s i 0)) → y ≡ overwrite (take l s) from (encodeBlock (free (to - from))) → result (told 0 0) (y ++ drop l s) ≡ callBytes (free-pointer p) s
     call-end y b e = go f
       where
-        go : Planned s p number l from to → result (told 0 0) (y ++ drop l s) ≡ callBytes (free-pointer p) s
+        go : Planned s p number l from at end to → result (told 0 0) (y ++ drop l s) ≡ callBytes (free-pointer p) s
         go (ill-formed w k) = let x : ⊥ = omega arith in absurd x
         go (absent w t k) = let x : ⊥ = omega arith in absurd x
-        go (planned w k el g i sp) =
+        go (planned w k el g i sp bt) =
             subst (λ (j : ℕ). IsZone (take j s) → SpanIn (take j s) p from to → y ≡ overwrite (take j s) from (encodeBlock (free (to - from))) → result (told 0 0) (y ++ drop j s) ≡ callBytes (free-pointer p) s)
             (sym el) (done-is s (bytes-of s b) w p from to y) i sp e
 
   pub call-no : ((i : ℕ) → Fits w8 (getD s i 0)) → (number ≡ 0 → ⊥) → result (told number 0) s ≡ callBytes (free-pointer p) s
   call-no b ne = go f
     where
-      go : Planned s p number l from to → result (told number 0) s ≡ callBytes (free-pointer p) s
+      go : Planned s p number l from at end to → result (told number 0) s ≡ callBytes (free-pointer p) s
       go (ill-formed w k) = rw k (sym (call-ill s (free-pointer p) w))
       go (absent w t k) = rw k (sym (call-7 s (bytes-of s b) w p t))
-      go (planned w k el g i sp) = absurd (ne k)
+      go (planned w k el g i sp bt) = absurd (ne k)

@@ -16,12 +16,14 @@ use Rattle.structure.specs.Valid.{Tiled}
 use Rattle.access.specs.Edit.{IsZone, whole-of}
 use Rattle.walk.specs.Walker.{blocksAt, Edge, Seen, blockAt, freeB, lowOf}
 use Rattle.walk.proofs.Laws.{tiles-end}
+use Rattle.release.specs.Release.{Hole, Between}
 use Rattle.release.proofs.Find.{leadOf}
+use Rattle.release.proofs.Hole.{low-hole, lead-hole, lead-fits, block-between}
 use Rattle.release.proofs.Reach.{reach, zone-edge, tiles-are}
 use Rattle.calls.specs.Calls.{by-pointer}
 use Rattle.locate.specs.Locate.{dataAmong, targetPlace, targetData}
 use Rattle.locate.proofs.Data.{among-fits}
-use Rattle.free_pointer.specs.Free.{Span, SpanIn, span-in}
+use Rattle.free_pointer.specs.Free.{Span, SpanIn, span-in, Extended}
 use Rattle.free_pointer.proofs.Find.{Mid, mid-of, span-at}
 
 -- a free block in front of the blocks from e on
@@ -97,13 +99,30 @@ module _ (z : List ℕ) (i : IsZone z) (p at n : ℕ) (ea : at ≡ targetPlace (
         span-in (subst (λ (b : List Block). Span p st b from to) (sym (m .parts))
         (span-at p st from to false (m .pre) d (m .post) (subst (Tiled false) (m .parts) (v .tiled)) (m .here) f₁ t₁))
 
+    -- what is free in the extent
+    between-zone : (from to : ℕ) → from ≡ lowOf (at - 2) first (blocksAt z first) → to ≡ at + n + leadOf (blocksAt z (at + n)) → Between z from (at - 2) (at + n) to
+    between-zone from to ff ft =
+        let st = start (decodeZone z) in
+        let e₁ : at - 2 ≡ st + sizes (m .pre) = omega (arith, at-is) in
+        let e₂ : first ≡ st = ef ∙ sym (start-is z w) in
+        let e₃ : st + sizes (m .pre) + (2 + length d) ≡ at + n = omega (arith, end-is, e₂) in
+        let f₁ : from ≡ lowOf (at - 2) st (decodeZone z .blocks) = ff ∙ ap (λ (o : ℕ). lowOf (at - 2) o (blocksAt z first)) e₂ ∙ ap (lowOf (at - 2) st) (ap (blocksAt z) ef ∙ tiles-are z i) in
+        let t₁ : to ≡ at + n + leadOf (m .post) = ft ∙ ap (λ (b : List Block). at + n + leadOf b) (behind .1) in
+        block-between z i (m .pre) (fixed d) (m .post) (m .parts) from (at - 2) (at + n) to e₁ (omega (arith, at-is, end-is, e₂))
+        (omega (arith, t₁, e₃, lead-fits z i (m .pre) (fixed d) (m .post) (m .parts)))
+        (subst (λ (o : ℕ). Hole z o (at - 2)) (sym f₁) (low-hole z i (at - 2)))
+        (subst (Hole z (at + n)) (sym t₁) (subst (λ (o : ℕ). Hole z o (o + leadOf (m .post))) e₃ (lead-hole z i (m .pre) (fixed d) (m .post) (m .parts))))
+
+    extended : (from to : ℕ) → from ≡ lowOf (at - 2) first (blocksAt z first) → to ≡ at + n + leadOf (blocksAt z (at + n)) → Extended z p at n from to
+    extended from to ff ft = record { span = span-zone from to ff ft; header = at-low; between = between-zone from to ff ft }
+
     module _ (from : ℕ) (ff : from ≡ lowOf (at - 2) first (blocksAt z first)) where
-      pub high-end : length z ≤ at + n → SpanIn z p from (at + n)
+      pub high-end : length z ≤ at + n → Extended z p at n from (at + n)
       unfolding leadOf
-      high-end l = span-zone from (at + n) ff (sym (ap (λ (b : List Block). at + n + leadOf b) (tiles-end z (at + n) l) ∙ add-zero (at + n)))
+      high-end l = extended from (at + n) ff (sym (ap (λ (b : List Block). at + n + leadOf b) (tiles-end z (at + n) l) ∙ add-zero (at + n)))
 
-      pub high-free : (k : ℕ) (f : Bool) → Seen z first (at + n) k → f ≡ isFree (drop (at + n) z) → f ≡ true → SpanIn z p from (at + n + k)
-      high-free k f s e q = span-zone from (at + n + k) ff (ap (λ (x : ℕ). at + n + x) (sym (lead-free z first (at + n) k s (sym e ∙ q))))
+      pub high-free : (k : ℕ) (f : Bool) → Seen z first (at + n) k → f ≡ isFree (drop (at + n) z) → f ≡ true → Extended z p at n from (at + n + k)
+      high-free k f s e q = extended from (at + n + k) ff (ap (λ (x : ℕ). at + n + x) (sym (lead-free z first (at + n) k s (sym e ∙ q))))
 
-      pub high-used : (k : ℕ) (f : Bool) → Seen z first (at + n) k → f ≡ isFree (drop (at + n) z) → f ≡ false → SpanIn z p from (at + n)
-      high-used k f s e q = span-zone from (at + n) ff (sym (ap (λ (x : ℕ). at + n + x) (lead-used z first (at + n) k s (sym e ∙ q)) ∙ add-zero (at + n)))
+      pub high-used : (k : ℕ) (f : Bool) → Seen z first (at + n) k → f ≡ isFree (drop (at + n) z) → f ≡ false → Extended z p at n from (at + n)
+      high-used k f s e q = extended from (at + n) ff (sym (ap (λ (x : ℕ). at + n + x) (lead-used z first (at + n) k s (sym e ∙ q)) ∙ add-zero (at + n)))

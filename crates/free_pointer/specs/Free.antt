@@ -3,12 +3,13 @@ use mathlib.Core.Path.{_≡_}
 use mathlib.Core.Bool.{true, false}
 use mathlib.Core.Option.{Option, some}
 use mathlib.Core.List.{List, [], _∷_, _++_}
-use Prim.Native.Nat.{ℕ, _+_, _≤_}
+use Prim.Native.Nat.{ℕ, _+_, _-_, _≤_}
 use lib.ListN.{length, take}
 use Rattle.format.specs.WellFormed.{wellFormed, zoneOf, lengthField}
 use Rattle.structure.specs.Structure.{Block, free, sizes, start, decodeZone}
 use Rattle.structure.specs.Valid.{handlesOf}
 use Rattle.access.specs.Edit.{IsZone}
+use Rattle.release.specs.Release.{Between}
 use Rattle.calls.specs.Calls.{by-pointer}
 use Rattle.zone.specs.Bays.{over}
 use Rattle.zone.specs.OnBays.{joinAt}
@@ -39,9 +40,15 @@ pub data SpanIn (z : List ℕ) (p from to : ℕ) : Type 0 where
 pub span-of : (z : List ℕ) (p from to : ℕ) → SpanIn z p from to → Span p (start (decodeZone z)) (decodeZone z .blocks) from to
 span-of z p from to (span-in q) = q
 
--- what the plan answers
-pub data Planned (s : List ℕ) (p number len from to : ℕ) : Type 0 where
-  ill-formed : wellFormed s ≡ false → number ≡ 1 → Planned s p number len from to
-  absent : wellFormed s ≡ true → targetPlace (by-pointer p) (zoneOf s) ≡ 0 → number ≡ 7 → Planned s p number len from to
+-- the extent of the fixed block whose n bytes of data lie at `at`, which is free but for that block
+pub record Extended (z : List ℕ) (p at n from to : ℕ) : Type 0 where
+  pub span : SpanIn z p from to
+  pub header : 2 ≤ at
+  pub between : Between z from (at - 2) (at + n) to
+
+-- what the plan answers; the block itself lies from `at` up to `end`
+pub data Planned (s : List ℕ) (p number len from at end to : ℕ) : Type 0 where
+  ill-formed : wellFormed s ≡ false → number ≡ 1 → Planned s p number len from at end to
+  absent : wellFormed s ≡ true → targetPlace (by-pointer p) (zoneOf s) ≡ 0 → number ≡ 7 → Planned s p number len from at end to
   planned : wellFormed s ≡ true → number ≡ 0 → len ≡ lengthField s → len ≤ length s → IsZone (take len s) → SpanIn (take len s) p from to
-      → Planned s p number len from to
+      → Between (take len s) from at end to → Planned s p number len from at end to

@@ -16,6 +16,7 @@ use Rattle.access.specs.Edit.{IsZone, whole-of}
 use Rattle.access.proofs.Store.{write-right, write-length}
 use Rattle.release.specs.Release.{freed, Span, SpanIn, span-of}
 use Rattle.release.proofs.Freed.{free-bytes, four-mid, sizes-append, index}
+use Rattle.release.proofs.Hole.{swap}
 
 pub len-write : (s x y : List ℕ) (p : ℕ) → y ≡ overwrite s p x → p + length x ≤ length s → length y ≡ length s
 len-write s x y p e l = ap length e ∙ write-length s x p l
@@ -55,18 +56,32 @@ module _ (z : List ℕ) (w : IsZone z) (h from to : ℕ) (sp : SpanIn z h from t
   pub act-limit : length z ≤ 1048576
   act-limit = omega (arith, w′ .limit, w′ .all)
 
-  pub act-law : (head : ℕ) (y₁ y₂ : List ℕ) → head ≡ fromBE (slice z 12 2) → y₁ ≡ overwrite (overwrite z 12 (toBE 2 h)) h (toBE 4 head) → y₂ ≡ overwrite y₁ from (encodeBlock (free (to - from))) → y₂ ≡ encode (freed h (decodeZone z))
-  act-law head y₁ y₂ eh e₁ e₂ =
-      let b = free-bytes h (decodeZone z) (valid-zone z w′) from to p in
-      let q : to - from ≡ sizes (p .mid) = omega (arith, p .is-to) in
-      let k : head ≡ headOf (decodeZone z .links) = eh ∙ sym (head-is z w′) in
-      e₂ ∙ (rw (e₁, k, q) (rw (encode-zone z w′) at b))
-
-  pub act-high′ : (y : List ℕ) → length y ≡ length z → to ≤ length y
-  act-high′ y e = omega (arith, act-high)
-
   pub act-limit′ : (y : List ℕ) → length y ≡ length z → length y ≤ 1048576
   act-limit′ y e = omega (arith, act-limit)
+
+  pub act-handle : h + 4 ≤ length z → h < 4294967296
+  act-handle l = omega (arith, act-limit)
+
+  -- the chain's head and the master lie below the blocks, so they may as well be written first
+  pub act-law : (head : ℕ) (y₁ y₂ : List ℕ) → head ≡ fromBE (slice z 12 2) → y₁ ≡ overwrite z from (encodeBlock (free (to - from))) → y₂ ≡ overwrite (overwrite y₁ 12 (toBE 2 h)) h (toBE 4 head) → y₂ ≡ encode (freed h (decodeZone z))
+  act-law head y₁ y₂ eh e₁ e₂ =
+      let v = valid-zone z w′ in
+      let b = free-bytes h (decodeZone z) v from to p in
+      let i = index h (decodeZone z) v from to p in
+      let q : to - from ≡ sizes (p .mid) = omega (arith, p .is-to) in
+      let k : head ≡ headOf (decodeZone z .links) = eh ∙ sym (head-is z w′) in
+      let x = encodeBlock (free (to - from)) in
+      let n₁ = length-toBE 2 h in
+      let n₂ = length-toBE 4 head in
+      let l : from ≤ length z = omega (arith, p .is-to, act-high) in
+      let f₁ : 12 + length (toBE 2 h) ≤ from = omega (arith, p .is-from) in
+      let f₂ : h + length (toBE 4 head) ≤ from = omega (arith, p .is-from, i .1, i .2) in
+      let l₂ : from ≤ length (overwrite z 12 (toBE 2 h)) = omega (arith, write-length z (toBE 2 h) 12 (omega arith)) in
+      e₂
+      ∙ ap (λ (s : List ℕ). overwrite (overwrite s 12 (toBE 2 h)) h (toBE 4 head)) e₁
+      ∙ ap (λ (s : List ℕ). overwrite s h (toBE 4 head)) (swap z (toBE 2 h) x 12 from f₁ l)
+      ∙ swap (overwrite z 12 (toBE 2 h)) (toBE 4 head) x h from f₂ l₂
+      ∙ (rw (k, q) (rw (encode-zone z w′) at b))
 
 pub link-law : (z y₁ y₂ : List ℕ) (h head : ℕ) → y₁ ≡ overwrite z 12 (toBE 2 h) → y₂ ≡ overwrite y₁ h (toBE 4 head) → y₂ ≡ overwrite (overwrite z 12 (toBE 2 h)) h (toBE 4 head)
 link-law z y₁ y₂ h head e₁ e₂ = e₂ ∙ ap (λ (x : List ℕ). overwrite x h (toBE 4 head)) e₁

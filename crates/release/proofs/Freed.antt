@@ -26,7 +26,7 @@ unfolding sizes
 sizes-append [] b = omega arith
 sizes-append (x ∷ a) b = omega (arith, sizes-append a b)
 
-handles-append : (a b : List Block) → handlesOf (a ++ b) ≡ handlesOf a ++ handlesOf b
+pub handles-append : (a b : List Block) → handlesOf (a ++ b) ≡ handlesOf a ++ handlesOf b
 unfolding handlesOf
 handles-append [] b = refl
 handles-append (free n ∷ a) b = handles-append a b
@@ -106,6 +106,26 @@ release-tiled h prev (reloc k d ∷ bs) u t = go (eqb h k) (release-tiled h fals
     go true r = gap-tiled (4 + length d) bs (omega arith) (omega (arith, t .0)) (omega arith) (t .3)
     go false r = (t .0, t .1, t .2, r)
 
+-- ---- the bytes of blocks
+
+pub join-append : (a b : List Block) → join (map encodeBlock (a ++ b)) ≡ join (map encodeBlock a) ++ join (map encodeBlock b)
+unfolding join
+join-append [] b = refl
+join-append (x ∷ a) b = rw (join-append a b) (sym (append-assoc (encodeBlock x) (join (map encodeBlock a)) (join (map encodeBlock b))))
+
+pub length-join : (prev : Bool) (a b : List Block) → Tiled prev (a ++ b) → length (join (map encodeBlock a)) ≡ sizes a
+unfolding join sizes
+length-join prev [] b t = refl
+length-join prev (free k ∷ a) b t = omega (arith, length-append (encodeBlock (free k)) (join (map encodeBlock a)), length-enc prev (free k) (a ++ b) t, length-join true a b (t .4))
+length-join prev (fixed d ∷ a) b t = omega (arith, length-append (encodeBlock (fixed d)) (join (map encodeBlock a)), length-enc prev (fixed d) (a ++ b) t, length-join false a b (t .3))
+length-join prev (reloc k d ∷ a) b t = omega (arith, length-append (encodeBlock (reloc k d)) (join (map encodeBlock a)), length-enc prev (reloc k d) (a ++ b) t, length-join false a b (t .3))
+
+pub tiled-tail : (prev : Bool) (a b : List Block) → Tiled prev (a ++ b) → (q : Bool) × Tiled q b
+tiled-tail prev [] b t = (prev, t)
+tiled-tail prev (free k ∷ a) b t = tiled-tail true a b (t .4)
+tiled-tail prev (fixed d ∷ a) b t = tiled-tail false a b (t .3)
+tiled-tail prev (reloc k d ∷ a) b t = tiled-tail false a b (t .3)
+
 -- ---- the freed structure
 
 module _ (h : ℕ) (s : Structure) (v : Valid s) (from to : ℕ) (p : Span h (start s) (s .blocks) from to) where
@@ -184,7 +204,7 @@ module _ (h : ℕ) (s : Structure) (v : Valid s) (from to : ℕ) (p : Span h (st
       ∙ ap (placeOf g (start s)) (sym (p .parts))
 
   -- the handle is in use once, and not any more
-  owned-once : occurs h (handlesOf after) ≡ 0
+  pub owned-once : occurs h (handlesOf after) ≡ 0
   owned-once = omega (arith, handles-of h, one-same h h refl, v .owned h, offset-le h 16 (count s))
 
   value-other : (g : ℕ) → (g ≡ h → ⊥) → value s′ g ≡ value s g
@@ -213,24 +233,6 @@ module _ (h : ℕ) (s : Structure) (v : Valid s) (from to : ℕ) (p : Span h (st
   index =
       let r = offset-is h 16 (count s) (omega (arith, v .owned h, handles-of h, one-same h h refl)) in
       ((h - 16) / 4, omega (arith, r .0, r .2), omega (arith, r .0, r .1))
-
-  join-append : (a b : List Block) → join (map encodeBlock (a ++ b)) ≡ join (map encodeBlock a) ++ join (map encodeBlock b)
-  unfolding join
-  join-append [] b = refl
-  join-append (x ∷ a) b = rw (join-append a b) (sym (append-assoc (encodeBlock x) (join (map encodeBlock a)) (join (map encodeBlock b))))
-
-  length-join : (prev : Bool) (a b : List Block) → Tiled prev (a ++ b) → length (join (map encodeBlock a)) ≡ sizes a
-  unfolding join sizes
-  length-join prev [] b t = refl
-  length-join prev (free k ∷ a) b t = omega (arith, length-append (encodeBlock (free k)) (join (map encodeBlock a)), length-enc prev (free k) (a ++ b) t, length-join true a b (t .4))
-  length-join prev (fixed d ∷ a) b t = omega (arith, length-append (encodeBlock (fixed d)) (join (map encodeBlock a)), length-enc prev (fixed d) (a ++ b) t, length-join false a b (t .3))
-  length-join prev (reloc k d ∷ a) b t = omega (arith, length-append (encodeBlock (reloc k d)) (join (map encodeBlock a)), length-enc prev (reloc k d) (a ++ b) t, length-join false a b (t .3))
-
-  tiled-tail : (prev : Bool) (a b : List Block) → Tiled prev (a ++ b) → (q : Bool) × Tiled q b
-  tiled-tail prev [] b t = (prev, t)
-  tiled-tail prev (free k ∷ a) b t = tiled-tail true a b (t .4)
-  tiled-tail prev (fixed d ∷ a) b t = tiled-tail false a b (t .3)
-  tiled-tail prev (reloc k d ∷ a) b t = tiled-tail false a b (t .3)
 
   four : (a : List Block) → 4 * relocCount a ≤ sizes a
   unfolding relocCount sizes

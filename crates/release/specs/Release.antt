@@ -2,9 +2,10 @@
 use mathlib.Core.Path.{_≡_}
 use mathlib.Core.List.{List, [], _∷_, _++_}
 use mathlib.Core.Bool.{Bool, true, false, cond}
-use Prim.Native.Nat.{ℕ, _+_}
-use lib.ListN.{length}
+use Prim.Native.Nat.{ℕ, _+_, _-_, _≤_}
+use lib.ListN.{length, replicate}
 use lib.Dec.{eqb}
+use Rattle.bigendian.specs.BigEndian.{slice}
 use Rattle.structure.specs.Structure.{Block, free, fixed, reloc, Structure, sizes, start, decodeZone}
 use Rattle.structure.specs.Valid.{handlesOf}
 
@@ -49,3 +50,18 @@ pub data SpanIn (z : List ℕ) (h from to : ℕ) : Type 0 where
 
 pub span-of : (z : List ℕ) (h from to : ℕ) → SpanIn z h from to → Span h (start (decodeZone z)) (decodeZone z .blocks) from to
 span-of z h from to (span-in p) = p
+
+-- from a up to b there is nothing, or as in a free block all behind the first four bytes is 0
+pub data Hole (z : List ℕ) (a b : ℕ) : Type 0 where
+  nothing : a ≡ b → Hole z a b
+  zeros : a + 4 ≤ b → slice z (a + 4) (b - (a + 4)) ≡ replicate (b - (a + 4)) 0 → Hole z a b
+
+-- what lies from `from` up to `to` can become one free block, and is free but for what lies from `at` up to `end`
+pub record Between (z : List ℕ) (from at end to : ℕ) : Type 0 where
+  pub low : from ≤ at
+  pub some : at + 4 ≤ end
+  pub high : end ≤ to
+  pub fits : to ≤ length z
+  pub short : length z ≤ 1048576
+  pub ahead : Hole z from at
+  pub behind : Hole z end to

@@ -1,11 +1,14 @@
 use Rattle.call_laws.proofs.Plan.{take-len}
-use Rattle.enlarge.proofs.Call.{call-fits, call-limit, call-idle, call-room, call-end, call-no}
+use Rattle.enlarge.proofs.Call.{call-fits, call-old, call-idle, call-above, call-between, call-end, call-no}
 use borrow.Author.Needs.{needs}
 use Rattle.enlarge.proofs.enlarge.Statement.{statement}
 use Rattle.enlarge.proofs.enlarge.Tie as tie
 
 returns : tie.Need-returns
 returns c = search call-idle
+
+sub-old : tie.Need-sub-old
+sub-old c = search call-old
 
 slice-relend-prefix-extend : tie.Need-slice-relend-prefix-extend
 slice-relend-prefix-extend c = search call-fits
@@ -14,7 +17,7 @@ slice-aggregate-extend : tie.Need-slice-aggregate-extend
 slice-aggregate-extend c = search (take-len, call-fits)
 
 extend-requires : tie.Need-extend-requires
-extend-requires c κs = (search call-room, search call-limit)
+extend-requires c κs = (search call-above, search call-between)
 
 returns-2 : tie.Need-returns-2
 returns-2 c = search call-end
@@ -29,6 +32,7 @@ enlarge-spec =
     (λ c κs. search needs)
     (λ c. search needs)
     returns
+    sub-old
     slice-relend-prefix-extend
     slice-aggregate-extend
     extend-requires

@@ -7,4 +7,5 @@ returns : tie.Need-returns
 returns c = search extend-law
 
 pub extend-spec : {M : Type 1} → statement M
-extend-spec = tie.close (tie.spec (λ c. search needs) (λ c κs. search needs) (λ c κs. search needs) (λ c. search needs) returns)
+extend-spec =
+    tie.close (tie.spec (λ c κs. search needs) (λ c. search needs) (λ c κs. search needs) (λ c. search needs) returns)

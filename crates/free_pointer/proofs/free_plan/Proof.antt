@@ -28,5 +28,7 @@ free-plan-spec =
     (λ c. search needs)
     slice-aggregate-find-extent
     find-extent-requires
+    (λ c. search needs)
+    (λ c. search needs)
     returns
     returns-2)

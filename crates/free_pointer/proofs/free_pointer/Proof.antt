@@ -1,17 +1,17 @@
 use Rattle.call_laws.proofs.Plan.{take-len}
-use Rattle.free_pointer.proofs.Call.{call-fits, call-low, call-high, call-limit, call-end, call-no}
+use Rattle.free_pointer.proofs.Call.{call-fits, call-between, call-end, call-no}
 use borrow.Author.Needs.{needs}
 use Rattle.free_pointer.proofs.free_pointer.Statement.{statement}
 use Rattle.free_pointer.proofs.free_pointer.Tie as tie
 
-slice-relend-prefix-blank : tie.Need-slice-relend-prefix-blank
-slice-relend-prefix-blank c = search call-fits
+slice-relend-prefix-blank-between : tie.Need-slice-relend-prefix-blank-between
+slice-relend-prefix-blank-between c = search call-fits
 
-slice-aggregate-blank : tie.Need-slice-aggregate-blank
-slice-aggregate-blank c = search (take-len, call-fits)
+slice-aggregate-blank-between : tie.Need-slice-aggregate-blank-between
+slice-aggregate-blank-between c = search (take-len, call-fits)
 
-blank-requires : tie.Need-blank-requires
-blank-requires c κs = (search call-low, search call-high, search call-limit)
+blank-between-requires : tie.Need-blank-between-requires
+blank-between-requires c κs = search call-between
 
 returns : tie.Need-returns
 returns c = search call-end
@@ -24,9 +24,9 @@ free-pointer-spec =
     tie.close
     (tie.spec
     (λ c κs. search needs)
-    slice-relend-prefix-blank
-    slice-aggregate-blank
-    blank-requires
+    slice-relend-prefix-blank-between
+    slice-aggregate-blank-between
+    blank-between-requires
     (λ c. search needs)
     returns
     (λ c. search needs)
