@@ -2,3 +2,4 @@ pub mod PlaceLaws
 pub mod PutLaws
 pub mod Size
 pub mod Store
+pub mod Zone

@@ -16,7 +16,8 @@ use Rattle.format.proofs.Live.{handles, live-of, live-high, handles-high}
 use Rattle.structure.specs.Structure.{Structure, start, placeOf, decodeZone, decodeBlock}
 use Rattle.structure.proofs.Table.{Whole, places, start-is}
 use Rattle.structure.proofs.Back.{master-of}
-use Rattle.access.specs.Edit.{placeIn, IsZone, whole-of}
+use Rattle.access.specs.Edit.{placeIn, IsZone}
+use Rattle.access.proofs.Zone.{whole-of}
 
 module _ (z : List ℕ) (i : IsZone z) (h : ℕ) where
   w : Whole z

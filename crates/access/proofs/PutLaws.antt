@@ -13,7 +13,8 @@ use Rattle.format.specs.WellFormed.{lengthField}
 use Rattle.structure.specs.Structure.{Block, free, fixed, reloc, Structure, start, len, sizes, placeOf, encode, decodeZone}
 use Rattle.structure.proofs.Table.{Whole, encode-zone, len-is}
 use Rattle.structure.proofs.Sound.{valid-zone}
-use Rattle.access.specs.Edit.{dataOf, edit, store, placeIn, dataIn, IsZone, whole-of}
+use Rattle.access.specs.Edit.{dataOf, edit, store, placeIn, dataIn, IsZone}
+use Rattle.access.proofs.Zone.{whole-of}
 use Rattle.access.proofs.Store.{store-bytes}
 
 pub data-fits : (h at : ℕ) (bs : List Block) → 0 < placeOf h at bs → placeOf h at bs + length (dataOf h bs) ≤ at + sizes bs

@@ -18,7 +18,8 @@ use Rattle.structure.proofs.Round.{rest-is}
 use Rattle.bigendian.proofs.Laws.{length-toBE}
 use Rattle.structure.proofs.Table.{Whole, encode-zone, len-is}
 use Rattle.structure.proofs.Sound.{valid-zone}
-use Rattle.access.specs.Edit.{dataOf, placeIn, dataIn, IsZone, whole-of}
+use Rattle.access.specs.Edit.{dataOf, placeIn, dataIn, IsZone}
+use Rattle.access.proofs.Zone.{whole-of}
 use Rattle.access.proofs.Store.{length-enc}
 use Rattle.access.proofs.PutLaws.{data-fits}
 

@@ -1,11 +1,12 @@
 -- One block's data, read and replaced, in the structure. Both go to the first block with the handle, so no law asks that it is the only one.
+use mathlib.Core.Path.{_≡_}
 use mathlib.Core.List.{List, [], _∷_, _++_}
 use mathlib.Core.Bool.{Bool, true, false, cond}
 use Prim.Native.Nat.{ℕ, _+_}
 use lib.ListN.{length}
 use lib.Dec.{eqb}
-use Rattle.bigendian.specs.BigEndian.{overwrite}
-use Rattle.structure.proofs.Table.{Whole}
+use Rattle.bigendian.specs.BigEndian.{Bytes, overwrite}
+use Rattle.format.specs.WellFormed.{wellFormed, zoneOf}
 use Rattle.structure.specs.Structure.{Block, free, fixed, reloc, Structure, start, placeOf, decodeZone}
 
 -- the data of handle h
@@ -32,9 +33,6 @@ placeIn z h = placeOf h (start (decodeZone z)) (decodeZone z .blocks)
 unfoldable pub dataIn : List ℕ → ℕ → List ℕ
 dataIn z h = dataOf h (decodeZone z .blocks)
 
--- z is the bytes of a well-formed zone. A data type, so that a search does not go into the facts
+-- z is the bytes of a well-formed zone, with none beyond its length. A data type, so that a search does not go into the facts
 pub data IsZone (z : List ℕ) : Type 0 where
-  is-zone : Whole z → IsZone z
-
-pub whole-of : (z : List ℕ) → IsZone z → Whole z
-whole-of z (is-zone w) = w
+  is-zone : (s : List ℕ) → Bytes s → wellFormed s ≡ true → zoneOf s ≡ z → IsZone z

@@ -12,7 +12,8 @@ use Rattle.structure.specs.Structure.{Block, fixed, Structure, sizes, start, en
 use Rattle.structure.specs.Valid.{Valid}
 use Rattle.structure.proofs.Table.{Whole, encode-zone}
 use Rattle.structure.proofs.Sound.{valid-zone}
-use Rattle.access.specs.Edit.{IsZone, whole-of}
+use Rattle.access.specs.Edit.{IsZone}
+use Rattle.access.proofs.Zone.{whole-of}
 use Rattle.row.specs.Row.{bytesOf}
 use Rattle.row.proofs.Laws.{bytes-long, bytes-append}
 use Rattle.find_bay.specs.Spots.{Spot, some, gapOf}

@@ -16,7 +16,8 @@ use Rattle.structure.specs.Valid.{Valid}
 use Rattle.structure.proofs.Table.{Whole, encode-zone, value-is, start-is, len-is}
 use Rattle.structure.proofs.Sound.{valid-zone}
 use Rattle.structure.proofs.Round.{offset-is, place-none}
-use Rattle.access.specs.Edit.{IsZone, whole-of}
+use Rattle.access.specs.Edit.{IsZone}
+use Rattle.access.proofs.Zone.{whole-of}
 use Rattle.row.specs.Row.{bytesOf, blocksOf, Sound, Row, row}
 use Rattle.row.proofs.Laws.{sound-left, sound-right, tiles-join}
 use Rattle.find_bay.specs.Spots.{Spot, Choice, none, some, firstFit, holes}

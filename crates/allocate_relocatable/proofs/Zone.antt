@@ -15,7 +15,8 @@ use Rattle.structure.specs.Valid.{Valid}
 use Rattle.structure.proofs.Table.{Whole, encode-zone, start-is, head-is}
 use Rattle.structure.proofs.Sound.{valid-zone}
 use Rattle.structure.proofs.Round.{offset-is, rest-is}
-use Rattle.access.specs.Edit.{IsZone, whole-of}
+use Rattle.access.specs.Edit.{IsZone}
+use Rattle.access.proofs.Zone.{whole-of}
 use Rattle.row.specs.Row.{blocksOf, Row, row}
 use Rattle.find_bay.specs.Spots.{freeTotal, Spot, Choice, none, some, firstFit, bays}
 use Rattle.find_bay.specs.Find.{BayN, bayN, findBay, bayAt}

@@ -7,16 +7,17 @@ use native.Mathlib.Nat.{sub-zero, add-zero, zero-add, add-sub-cancel-left, sub-a
 use native.Mathlib.Numerals.{add-one, sub-one}
 use native.Mathlib.Omega.{arith}
 use lib.Dec.{eqb, leb}
-use borrow.Author.Tests.{eq-eqb, ne-eqb, leb-true, eqb-true, le-leb, lt-leb}
+use borrow.Author.Tests.{eq-eqb, ne-eqb, leb-true, eqb-true, le-leb, lt-leb, not-true, not-false}
 use lib.ListN.{length, getD, take, drop, length-take, length-drop, drop-of-length-le}
 use lib.Seq.{take-take, getD-take, getD-drop, drop-drop}
 use Rattle.bigendian.specs.BigEndian.{fromBE, slice}
 use Rattle.memory.specs.Zeros.{allZero}
-use Rattle.format.proofs.Bool.{and-left, and-right, is-false}
+use Rattle.format.proofs.Bool.{and-left, and-right, is-false, not-both}
 use Rattle.format.specs.WellFormed.{headerOk, lengthField, firstField, mastersField, typeOf, sizeOf, handleOf, isFree, isReloc, splitFrom, splitBlocks, isMaster, masterAt, relocs}
 use Rattle.format.specs.OneWalk.{links, typeRule, freeRule, relocRule, blockOk, blocksOk, bodyOk}
 use Rattle.format.proofs.Masters.{Master, is-master}
-use Rattle.format.proofs.Walk.{First, is-first, first-rule, drop-take, Turn, stop, end, end-count}
+use Rattle.format.proofs.Walk.{First, is-first, first-rule, drop-take, turn, stop, end, end-count}
+use Rattle.format.specs.Steps.{GoodSize}
 
 pub kind-law : (z : List ℕ) (at : ℕ) → getD z at 0 / 64 ≡ typeOf (drop at z)
 unfolding typeOf
@@ -72,46 +73,76 @@ pub reloc-rule-no : (z : List ℕ) (first at h : ℕ) (t : Bool) → h ≡ fromB
 unfolding relocRule handleOf
 reloc-rule-no z first at h t e q y = rw (drop-drop 2 at z, ← e, ← q, y)
 
+module _ (k : ℕ) (free reloc : Bool) where
+  pub rule-free : (r : List ℕ) (t : Bool) → k ≡ typeOf r → k ≡ 0 → t ≡ free → t ≡ typeRule (typeOf r) free reloc
+  unfolding typeRule
+  rule-free r t e q h = rw (← e, q) h
+
+  pub rule-reloc : (r : List ℕ) (t : Bool) → k ≡ typeOf r → k ≡ 2 → t ≡ reloc → t ≡ typeRule (typeOf r) free reloc
+  unfolding typeRule
+  rule-reloc r t e q h = rw (← e, q) h
+
+  pub rule-other : (r : List ℕ) → k ≡ typeOf r → (k ≡ 2 → ⊥) → (k ≡ 0 → ⊥) → eqb k 1 ≡ typeRule (typeOf r) free reloc
+  unfolding typeRule
+  rule-other r e a b = rw (← e) (go k a b)
+    where
+      go : (k : ℕ) → (k ≡ 2 → ⊥) → (k ≡ 0 → ⊥) → eqb k 1 ≡ typeRule k free reloc
+      go zero a b = absurd (b refl)
+      go (suc zero) a b = refl
+      go (suc (suc zero)) a b = absurd (a refl)
+      go (suc (suc (suc k))) a b = ne-eqb (suc (suc (suc k))) 1 (λ q. omega arith)
+
 -- ---- the test of a block
 
-module _ (z : List ℕ) (first : ℕ) (prev : Bool) (at n : ℕ) where
+-- the test of a size n, where the zone goes on for room bytes, and what it says
+abbrev pub tiles : ℕ → ℕ → Bool
+tiles n room = leb 4 n && eqb (n % 4) 0 && leb n room
+
+module _ (n room : ℕ) (q : not (tiles n room) ≡ false) where
+  head : (leb 4 n && eqb (n % 4) 0) ≡ true
+  head = and-left _ (leb n room) (not-false _ q)
+
+  pub tiles-low : 4 ≤ n
+  tiles-low = leb-true 4 n (and-left _ (eqb (n % 4) 0) head)
+
+  tiles-four : n % 4 ≡ 0
+  tiles-four = eqb-true (n % 4) 0 (and-right (leb 4 n) _ head)
+
+  tiles-room : n ≤ room
+  tiles-room = leb-true n room (and-right (leb 4 n && eqb (n % 4) 0) _ (not-false _ q))
+
+pub tiles-fits : (z : List ℕ) (at n : ℕ) → at + 4 ≤ length z → not (tiles n (length z - at)) ≡ false → at + n ≤ length z
+tiles-fits z at n h q = omega (arith, tiles-room n (length z - at) q)
+
+module _ (z : List ℕ) (first : ℕ) (prev : Bool) (at n : ℕ) (e : n ≡ sizeOf (drop at z)) (h : at + 4 ≤ length z) where
   abbrev test : Bool
   test = blockOk z first prev at (take (sizeOf (drop at z)) (drop at z))
 
-  pub no-low : n ≡ sizeOf (drop at z) → n < 4 → false ≡ test
-  no-low e h = sym (is-false _ (λ g. let f = is-first z first prev at (drop at z) g in omega arith))
+  none : test ≡ false → GoodSize z first prev at 0
+  none q = record { four = refl; fits = omega arith; bad = λ _. q; good = λ y. absurd (y refl) }
 
-  pub no-four : n ≡ sizeOf (drop at z) → (n % 4 ≡ 0 → ⊥) → false ≡ test
-  no-four e h = sym (is-false _ (λ g. let f = is-first z first prev at (drop at z) g in h (rw e (f .four))))
+  pub size-bad : not (tiles n (length z - at)) ≡ true → GoodSize z first prev at 0
+  size-bad q = none (is-false _ (λ g.
+      let f = is-first z first prev at (drop at z) g in
+      let d = length-drop at z in
+      let p = not-true (tiles n (length z - at)) q in
+      not-both (rw (le-leb 4 n (omega arith), eq-eqb (n % 4) 0 (rw e (f .four)), le-leb n (length z - at) (omega arith))) p))
 
-  pub no-room : n ≡ sizeOf (drop at z) → length z - at < n → false ≡ test
-  no-room e h = sym (is-false _ (λ g. let f = is-first z first prev at (drop at z) g in omega (arith, length-drop at z)))
+  module _ (t : Bool) (q : not (tiles n (length z - at)) ≡ false) (et : t ≡ typeRule (typeOf (drop at z)) (freeRule prev (take n (drop at z))) (relocRule z first at (handleOf (drop at z)))) where
+    by-rule : test ≡ t
+    by-rule =
+        let low = tiles-low n (length z - at) q in
+        let four = tiles-four n (length z - at) q in
+        let fits = tiles-room n (length z - at) q in
+        rw (first-rule z first prev at (drop at z) (omega arith) (rw (← e) four) (omega (arith, length-drop at z)), ← e, ← et)
 
-  module _ (k : ℕ) (e : n ≡ sizeOf (drop at z)) (low : 4 ≤ n) (four : n % 4 ≡ 0) (fits : n ≤ length z - at) (ek : k ≡ typeOf (drop at z)) where
-    by-kind : test ≡ typeRule k (freeRule prev (take n (drop at z))) (relocRule z first at (handleOf (drop at z)))
-    by-kind = rw (first-rule z first prev at (drop at z) (omega arith) (rw (← e) four) (omega (arith, length-drop at z)), ← ek, ← e)
+    pub rule-bad : t ≡ false → GoodSize z first prev at 0
+    rule-bad y = none (by-rule ∙ y)
 
-    pub yes-free : (t : Bool) → k ≡ 0 → t ≡ freeRule prev (take n (drop at z)) → t ≡ test
-    unfolding typeRule
-    yes-free t q h = rw (by-kind, q) h
-
-    pub yes-fixed : k ≡ 1 → true ≡ test
-    unfolding typeRule
-    yes-fixed q = rw (by-kind, q)
-
-    pub yes-reloc : (t : Bool) → k ≡ 2 → t ≡ relocRule z first at (handleOf (drop at z)) → t ≡ test
-    unfolding typeRule
-    yes-reloc t q h = rw (by-kind, q) h
-
-    pub no-kind : (k ≡ 0 → ⊥) → (k ≡ 1 → ⊥) → (k ≡ 2 → ⊥) → false ≡ test
-    unfolding typeRule
-    no-kind a b c = rw by-kind (go k a b c)
-      where
-        go : (k : ℕ) → (k ≡ 0 → ⊥) → (k ≡ 1 → ⊥) → (k ≡ 2 → ⊥) → false ≡ typeRule k (freeRule prev (take n (drop at z))) (relocRule z first at (handleOf (drop at z)))
-        go zero a b c = absurd (a refl)
-        go (suc zero) a b c = absurd (b refl)
-        go (suc (suc zero)) a b c = absurd (c refl)
-        go (suc (suc (suc k))) a b c = refl
+    pub rule-good : t ≡ true → GoodSize z first prev at n
+    rule-good y =
+        let g = turn z first prev at n h (by-rule ∙ y) e in
+        record { four = g .four; fits = g .fits; bad = λ b. let no-way : ⊥ = omega arith in absurd no-way; good = λ _. g }
 
 -- ---- the chain
 
@@ -133,17 +164,17 @@ links-done z first (suc left) h w l inv = let e : ⊥ = omega arith in absurd e
 
 -- ---- the walk
 
-pub tiles-stop : (z : List ℕ) (first at : ℕ) (prev t w : Bool) → at < length z
-    → t ≡ blockOk z first prev at (take (sizeOf (drop at z)) (drop at z)) → t ≡ false → blocksOk z first prev at (splitBlocks (drop at z)) ≡ w → false ≡ w
-tiles-stop z first at prev t w h e q inv = sym (stop z first prev at h (sym e ∙ q)) ∙ inv
+module _ (z : List ℕ) (first at n : ℕ) (prev : Bool) (g : GoodSize z first prev at n) where
+  pub tiles-stop : (w : Bool) → at < length z → n ≡ 0 → blocksOk z first prev at (splitBlocks (drop at z)) ≡ w → false ≡ w
+  tiles-stop w h q inv = sym (stop z first prev at h (g .bad q)) ∙ inv
 
-pub tiles-step : (z : List ℕ) (first at n : ℕ) (prev f w : Bool) → Turn z first prev at n → f ≡ isFree (drop at z)
-    → blocksOk z first prev at (splitBlocks (drop at z)) ≡ w → blocksOk z first f (at + n) (splitBlocks (drop (at + n) z)) ≡ w
-tiles-step z first at n prev f w t e inv = rw e (sym (t .walk) ∙ inv)
+  pub tiles-step : (f w : Bool) → (n ≡ 0 → ⊥) → f ≡ isFree (drop at z)
+      → blocksOk z first prev at (splitBlocks (drop at z)) ≡ w → blocksOk z first f (at + n) (splitBlocks (drop (at + n) z)) ≡ w
+  tiles-step f w q e inv = rw e (sym (g .good q .walk) ∙ inv)
 
-pub tiles-count : (z : List ℕ) (first at n count one w : ℕ) (prev : Bool) → Turn z first prev at n → one ≡ cond (isReloc (drop at z)) 1 0
-    → count + relocs (splitBlocks (drop at z)) ≡ w → count + one + relocs (splitBlocks (drop (at + n) z)) ≡ w
-tiles-count z first at n count one w prev t e inv = omega (arith, t .count)
+  pub tiles-count : (count one w : ℕ) → (n ≡ 0 → ⊥) → one ≡ cond (isReloc (drop at z)) 1 0
+      → count + relocs (splitBlocks (drop at z)) ≡ w → count + one + relocs (splitBlocks (drop (at + n) z)) ≡ w
+  tiles-count count one w q e inv = omega (arith, g .good q .count)
 
 pub tiles-end : (z : List ℕ) (first at : ℕ) (prev w : Bool) → length z ≤ at → blocksOk z first prev at (splitBlocks (drop at z)) ≡ w → true ≡ w
 tiles-end z first at prev w h inv = sym (end z first prev at h) ∙ inv

@@ -1,12 +1,12 @@
 // One block of a zone: its type, its size, and whether it obeys the rules.
 use block_type::BlockType;
 ghost use mathlib.Core.Path.{_≡_};
-ghost use mathlib.Core.Bool.{true, cond};
+ghost use mathlib.Core.Bool.{cond};
 ghost use Prim.Native.Nat.{_+_, _<_, _≤_};
 ghost use lib.ListN.{length, take, drop};
 ghost use Rattle.format.specs.WellFormed.{typeOf, sizeOf, handleOf, isFree, isReloc, isMaster};
-ghost use Rattle.format.specs.OneWalk.{freeRule, relocRule, blockOk};
-ghost use Rattle.format.specs.Steps.{Turn};
+ghost use Rattle.format.specs.OneWalk.{typeRule, freeRule, relocRule};
+ghost use Rattle.format.specs.Steps.{GoodSize};
 
 pub fn is_master(first: usize, h: usize) -> bool
     requires { ⌜ h < 4294967296 ⌝ }
@@ -73,38 +73,32 @@ fn reloc_ok(z: &[u8], first: usize, at: usize) -> bool
     false
 }
 
-// Whether the block at `at` obeys the rules.
-pub fn block_ok(z: &[u8], first: usize, prev: bool, at: usize) -> bool
-    requires { ⌜ (at + 4 ≤ length (now z)) × (first ≤ length (now z)) × (length (now z) ≤ 1048576) ⌝ }
-    ensures { λ r. ⌜ r ≡ blockOk (now (z .entry)) first prev at (take (sizeOf (drop at (now (z .entry)))) (drop at (now (z .entry)))) ⌝ }
+// Whether a block of n bytes at `at` obeys the rule of its type.
+fn rule_ok(z: &[u8], first: usize, prev: bool, at: usize, n: usize) -> bool
+    requires { ⌜ (4 ≤ n) × (at + n ≤ length (now z)) × (first ≤ length (now z)) × (length (now z) ≤ 1048576) ⌝ }
+    ensures { λ r. ⌜ r ≡ typeRule (typeOf (drop at (now (z .entry)))) (freeRule prev (take n (drop at (now (z .entry))))) (relocRule (now (z .entry)) first at (handleOf (drop at (now (z .entry))))) ⌝ }
 {
-    let n = size_at(z, at);
-    if n < 4 {
-        return false;
-    }
-    if n % 4 != 0 {
-        return false;
-    }
-    if z.len() - at < n {
-        return false;
-    }
     let k = type_at(z, at);
-    if k == BlockType::FREE_CODE {
-        return free_ok(z, at, n, prev);
-    }
-    if k == BlockType::FIXED_CODE {
-        return true;
-    }
     if k == BlockType::RELOCATABLE_CODE {
         return reloc_ok(z, first, at);
     }
-    false
+    if k == BlockType::FREE_CODE {
+        return free_ok(z, at, n, prev);
+    }
+    k == BlockType::FIXED_CODE
 }
 
-// The size of a block that obeys the rules, with what a walk relies on.
-pub fn step(z: &[u8], first: usize, prev: bool, at: usize) -> usize
-    requires { ⌜ (at + 4 ≤ length (now z)) × (blockOk (now z) first prev at (take (sizeOf (drop at (now z))) (drop at (now z))) ≡ true) ⌝ }
-    ensures { λ r. ⌜ Turn (now (z .entry)) first prev at r ⌝ }
+// The size of the block at `at` where it obeys the rules, else 0.
+pub fn good_size(z: &[u8], first: usize, prev: bool, at: usize) -> usize
+    requires { ⌜ (at + 4 ≤ length (now z)) × (first ≤ length (now z)) × (length (now z) ≤ 1048576) ⌝ }
+    ensures { λ r. ⌜ GoodSize (now (z .entry)) first prev at r ⌝ }
 {
-    size_at(z, at)
+    let n = size_at(z, at);
+    if !((4 <= n) & (n % 4 == 0) & (n <= z.len() - at)) {
+        return 0;
+    }
+    if rule_ok(z, first, prev, at, n) {
+        return n;
+    }
+    0
 }

@@ -13,7 +13,8 @@ use lib.ListN.{length, getD, set, take, drop, replicate, length-set}
 use lib.Seq.{getD-set-same, getD-set-other}
 use mir.Val.{Fits}
 use mir.Syntax.{w8}
-use Rattle.access.specs.Edit.{IsZone, is-zone, whole-of}
+use Rattle.access.specs.Edit.{IsZone, is-zone}
+use Rattle.access.proofs.Zone.{whole-of}
 use Rattle.release.proofs.Reach.{tiles-are}
 use Rattle.bigendian.specs.BigEndian.{fromBE, slice}
 use Rattle.format.specs.WellFormed.{isFree, wellFormed, firstField, zoneOf}
@@ -194,4 +195,4 @@ pub census-0 : (s : List ℕ) (ok : Bool) (l : ℕ) (cs : List ℕ) → ok ≡ w
 unfolding decode
 census-0 s ok l cs e q el y (counts-in c) =
     let h : wellFormed s ≡ true = well s ok e q in
-    rw (h, c, el) (ap (λ (bs : List Block). counted 0 (countsOf lowerLimits (freeWords bs))) (tiles-are (zoneOf s) (is-zone (whole s (λ j. y j .fits) h))))
+    rw (h, c, el) (ap (λ (bs : List Block). counted 0 (countsOf lowerLimits (freeWords bs))) (tiles-are (zoneOf s) (is-zone s (λ j. y j .fits) h refl)))

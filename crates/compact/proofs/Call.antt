@@ -12,7 +12,8 @@ use Rattle.bigendian.specs.BigEndian.{fromBE, slice}
 use Rattle.format.specs.WellFormed.{wellFormed, lengthField}
 use Rattle.structure.specs.Structure.{Structure, start, decode, decodeZone, encode}
 use Rattle.structure.proofs.Sound.{valid-zone}
-use Rattle.access.specs.Edit.{IsZone, whole-of}
+use Rattle.access.specs.Edit.{IsZone}
+use Rattle.access.proofs.Zone.{whole-of}
 use Rattle.calls.specs.Calls.{told, compact}
 use Rattle.zone.specs.OnBytes.{result, callBytes}
 use Rattle.zone.proofs.Pack.{compact-line}

@@ -12,7 +12,8 @@ use Rattle.structure.specs.Structure.{Block, Structure, sizes, encode, decodeZo
 use Rattle.structure.proofs.Table.{encode-zone, start-is}
 use Rattle.structure.proofs.Sound.{valid-zone}
 use Rattle.structure.proofs.Round.{length-is}
-use Rattle.access.specs.Edit.{IsZone, whole-of}
+use Rattle.access.specs.Edit.{IsZone}
+use Rattle.access.proofs.Zone.{whole-of}
 use Rattle.row.specs.Row.{blocksOf, Row, row}
 use Rattle.find_bay.specs.Spots.{freeTotal, used, squeeze}
 use Rattle.find_bay.proofs.Numbers.{sizes-append}

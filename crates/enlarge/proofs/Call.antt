@@ -18,7 +18,8 @@ use Rattle.structure.specs.Valid.{Valid}
 use Rattle.structure.proofs.Table.{Whole, whole, start-is, len-is, encode-zone, encode-decode}
 use Rattle.structure.proofs.Sound.{valid-zone}
 use Rattle.bigendian.proofs.Laws.{length-toBE}
-use Rattle.access.specs.Edit.{IsZone, is-zone, whole-of}
+use Rattle.access.specs.Edit.{IsZone, is-zone}
+use Rattle.access.proofs.Zone.{whole-of}
 use Rattle.row.specs.Row.{Sound}
 use Rattle.row.proofs.Laws.{low-of, sound-right}
 use Rattle.find_bay.specs.Spots.{gapOf}
@@ -178,7 +179,7 @@ module _ (s : List ℕ) (y : Bytes s) (wf : wellFormed s ≡ true) where
             go true e p = nothing (omega (arith, eqb-true (t .last) 0 e, total, len-zone))
             go false e p =
                 subst (Hole (zoneOf s) from) (sym total ∙ len-zone)
-                (subst (λ (o : ℕ). Hole (zoneOf s) o (o + t .last)) (sym (t .is-from)) (free-hole (zoneOf s) (is-zone w) (t .pre) (t .last) [] p))
+                (subst (λ (o : ℕ). Hole (zoneOf s) o (o + t .last)) (sym (t .is-from)) (free-hole (zoneOf s) (is-zone s y wf refl) (t .pre) (t .last) [] p))
 
         between : Between (take (lengthField s + k) s) from (lengthField s + k - k) (length (take (lengthField s + k) s)) (length (take (lengthField s + k) s))
         between =

@@ -82,7 +82,7 @@ enlarge-none s y = go (wellFormed s) refl
     within w false a = ap (λ (r : Result). r .bytes) (call-9 s y w 0 a)
     within w true a =
         let z = zoneOf s in
-        let i = tail-zone z (is-zone (whole s y w)) (firstField z) (lowOf (length z) (firstField z) (blocksAt z (firstField z))) refl refl in
+        let i = tail-zone z (is-zone s y w refl) (firstField z) (lowOf (length z) (firstField z) (blocksAt z (firstField z))) refl refl in
         ap (λ (r : Result). r .bytes) (sym (idle s y w 0 a (lowOf (length z) (firstField z) (blocksAt z (firstField z))) i refl))
 
     go : (t : Bool) → wellFormed s ≡ t → left 0 s ≡ s

@@ -1,11 +1,11 @@
 -- What the leaves of a walk promise to the loop above them: the records that contracts inside the library cite.
 use mathlib.Core.Path.{_≡_}
 use mathlib.Core.List.{List}
-use mathlib.Core.Bool.{Bool, cond}
+use mathlib.Core.Bool.{Bool, false, cond}
 use Prim.Native.Nat.{ℕ, _+_, _*_, _%_, _≤_}
-use lib.ListN.{length, getD, drop}
-use Rattle.format.specs.WellFormed.{lengthField, firstField, mastersField, chainField, isFree, isReloc, splitBlocks, relocs}
-use Rattle.format.specs.OneWalk.{blocksOk}
+use lib.ListN.{length, getD, take, drop}
+use Rattle.format.specs.WellFormed.{lengthField, firstField, mastersField, chainField, sizeOf, isFree, isReloc, splitBlocks, relocs}
+use Rattle.format.specs.OneWalk.{blockOk, blocksOk}
 
 -- a header's fields, and what its test says of them
 pub record Fields (s : List ℕ) (l first m head : ℕ) : Type 0 where
@@ -30,3 +30,10 @@ pub record Turn (z : List ℕ) (first : ℕ) (prev : Bool) (at n : ℕ) : Type 0
   pub fits : at + n ≤ length z
   pub walk : blocksOk z first prev at (splitBlocks (drop at z)) ≡ blocksOk z first (isFree (drop at z)) (at + n) (splitBlocks (drop (at + n) z))
   pub count : relocs (splitBlocks (drop at z)) ≡ cond (isReloc (drop at z)) 1 0 + relocs (splitBlocks (drop (at + n) z))
+
+-- n is the size of the block at `at` where it obeys the rules, else 0
+pub record GoodSize (z : List ℕ) (first : ℕ) (prev : Bool) (at n : ℕ) : Type 0 where
+  pub four : n % 4 ≡ 0
+  pub fits : at + n ≤ length z
+  pub bad : n ≡ 0 → blockOk z first prev at (take (sizeOf (drop at z)) (drop at z)) ≡ false
+  pub good : (n ≡ 0 → ⊥) → Turn z first prev at n

@@ -11,7 +11,8 @@ use Rattle.format.specs.WellFormed.{wellFormed}
 use Rattle.structure.specs.Structure.{decodeZone, decode, encode}
 use Rattle.structure.proofs.Table.{Whole, len-is}
 use Rattle.structure.proofs.Sound.{valid-zone}
-use Rattle.access.specs.Edit.{placeIn, IsZone, whole-of}
+use Rattle.access.specs.Edit.{placeIn, IsZone}
+use Rattle.access.proofs.Zone.{whole-of}
 use mir.Val.{Fits}
 use mir.Syntax.{w8}
 use Rattle.calls.specs.Calls.{told, free-handle}

@@ -14,7 +14,8 @@ use Rattle.structure.specs.Structure.{Block, free, Structure, sizes, start, enc
 use Rattle.structure.specs.Valid.{handlesOf, Valid}
 use Rattle.structure.proofs.Table.{Whole, len-is, encode-zone}
 use Rattle.structure.proofs.Sound.{valid-zone}
-use Rattle.access.specs.Edit.{IsZone, whole-of}
+use Rattle.access.specs.Edit.{IsZone}
+use Rattle.access.proofs.Zone.{whole-of}
 use Rattle.row.specs.Row.{Sound}
 use Rattle.row.proofs.Laws.{low-of, sound-left, sound-right}
 use Rattle.release.specs.Release.{Between}

@@ -13,7 +13,8 @@ use Rattle.structure.specs.Structure.{Block, free, fixed, reloc, size, sizes, s
 use Rattle.structure.proofs.Table.{Whole, start-is, len-is}
 use Rattle.structure.proofs.Sound.{valid-zone}
 use Rattle.structure.specs.Valid.{Tiled}
-use Rattle.access.specs.Edit.{IsZone, whole-of}
+use Rattle.access.specs.Edit.{IsZone}
+use Rattle.access.proofs.Zone.{whole-of}
 use Rattle.walk.specs.Walker.{blocksAt, Edge, Seen, blockAt, freeB, lowOf}
 use Rattle.walk.proofs.Laws.{tiles-end}
 use Rattle.release.specs.Release.{Hole, Between}

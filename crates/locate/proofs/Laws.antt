@@ -22,7 +22,8 @@ use Rattle.structure.proofs.Round.{offset-is, rest-is}
 use Rattle.structure.proofs.Table.{Whole, whole, start-is, encode-zone}
 use Rattle.structure.proofs.Sound.{valid-zone}
 use Rattle.access.specs.Edit as Edit
-use Rattle.access.specs.Edit.{IsZone, is-zone, whole-of}
+use Rattle.access.specs.Edit.{IsZone, is-zone}
+use Rattle.access.proofs.Zone.{whole-of}
 use Rattle.row.specs.Row.{blocksOf, Sound, Row, row, Stepped}
 use Rattle.row.proofs.Laws.{row-end}
 use Rattle.calls.specs.Calls.{Target, by-handle, by-pointer, absentNumber}
@@ -138,7 +139,7 @@ module _ (s : List ℕ) (ok : Bool) (e : ok ≡ wellFormed s) (q : not ok ≡ fa
     has-zone = omega (arith, facts .room)
 
     pub has-whole : Bytes s → IsZone (take l s)
-    has-whole y = is-zone (rw el (whole s y wf))
+    has-whole y = is-zone s y wf (ap (λ (k : ℕ). take k s) (sym el))
 
     module _ (t : Target) (at : ℕ) (ea : at ≡ targetPlace t (take l s)) where
       pub located-no : (k : ℕ) → Bytes s → at ≡ 0 → k ≡ absentNumber t → Located s t k 0 0

@@ -12,7 +12,8 @@ use Rattle.format.specs.WellFormed.{chainField, lengthField}
 use Rattle.structure.specs.Structure.{Block, free, Structure, encodeBlock, encode, decodeZone, start, sizes, len, headOf}
 use Rattle.structure.proofs.Table.{Whole, encode-zone, len-is, head-is}
 use Rattle.structure.proofs.Sound.{valid-zone}
-use Rattle.access.specs.Edit.{IsZone, whole-of}
+use Rattle.access.specs.Edit.{IsZone}
+use Rattle.access.proofs.Zone.{whole-of}
 use Rattle.access.proofs.Store.{write-right, write-length}
 use Rattle.release.specs.Release.{freed, Span, SpanIn, span-of}
 use Rattle.release.proofs.Freed.{free-bytes, four-mid, sizes-append, index}

@@ -14,7 +14,8 @@ use Rattle.format.proofs.Count.{occurs, one-same, occurs-append}
 use Rattle.structure.specs.Structure.{Block, free, fixed, reloc, Structure, sizes, start, decodeZone, placeOf}
 use Rattle.structure.specs.Valid.{handlesOf, Tiled, Valid}
 use Rattle.structure.proofs.Sound.{valid-zone}
-use Rattle.access.specs.Edit.{IsZone, whole-of, placeIn, dataIn, dataOf}
+use Rattle.access.specs.Edit.{IsZone, placeIn, dataIn, dataOf}
+use Rattle.access.proofs.Zone.{whole-of}
 use Rattle.release.specs.Release.{gap, release, Span, SpanIn, span-of, Hole, nothing, Between}
 use Rattle.release.proofs.Freed.{sizes-append, handles-append, place-append, tiled-tail, owned-once}
 use Rattle.release.proofs.Hole.{free-hole, block-between}

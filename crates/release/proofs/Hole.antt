@@ -16,7 +16,8 @@ use Rattle.structure.specs.Valid.{Tiled, Valid}
 use Rattle.structure.proofs.Table.{Whole, len-is, encode-zone}
 use Rattle.structure.proofs.Round.{rest-is}
 use Rattle.structure.proofs.Sound.{valid-zone}
-use Rattle.access.specs.Edit.{IsZone, whole-of}
+use Rattle.access.specs.Edit.{IsZone}
+use Rattle.access.proofs.Zone.{whole-of}
 use Rattle.access.proofs.Store.{write-right, write-left, write-length}
 use Rattle.walk.specs.Walker.{lowOf, freeB}
 use Rattle.release.specs.Release.{Hole, nothing, zeros, Between}

@@ -12,7 +12,8 @@ use Rattle.structure.specs.Structure.{Block, free, fixed, reloc, size, sizes, s
 use Rattle.structure.proofs.Table.{Whole, start-is, len-is}
 use Rattle.structure.proofs.Sound.{valid-zone}
 use Rattle.structure.specs.Valid.{Tiled, Valid}
-use Rattle.access.specs.Edit.{IsZone, whole-of, placeIn, dataIn, dataOf}
+use Rattle.access.specs.Edit.{IsZone, placeIn, dataIn, dataOf}
+use Rattle.access.proofs.Zone.{whole-of}
 use Rattle.access.proofs.PutLaws.{data-fits}
 use mir.Val.{Fits}
 use mir.Syntax.{w64}

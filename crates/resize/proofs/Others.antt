@@ -15,7 +15,8 @@ use Rattle.structure.specs.Valid.{handlesOf, Valid}
 use Rattle.structure.proofs.Table.{Whole, start-is}
 use Rattle.structure.proofs.Round.{place-none}
 use Rattle.structure.proofs.Sound.{valid-zone}
-use Rattle.access.specs.Edit.{IsZone, whole-of, placeIn, dataIn, dataOf}
+use Rattle.access.specs.Edit.{IsZone, placeIn, dataIn, dataOf}
+use Rattle.access.proofs.Zone.{whole-of}
 use Rattle.row.specs.Row.{blocksOf, Row}
 use Rattle.find_bay.specs.Spots.{Spot, Choice, none, some, bays, firstFit}
 use Rattle.find_bay.specs.Find.{BayN, bayN, findBay, bayAt}

@@ -12,7 +12,8 @@ use Rattle.format.proofs.Count.{occurs}
 use Rattle.structure.specs.Structure.{Block, Structure, sizes, start, placeOf, decodeZone}
 use Rattle.structure.specs.Valid.{handlesOf}
 use Rattle.structure.proofs.Table.{Whole, start-is}
-use Rattle.access.specs.Edit.{IsZone, whole-of, placeIn, dataIn, dataOf}
+use Rattle.access.specs.Edit.{IsZone, placeIn, dataIn, dataOf}
+use Rattle.access.proofs.Zone.{whole-of}
 use Rattle.row.specs.Row.{blocksOf, Row}
 use Rattle.release.proofs.Find.{mid-of}
 use Rattle.find_bay.specs.Spots.{freeTotal, Spot, Choice, none, some, bays}

@@ -8,7 +8,8 @@ use lib.ListN.{length, drop}
 use Rattle.format.specs.WellFormed.{isFree, firstField}
 use Rattle.structure.specs.Structure.{Block, free, fixed, reloc, size, sizes, start, decodeZone}
 use Rattle.structure.proofs.Table.{Whole, start-is}
-use Rattle.access.specs.Edit.{IsZone, whole-of, placeIn, dataIn, dataOf}
+use Rattle.access.specs.Edit.{IsZone, placeIn, dataIn, dataOf}
+use Rattle.access.proofs.Zone.{whole-of}
 use Rattle.walk.specs.Walker.{blocksAt, Edge, Seen, blockAt, freeB}
 use Rattle.walk.proofs.Laws.{tiles-end}
 use Rattle.release.proofs.Find.{leadOf, Mid, mid-of}

@@ -17,7 +17,8 @@ use Rattle.structure.specs.Valid.{handlesOf, Tiled, Valid}
 use Rattle.structure.proofs.Table.{Whole, encode-zone}
 use Rattle.structure.proofs.Sound.{valid-zone}
 use Rattle.structure.proofs.Round.{length-is}
-use Rattle.access.specs.Edit.{IsZone, whole-of, placeIn, dataIn, dataOf}
+use Rattle.access.specs.Edit.{IsZone, placeIn, dataIn, dataOf}
+use Rattle.access.proofs.Zone.{whole-of}
 use Rattle.row.specs.Row.{bytesOf, Sound}
 use Rattle.row.proofs.Laws.{bytes-long, sound-left, sound-right}
 use Rattle.find_bay.specs.Spots.{gapOf}

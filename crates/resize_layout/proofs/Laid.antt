@@ -17,7 +17,8 @@ use Rattle.structure.specs.Valid.{handlesOf, Valid}
 use Rattle.structure.proofs.Table.{Whole, encode-zone}
 use Rattle.structure.proofs.Sound.{valid-zone}
 use Rattle.structure.proofs.Round.{offset-is, next-none, length-is, master-is}
-use Rattle.access.specs.Edit.{IsZone, whole-of, dataOf}
+use Rattle.access.specs.Edit.{IsZone, dataOf}
+use Rattle.access.proofs.Zone.{whole-of}
 use Rattle.row.specs.Row.{bytesOf, blocksOf, Sound, Row, row}
 use Rattle.row.proofs.Laws.{bytes-append, bytes-long, sound-left, sound-right, sound-append, tiles-join}
 use Rattle.find_bay.specs.Spots.{freeTotal, Spot, put, bays, Choice, none, some, used, gapOf, squeeze}

@@ -14,7 +14,8 @@ use Rattle.structure.specs.Structure.{Block, reloc, Structure, sizes, encodeBlo
 use Rattle.structure.specs.Valid.{handlesOf, Valid}
 use Rattle.structure.proofs.Table.{Whole, encode-zone, len-is}
 use Rattle.structure.proofs.Sound.{valid-zone}
-use Rattle.access.specs.Edit.{IsZone, whole-of, placeIn, dataIn, dataOf}
+use Rattle.access.specs.Edit.{IsZone, placeIn, dataIn, dataOf}
+use Rattle.access.proofs.Zone.{whole-of}
 use Rattle.access.proofs.PutLaws.{data-fits}
 use Rattle.find_bay.proofs.Numbers.{sizes-append}
 use Rattle.release.specs.Release.{Span, SpanIn, span-of}

@@ -40,7 +40,7 @@ zone-self : (s : Structure) → Valid s → zoneOf (encode s) ≡ encode s
 zone-self s v = take-all (lengthField (encode s)) (encode s) (omega (arith, heads-self s v .is-len, length-is s v))
 
 pub zone-of : (s : Structure) → Valid s → Bytes (encode s) → IsZone (encode s)
-zone-of s v y = is-zone (subst Whole (zone-self s v) (whole (encode s) y (subst (λ (z : List ℕ). wellFormed z ≡ true) (append-nil (encode s)) (well-formed s v []))))
+zone-of s v y = is-zone (encode s) y (subst (λ (z : List ℕ). wellFormed z ≡ true) (append-nil (encode s)) (well-formed s v [])) (zone-self s v)
 
 pub back-of : (s : Structure) → Valid s → decodeZone (encode s) ≡ s
 unfolding decode

@@ -15,7 +15,8 @@ use Rattle.structure.specs.Valid.{handlesOf, Valid}
 use Rattle.structure.proofs.Table.{Whole, encode-zone}
 use Rattle.structure.proofs.Sound.{valid-zone}
 use Rattle.structure.proofs.Round.{length-is}
-use Rattle.access.specs.Edit.{IsZone, whole-of, dataOf}
+use Rattle.access.specs.Edit.{IsZone, dataOf}
+use Rattle.access.proofs.Zone.{whole-of}
 use Rattle.row.specs.Row.{bytesOf, blocksOf, Sound, Row, row}
 use Rattle.row.proofs.Laws.{sound-left, sound-right, tiles-join}
 use Rattle.find_bay.specs.Spots.{freeTotal, Spot, spot, put, none, some, firstFit, holes, used, gapOf, squeeze, settle}

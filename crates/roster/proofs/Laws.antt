@@ -17,7 +17,8 @@ use Rattle.memory.proofs.Writes.{write-none}
 use Rattle.format.specs.WellFormed.{wellFormed, zoneOf, mastersField, countOf, offsets}
 use Rattle.structure.specs.Structure.{decode, decodeZone, start}
 use Rattle.structure.proofs.Table.{whole, len-is}
-use Rattle.access.specs.Edit.{placeIn, dataIn, IsZone, is-zone, whole-of}
+use Rattle.access.specs.Edit.{placeIn, dataIn, IsZone, is-zone}
+use Rattle.access.proofs.Zone.{whole-of}
 use Rattle.access.proofs.PutLaws.{data-fits}
 use Rattle.access.proofs.Size.{size-none}
 use Rattle.release.proofs.Act.{len-write, write-write}
@@ -193,7 +194,7 @@ perm-length (List·Permᴰ·trans p q) = perm-length p ∙ perm-length q
 
 module _ (s : List ℕ) (y : Bytes s) (h : wellFormed s ≡ true) where
   zone-is : IsZone (zoneOf s)
-  zone-is = is-zone (whole s y h)
+  zone-is = is-zone s y h refl
 
   order : List·Permᴰ (allCards (zoneOf s)) (bayCards (baysOf s))
   unfolding decode

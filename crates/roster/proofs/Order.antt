@@ -15,7 +15,8 @@ use Rattle.structure.specs.Valid.{handlesOf, Valid}
 use Rattle.structure.proofs.Round.{place-none, offset-le}
 use Rattle.structure.proofs.Sound.{valid-zone}
 use Rattle.structure.proofs.Table.{count-is}
-use Rattle.access.specs.Edit.{dataOf, placeIn, dataIn, IsZone, whole-of}
+use Rattle.access.specs.Edit.{dataOf, placeIn, dataIn, IsZone}
+use Rattle.access.proofs.Zone.{whole-of}
 use Rattle.calls.specs.Calls.{Card}
 use Rattle.zone.specs.Bays.{Bays, last, more, concatS}
 use Rattle.zone.specs.Bay.{Item, Cell, free as gapCell, held, items}

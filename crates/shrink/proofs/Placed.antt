@@ -11,7 +11,8 @@ use Rattle.structure.specs.Structure.{Block, free, Structure, sizes, start, len
 use Rattle.structure.specs.Valid.{Valid}
 use Rattle.structure.proofs.Table.{Whole, encode-zone}
 use Rattle.structure.proofs.Sound.{valid-zone}
-use Rattle.access.specs.Edit.{IsZone, whole-of}
+use Rattle.access.specs.Edit.{IsZone}
+use Rattle.access.proofs.Zone.{whole-of}
 use Rattle.row.specs.Row.{bytesOf}
 use Rattle.find_bay.specs.Spots.{Spot, some, gapOf}
 use Rattle.find_bay.proofs.Numbers.{sizes-append}

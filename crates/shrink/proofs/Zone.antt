@@ -9,7 +9,8 @@ use Rattle.bigendian.specs.BigEndian.{fromBE, slice}
 use Rattle.structure.specs.Structure.{Structure, start, decodeZone}
 use Rattle.structure.specs.Valid.{Valid}
 use Rattle.structure.proofs.Sound.{valid-zone}
-use Rattle.access.specs.Edit.{IsZone, whole-of}
+use Rattle.access.specs.Edit.{IsZone}
+use Rattle.access.proofs.Zone.{whole-of}
 use Rattle.row.specs.Row.{blocksOf, Sound}
 use Rattle.row.proofs.Laws.{sound-left, sound-right}
 use Rattle.find_bay.specs.Spots.{freeTotal, Spot, some}

@@ -11,7 +11,8 @@ use Rattle.structure.specs.Valid.{Valid}
 use Rattle.structure.proofs.Table.{Whole, encode-zone, start-is}
 use Rattle.structure.proofs.Sound.{valid-zone}
 use Rattle.structure.proofs.Round.{rest-is}
-use Rattle.access.specs.Edit.{IsZone, whole-of}
+use Rattle.access.specs.Edit.{IsZone}
+use Rattle.access.proofs.Zone.{whole-of}
 use Rattle.row.specs.Row.{blocksOf, Row, row}
 use Rattle.find_bay.specs.Spots.{Spot, some}
 use Rattle.surgery.proofs.Sound.{valid-sound}

@@ -96,7 +96,7 @@ pub sums-0 : (s : List ℕ) (ok : Bool) (l n total most : ℕ) → ok ≡ wellFo
 unfolding decode
 sums-0 s ok l n total most e q el y (sums-from a b c) =
     let h : wellFormed s ≡ true = well s ok e q in
-    let i : IsZone (zoneOf s) = is-zone (whole s (λ j. y j .fits) h) in
+    let i : IsZone (zoneOf s) = is-zone s (λ j. y j .fits) h refl in
     let d = decodeZone (zoneOf s) in
     rw (h, a, b, c, el)
     (ap₂ (summed 0)

@@ -16,7 +16,8 @@ use Rattle.format.proofs.Bool.{and-left}
 use Rattle.format.specs.Steps.{Fields}
 use Rattle.format.proofs.Header.{header-facts}
 use Rattle.structure.proofs.Table.{whole}
-use Rattle.access.specs.Edit.{IsZone, is-zone, whole-of}
+use Rattle.access.specs.Edit.{IsZone, is-zone}
+use Rattle.access.proofs.Zone.{whole-of}
 
 -- what is known of a slice, in the form that a search finds it in
 pub bytes-of : (s : List ℕ) → ((i : ℕ) → Fits w8 (getD s i 0)) → Bytes s
@@ -47,7 +48,7 @@ module _ (s : List ℕ) (ok : Bool) (e : ok ≡ wellFormed s) (q : not ok ≡ fa
     has-zone = omega (arith, fields-of s well .room)
 
     pub has-whole : Bytes s → IsZone (take l s)
-    has-whole y = is-zone (rw el (whole s y well))
+    has-whole y = is-zone s y well (ap (λ (k : ℕ). take k s) (sym el))
 
 pub get-first : (z : List ℕ) → IsZone z → 4 + 4 ≤ length z
 get-first z i = omega (arith, whole-of z i .long)

@@ -8,7 +8,8 @@ use borrow.Author.Tests.{not-true, eq-eqb, ne-eqb}
 use lib.ListN.{length, getD, take, drop, length-drop}
 use mir.Val.{Fits}
 use mir.Syntax.{w8}
-use Rattle.access.specs.Edit.{IsZone, is-zone, whole-of}
+use Rattle.access.specs.Edit.{IsZone, is-zone}
+use Rattle.access.proofs.Zone.{whole-of}
 use Rattle.release.proofs.Reach.{tiles-are}
 use Rattle.bigendian.specs.BigEndian.{fromBE, slice, Bytes}
 use Rattle.format.specs.WellFormed.{typeOf, sizeOf, handleOf, wellFormed, firstField, zoneOf}
@@ -81,7 +82,7 @@ found-is : (s : List ℕ) (at k o n : ℕ) → Bytes s → wellFormed s ≡ true
 unfolding decode
 found-is s at k o n y h (found f) =
     let w = whole s y h in
-    f .is ∙ ap₂ (describe at) (sym (start-is (zoneOf s) w)) (tiles-are (zoneOf s) (is-zone w))
+    f .is ∙ ap₂ (describe at) (sym (start-is (zoneOf s) w)) (tiles-are (zoneOf s) (is-zone s y h refl))
 
 pub go-0 : (s : List ℕ) (at : ℕ) (ok : Bool) (l k o n : ℕ) → ok ≡ wellFormed s → not ok ≡ false → l ≡ fromBE (slice s 0 4) → ((i : ℕ) → Fits w8 (getD s i 0))
     → Found (take l s) at k o n → walked 0 k o n (at + n) ≡ walkStep s at

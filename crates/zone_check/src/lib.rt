@@ -5,7 +5,7 @@ ghost use Prim.Native.Nat.{_+_, _-_, _*_, _%_, _<_, _≤_};
 ghost use lib.ListN.{length, take, drop};
 ghost use Rattle.format.specs.WellFormed.{headerOk, typeOf, sizeOf, handleOf, isFree, isReloc, splitBlocks, isMaster, relocs, wellFormed, countOf};
 ghost use Rattle.format.specs.OneWalk.{links, freeRule, relocRule, blockOk, blocksOk};
-ghost use Rattle.format.specs.Steps.{Turn, Fields};
+ghost use Rattle.format.specs.Steps.{Fields};
 ghost use Rattle.zone_check.specs.Body.{Body};
 
 pub struct Tally {
@@ -22,13 +22,13 @@ fn blocks_ok(z: &[u8], first: usize) -> Tally
     let mut prev = false;
     let mut count = 0;
     while at < z.len() {
-        if !block_check::block_ok(z, first, prev, at) {
+        let n = block_check::good_size(z, first, prev, at);
+        if n == 0 {
             return Tally {
                 ok: false,
                 count: 0,
             };
         }
-        let n = block_check::step(z, first, prev, at);
         prev = block_check::is_free(z, at);
         count += block_check::reloc_one(z, at);
         at += n;

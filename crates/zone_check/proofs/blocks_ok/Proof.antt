@@ -1,6 +1,3 @@
-use Rattle.format.proofs.Bool.{passed}
-use mathlib.Core.Path.{sym, _∙_}
-use borrow.Author.Tests.{not-true, not-false}
 use Rattle.format.proofs.Bool.{not-both}
 use mathlib.Core.Path.{_≡_, refl}
 use mathlib.Core.Bool.{true, false}
@@ -24,14 +21,11 @@ abbrev μ-loop : tie.MeasureT-loop
 loop-holds : tie.Need-loop-holds Inv-loop μ-loop
 loop-holds c = (omega arith, omega arith, omega arith, refl, zero-add _)
 
-block-ok-requires : tie.Need-block-ok-requires Inv-loop μ-loop
-block-ok-requires c κs = omega arith
+good-size-requires : tie.Need-good-size-requires Inv-loop μ-loop
+good-size-requires c κs = omega arith
 
 returns : tie.Need-returns Inv-loop μ-loop
-returns c = (search (tiles-stop, not-true), λ e. absurd (not-both e refl))
-
-step-requires : tie.Need-step-requires Inv-loop μ-loop
-step-requires c κs = (omega arith, search passed)
+returns c = (search tiles-stop, λ e. absurd (not-both e refl))
 
 is-free-requires : tie.Need-is-free-requires Inv-loop μ-loop
 is-free-requires c κs = omega arith
@@ -61,9 +55,8 @@ blocks-ok-spec =
     Inv-loop
     μ-loop
     loop-holds
-    block-ok-requires
+    good-size-requires
     returns
-    step-requires
     is-free-requires
     reloc-one-requires
     add-count
