@@ -20,7 +20,7 @@ use Rattle.find_bay.proofs.Numbers.{sizes-append}
 use Rattle.compact_bay.specs.Tidy.{IsLow, tidied}
 use Rattle.compact_bay.proofs.Squeeze.{squeeze-sizes}
 use Rattle.surgery.proofs.Sound.{lastFree, firstFree}
-use Rattle.compact.specs.All.{tidyFrom, compacted, larger, largestFrom, largest, stretchN, nextBay, tailOf}
+use Rattle.compact.specs.All.{tidyFrom, compacted, larger, largestFrom, largest, aheadN, nextBay, tailOf}
 use Rattle.compact.specs.Going.{At, at-edge, Bayed, bayed, Going, going}
 use Rattle.compact.proofs.Rest.{sp, so-rest, rest-bytes, long, next-is, sum-is, after, still, tidyPost, largestPost, lead, mid-row, mid-low, end-in, end-is, next-in, next-up, sizes-none, last-snoc}
 
@@ -37,7 +37,7 @@ module _ (z : List ℕ) (o : ℕ) (a : At z o) where
       go : At z o → length z ≤ 1048576
       go (at-edge s x) = omega (arith, ap length (x .image), length-is s (x .valid), x .valid .short)
 
-  module _ (end sum next : ℕ) (q : stretchN end sum next ≡ nextBay o 0 (blocksOf (drop o z))) where
+  module _ (end sum next : ℕ) (q : aheadN end sum next ≡ nextBay o 0 (blocksOf (drop o z))) where
     pub ask-order : o ≤ end
     ask-order = go a
       where
@@ -80,7 +80,7 @@ module _ (z : List ℕ) (o : ℕ) (a : At z o) where
         go : At z o → Bayed z o z sum next
         go (at-edge s x) = bayed end q (still s z o x end sum next q tail et es l)
 
-pub is-bayed : (z z′ : List ℕ) (o end sum next : ℕ) → stretchN end sum next ≡ nextBay o 0 (blocksOf (drop o z)) → z′ ≡ tidied z o (end - o) → Bayed z o z′ sum next
+pub is-bayed : (z z′ : List ℕ) (o end sum next : ℕ) → aheadN end sum next ≡ nextBay o 0 (blocksOf (drop o z)) → z′ ≡ tidied z o (end - o) → Bayed z o z′ sum next
 is-bayed z z′ o end sum next q e = bayed end q e
 
 -- ---- the loop

@@ -20,7 +20,7 @@ use Rattle.compact_bay.specs.Tidy.{IsLow, is-low, Low, tidied}
 use Rattle.surgery.proofs.Sound.{valid-sound, valid-low, low-append, low-left, lastFree, firstFree}
 use Rattle.surgery.proofs.Carved.{part-bytes}
 use Rattle.surgery.proofs.Spots.{IsBay, bay-tidied, bay-valid, bay-start}
-use Rattle.compact.specs.All.{tidyFrom, larger, largestFrom, StretchN, stretchN, nextBay, tailOf}
+use Rattle.compact.specs.All.{tidyFrom, larger, largestFrom, AheadN, aheadN, nextBay, tailOf}
 use Rattle.compact.specs.Going.{AtOf}
 
 pub larger-yes : (a b : ℕ) → a < b → b ≡ larger a b
@@ -67,7 +67,7 @@ pub record Split (o sum : ℕ) (bs : List Block) : Type 0 where
   pub post : List Block
   pub parts : bs ≡ mid ++ post
   pub right : firstFree post ≡ false
-  pub numbers : nextBay o sum bs ≡ stretchN (o + sizes mid) (sum + freeTotal mid) (o + sizes mid + lead post)
+  pub numbers : nextBay o sum bs ≡ aheadN (o + sizes mid) (sum + freeTotal mid) (o + sizes mid + lead post)
   pub tidy : (acc : List Block) → tidyFrom acc bs ≡ squeeze (acc ++ mid) ++ tidyPost post
   pub most : (best : ℕ) (acc : List Block) → largestFrom best acc bs ≡ largestPost (larger best (freeTotal (acc ++ mid))) post
   pub tail : (t : ℕ) → tailOf t bs ≡ lastSize t mid
@@ -174,18 +174,18 @@ module _ (s : Structure) (z : List ℕ) (o : ℕ) (a : AtOf s z o) where
   so-parts : Sound (sp .mid ++ sp .post)
   so-parts = subst Sound (sp .parts) so-rest
 
-  module _ (end sum next : ℕ) (q : stretchN end sum next ≡ nextBay o 0 (blocksOf (drop o z))) where
-    numbers : stretchN end sum next ≡ stretchN (o + sizes (sp .mid)) (0 + freeTotal (sp .mid)) (o + sizes (sp .mid) + lead (sp .post))
+  module _ (end sum next : ℕ) (q : aheadN end sum next ≡ nextBay o 0 (blocksOf (drop o z))) where
+    numbers : aheadN end sum next ≡ aheadN (o + sizes (sp .mid)) (0 + freeTotal (sp .mid)) (o + sizes (sp .mid) + lead (sp .post))
     numbers = q ∙ ap (nextBay o 0) rest-tiles ∙ sp .numbers
 
     pub end-is : end ≡ o + sizes (sp .mid)
-    end-is = ap (λ (n : StretchN). n .end) numbers
+    end-is = ap (λ (n : AheadN). n .end) numbers
 
     pub sum-is : sum ≡ freeTotal (sp .mid)
-    sum-is = ap (λ (n : StretchN). n .sum) numbers ∙ zero-add _
+    sum-is = ap (λ (n : AheadN). n .sum) numbers ∙ zero-add _
 
     pub next-is : next ≡ o + sizes (sp .mid) + lead (sp .post)
-    next-is = ap (λ (n : StretchN). n .next) numbers
+    next-is = ap (λ (n : AheadN). n .next) numbers
 
     mid-bytes : slice z o (end - o) ≡ bytesOf (sp .mid)
     mid-bytes =

@@ -9,17 +9,17 @@ use lib.ListN.{length, drop}
 use Rattle.format.specs.WellFormed.{typeOf}
 use Rattle.row.specs.Row.{blocksOf, Stepped, kindB, blockAt}
 use Rattle.row.proofs.Laws.{row-end}
-use Rattle.compact.specs.All.{StretchN, stretchN, nextBay, tailOf}
+use Rattle.compact.specs.All.{AheadN, aheadN, nextBay, tailOf}
 
 module _ (z : List ℕ) (at n k : ℕ) (st : Stepped z at n) (ek : k ≡ typeOf (drop at z)) where
   kb : kindB (blockAt z at) ≡ k
   kb = st .kind ∙ sym ek
 
-  pub next-hit : (sum : ℕ) (w : StretchN) → k ≡ 1 → nextBay at sum (blocksOf (drop at z)) ≡ w → stretchN at sum (at + n) ≡ w
+  pub next-hit : (sum : ℕ) (w : AheadN) → k ≡ 1 → nextBay at sum (blocksOf (drop at z)) ≡ w → aheadN at sum (at + n) ≡ w
   unfolding nextBay
   next-hit sum w e inv = rw (st .blocks, kb, e, st .bytes) at inv
 
-  pub next-more : (sum f : ℕ) (w : StretchN) → (k ≡ 1 → ⊥) → f ≡ cond (eqb k 0) n 0 → nextBay at sum (blocksOf (drop at z)) ≡ w → nextBay (at + n) (sum + f) (blocksOf (drop (at + n) z)) ≡ w
+  pub next-more : (sum f : ℕ) (w : AheadN) → (k ≡ 1 → ⊥) → f ≡ cond (eqb k 0) n 0 → nextBay at sum (blocksOf (drop at z)) ≡ w → nextBay (at + n) (sum + f) (blocksOf (drop (at + n) z)) ≡ w
   unfolding nextBay
   next-more sum f w e ef inv = rw (st .blocks, kb, ne-eqb k 1 e, st .bytes, ← ef) at inv
 
@@ -31,7 +31,7 @@ module _ (z : List ℕ) (at n k : ℕ) (st : Stepped z at n) (ek : k ≡ typeOf 
   unfolding tailOf
   tail-more t f w e ef inv = rw (st .blocks, kb, ne-eqb k 1 e, st .bytes, ← ef) at inv
 
-pub next-end : (z : List ℕ) (at sum : ℕ) (w : StretchN) → length z ≤ at → nextBay at sum (blocksOf (drop at z)) ≡ w → stretchN at sum at ≡ w
+pub next-end : (z : List ℕ) (at sum : ℕ) (w : AheadN) → length z ≤ at → nextBay at sum (blocksOf (drop at z)) ≡ w → aheadN at sum at ≡ w
 unfolding nextBay
 next-end z at sum w h inv = rw (row-end z at h) at inv
 

@@ -28,17 +28,17 @@ largest s = largestFrom 0 [] (s .blocks)
 
 -- ---- one bay by offsets
 
-pub record StretchN : Type 0 where
+pub record AheadN : Type 0 where
   pub end : ℕ
   pub sum : ℕ
   pub next : ℕ
 
-abbrev pub stretchN : ℕ → ℕ → ℕ → StretchN
-stretchN e s n = record { end = e; sum = s; next = n }
+abbrev pub aheadN : ℕ → ℕ → ℕ → AheadN
+aheadN e s n = record { end = e; sum = s; next = n }
 
-unfoldable pub nextBay : ℕ → ℕ → List Block → StretchN
-nextBay at sum [] = stretchN at sum at
-nextBay at sum (b ∷ bs) = cond (fixedB b) (stretchN at sum (at + size b)) (nextBay (at + size b) (sum + freeSize b) bs)
+unfoldable pub nextBay : ℕ → ℕ → List Block → AheadN
+nextBay at sum [] = aheadN at sum at
+nextBay at sum (b ∷ bs) = cond (fixedB b) (aheadN at sum (at + size b)) (nextBay (at + size b) (sum + freeSize b) bs)
 
 -- the free bytes of the bay's last block; t is those of the block before
 unfoldable pub tailOf : ℕ → List Block → ℕ

@@ -9,7 +9,7 @@ use Rattle.structure.specs.Valid.{Valid}
 use Rattle.row.specs.Row.{blocksOf}
 use Rattle.compact_bay.specs.Tidy.{tidied}
 use Rattle.surgery.specs.Bays.{lastFree}
-use Rattle.compact.specs.All.{tidyFrom, largestFrom, stretchN, nextBay}
+use Rattle.compact.specs.All.{tidyFrom, largestFrom, aheadN, nextBay}
 
 -- z is the bytes of the structure s, in which a bay begins at offset o
 pub record AtOf (s : Structure) (z : List ℕ) (o : ℕ) : Type 0 where
@@ -26,7 +26,7 @@ pub data At (z : List ℕ) (o : ℕ) : Type 0 where
 
 -- the bay at o has been compacted; its sum is `sum`, the next one begins at `next`
 pub data Bayed (z : List ℕ) (o : ℕ) (z′ : List ℕ) (sum next : ℕ) : Type 0 where
-  bayed : (end : ℕ) → stretchN end sum next ≡ nextBay o 0 (blocksOf (drop o z)) → z′ ≡ tidied z o (end - o) → Bayed z o z′ sum next
+  bayed : (end : ℕ) → aheadN end sum next ≡ nextBay o 0 (blocksOf (drop o z)) → z′ ≡ tidied z o (end - o) → Bayed z o z′ sum next
 
 -- the bays before o have been compacted, in the structure s₀; best is the largest of their sums
 pub data Going (s₀ : Structure) (z : List ℕ) (o best : ℕ) : Type 0 where

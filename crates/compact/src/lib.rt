@@ -3,7 +3,7 @@ ghost use mathlib.Core.Path.{_≡_};
 ghost use Prim.Native.Nat.{_+_, _-_, _<_, _≤_};
 ghost use lib.ListN.{length, drop};
 ghost use Rattle.row.specs.Row.{Row, blocksOf};
-ghost use Rattle.compact.specs.All.{stretchN, nextBay, tailOf, larger, largest, compacted};
+ghost use Rattle.compact.specs.All.{aheadN, nextBay, tailOf, larger, largest, compacted};
 ghost use Rattle.bigendian.specs.BigEndian.{fromBE, slice};
 ghost use Rattle.structure.specs.Structure.{encode, decodeZone};
 ghost use Rattle.access.specs.Edit.{IsZone};
@@ -14,7 +14,7 @@ ghost use Rattle.zone.specs.OnBytes.{result, callBytes};
 use block_type::BlockType;
 use calls::Told;
 
-pub struct Stretch {
+pub struct BayAhead {
     pub end: usize,
     pub sum: usize,
     pub next: usize,
@@ -22,9 +22,9 @@ pub struct Stretch {
 }
 
 // The bay that begins at `start`: its end, its sum, where the next one begins, and the free bytes of its last block.
-fn next_bay(z: &[u8], start: usize) -> Stretch
+fn next_bay(z: &[u8], start: usize) -> BayAhead
     requires { ⌜ Row (drop start (now z)) × (start ≤ length (now z)) × (length (now z) ≤ 1048576) ⌝ }
-    ensures { λ r. ⌜ (stretchN (r .end) (r .sum) (r .next) ≡ nextBay start 0 (blocksOf (drop start (now (z .entry))))) × (r .tail ≡ tailOf 0 (blocksOf (drop start (now (z .entry))))) ⌝ }
+    ensures { λ r. ⌜ (aheadN (r .end) (r .sum) (r .next) ≡ nextBay start 0 (blocksOf (drop start (now (z .entry))))) × (r .tail ≡ tailOf 0 (blocksOf (drop start (now (z .entry))))) ⌝ }
 {
     let mut at = start;
     let mut sum = 0;
@@ -33,7 +33,7 @@ fn next_bay(z: &[u8], start: usize) -> Stretch
         let n = row::step(z, at);
         let k = block_check::type_at(z, at);
         if k == BlockType::FIXED_CODE {
-            return Stretch {
+            return BayAhead {
                 end: at,
                 sum,
                 next: at + n,
@@ -44,7 +44,7 @@ fn next_bay(z: &[u8], start: usize) -> Stretch
         sum += tail;
         at += n;
     }
-    Stretch {
+    BayAhead {
         end: at,
         sum,
         next: at,
@@ -53,7 +53,7 @@ fn next_bay(z: &[u8], start: usize) -> Stretch
 }
 
 // Compacts the bay that begins at o, unless all its free bytes are at its end.
-fn one_bay(z: &mut [u8], o: usize) -> Stretch
+fn one_bay(z: &mut [u8], o: usize) -> BayAhead
     requires { ⌜ At (now z) o × (o < length (now z)) ⌝ }
     ensures { λ r. ⌜ Bayed (now (z .entry)) o (now (z .exit)) (r .sum) (r .next) × (o < r .next) × (r .next ≤ length (now (z .entry))) ⌝ }
 {
@@ -63,7 +63,7 @@ fn one_bay(z: &mut [u8], o: usize) -> Stretch
     let next = b.next;
     let tail = b.tail;
     if sum == tail {
-        return Stretch {
+        return BayAhead {
             end,
             sum,
             next,
@@ -71,7 +71,7 @@ fn one_bay(z: &mut [u8], o: usize) -> Stretch
         };
     }
     compact_bay::compact_bay(z, o, end);
-    Stretch {
+    BayAhead {
         end,
         sum,
         next,

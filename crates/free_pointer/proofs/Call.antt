@@ -1,11 +1,12 @@
 -- The plan and the call.
 use mathlib.Core.Path.{_≡_, refl, sym, ap, ap₂, _∙_, subst}
-use mathlib.Core.Bool.{Bool, true, false, cond}
+use mathlib.Core.Bool.{Bool, true, false, cond, not}
 use mathlib.Core.Option.{Option, none, some}
 use mathlib.Core.List.{List, [], _∷_, _++_, append-nil}
 use Prim.Native.Nat.{ℕ, _+_, _-_, _%_, _≤_}
 use native.Mathlib.Omega.{arith}
 use lib.ListN.{length, getD, take, drop}
+use borrow.Author.Tests.{not-true}
 use mir.Val.{Fits}
 use mir.Syntax.{w8}
 use Rattle.bigendian.specs.BigEndian.{fromBE, slice, overwrite, Bytes}
@@ -29,77 +30,27 @@ use Rattle.zone.specs.OnBays.{Fixed, orRefuse, done, withBays, joinAt}
 use Rattle.zone.specs.ZoneBays.{zoneBays}
 use Rattle.zone.specs.Group.{flatten}
 use Rattle.zone.specs.OnBytes.{Zone, inBays, result, callBytes}
-use Rattle.call_laws.proofs.Plan.{bytes-of, has-length, has-zone, has-whole}
+use Rattle.call_laws.proofs.Plan.{bytes-of, is-well, has-zone, has-whole}
 use Rattle.call_laws.proofs.Outcome.{call-ill, call-same, call-done}
-use Rattle.locate.specs.Locate as Locate
-use Rattle.locate.specs.Locate.{Located, targetPlace, targetData}
+use Rattle.locate.specs.Locate.{targetPlace}
 use Rattle.locate.proofs.Data.{content-none}
-use Rattle.free_pointer.specs.Free.{joined, Span, SpanIn, span-of, Extended, Planned, ill-formed, absent, planned}
+use Rattle.free_pointer.specs.Free.{joined, Span, SpanIn, span-of, Spotted, Extended, PlannedIn, absent-in, planned-in, Planned, ill-formed, absent, planned}
 
 -- ---- the plan
 
-module _ (s : List ℕ) (p number at size : ℕ) (f : Located s (by-pointer p) number at size) where
-  pub plan-no : (number ≡ 0 → ⊥) → Planned s p number 0 0 0 0 0
-  plan-no ne = go f
-    where
-      go : Located s (by-pointer p) number at size → Planned s p number 0 0 0 0 0
-      go (Locate.ill-formed y w k a n) = ill-formed w k
-      go (Locate.absent y w t k a n) = absent w t k
-      go (Locate.present y w a l n k) = absurd (ne k)
+pub in-absent : (z : List ℕ) (first p at n low : ℕ) → Spotted z first p at n low → at ≡ 0 → PlannedIn z p 7 0 0 0 0
+in-absent z first p at n low s e = absent-in (sym (s .place) ∙ e) refl
 
-  module _ (z : number ≡ 0) where
-    is-well : wellFormed s ≡ true
-    is-well = go f
-      where
-        go : Located s (by-pointer p) number at size → wellFormed s ≡ true
-        go (Locate.ill-formed y w k a n) = let x : ⊥ = omega arith in absurd x
-        go (Locate.absent y w t k a n) = w
-        go (Locate.present y w a l n k) = w
+pub in-yes : (z : List ℕ) (p at n from to : ℕ) → Extended z p at n from to → PlannedIn z p 0 from (at - 2) (at + n) to
+in-yes z p at n from to x = planned-in refl (x .span) (x .between)
 
-    bytes : Bytes s
-    bytes = go f
-      where
-        go : Located s (by-pointer p) number at size → Bytes s
-        go (Locate.ill-formed y w k a n) = y
-        go (Locate.absent y w t k a n) = y
-        go (Locate.present y w a l n k) = y
+pub plan-ill : (s : List ℕ) (p : ℕ) (ok : Bool) → ok ≡ wellFormed s → not ok ≡ true → Planned s p 1 0 0 0 0 0
+plan-ill s p ok e q = ill-formed (sym e ∙ not-true ok q) refl
 
-    pub plan-length : 4 ≤ length s
-    plan-length = has-length s true (sym is-well) refl
-
-    pub plan-live : at ≡ 0 → ⊥
-    plan-live = go f
-      where
-        go : Located s (by-pointer p) number at size → at ≡ 0 → ⊥
-        go (Locate.ill-formed y w k a n) e = omega arith
-        go (Locate.absent y w t k a n) e = omega arith
-        go (Locate.present y w a l n k) e = l e
-
-    module _ (l : ℕ) (el : l ≡ fromBE (slice s 0 4)) where
-      pub plan-fits : l ≤ length s
-      plan-fits = has-zone s true (sym is-well) refl l el
-
-      pub plan-zone : IsZone (take l s)
-      plan-zone = has-whole s true (sym is-well) refl l el bytes
-
-      pub plan-place : at ≡ targetPlace (by-pointer p) (take l s)
-      plan-place = go f
-        where
-          go : Located s (by-pointer p) number at size → at ≡ targetPlace (by-pointer p) (take l s)
-          go (Locate.ill-formed y w k a n) = let x : ⊥ = omega arith in absurd x
-          go (Locate.absent y w t k a n) = let x : ⊥ = omega arith in absurd x
-          go (Locate.present y w a g n k) = rw el a
-
-      pub plan-data : size ≡ length (targetData (by-pointer p) (take l s))
-      plan-data = go f
-        where
-          go : Located s (by-pointer p) number at size → size ≡ length (targetData (by-pointer p) (take l s))
-          go (Locate.ill-formed y w k a n) = let x : ⊥ = omega arith in absurd x
-          go (Locate.absent y w t k a n) = let x : ⊥ = omega arith in absurd x
-          go (Locate.present y w a g n k) = rw el n
-
-      pub plan-yes : (from to : ℕ) → Extended (take l s) p at size from to → Planned s p 0 l from (at - 2) (at + size) to
-      plan-yes from to x = planned is-well refl el plan-fits plan-zone (x .span) (x .between)
+module _ (s : List ℕ) (ok : Bool) (e : ok ≡ wellFormed s) (q : not ok ≡ false) (y : Bytes s) (l : ℕ) (el : l ≡ fromBE (slice s 0 4)) where
+  pub plan-well : (p number from at end to : ℕ) → PlannedIn (take l s) p number from at end to → Planned s p number l from at end to
+  plan-well p number from at end to (absent-in t k) = absent (is-well s ok e q) (rw el at t) k
+  plan-well p number from at end to (planned-in k sp bt) = planned (is-well s ok e q) k el (has-zone s ok e q l el) (has-whole s ok e q l el y) sp bt
 
 -- ---- one write
 

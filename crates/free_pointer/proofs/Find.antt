@@ -53,16 +53,16 @@ mid-of p at (fixed d ∷ bs) n = go (eqb p (at + 2)) refl n (mid-of p (at + (2 +
 
 -- ---- the free block before it
 
-low-above : (t at : ℕ) (bs : List Block) → t < at → lowOf t at bs ≡ t
+pub low-above : (t at : ℕ) (bs : List Block) → t < at → lowOf t at bs ≡ t
 unfolding lowOf
 low-above t at [] l = refl
 low-above t at (b ∷ bs) l = rw (ne-eqb (at + size b) t (λ x. omega arith)) (low-above t (at + size b) bs (omega arith))
 
-low-at : (t at : ℕ) (b : Block) (bs : List Block) → at + size b ≡ t → lowOf t at (b ∷ bs) ≡ cond (freeB b) at t
+pub low-at : (t at : ℕ) (b : Block) (bs : List Block) → at + size b ≡ t → lowOf t at (b ∷ bs) ≡ cond (freeB b) at t
 unfolding lowOf
 low-at t at b bs e = rw (eq-eqb (at + size b) t e)
 
-low-next : (t at : ℕ) (b : Block) (bs : List Block) → (at + size b ≡ t → ⊥) → lowOf t at (b ∷ bs) ≡ lowOf t (at + size b) bs
+pub low-next : (t at : ℕ) (b : Block) (bs : List Block) → (at + size b ≡ t → ⊥) → lowOf t at (b ∷ bs) ≡ lowOf t (at + size b) bs
 unfolding lowOf
 low-next t at b bs e = rw (ne-eqb (at + size b) t e)
 
@@ -75,6 +75,14 @@ unfolding sizes
 positive prev (free n) a bs t = omega (arith, t .1)
 positive prev (fixed d) a bs t = omega arith
 positive prev (reloc k d) a bs t = omega arith
+
+-- nothing lies before the first block
+pub low-self : (t : ℕ) (prev : Bool) (bs : List Block) → Tiled prev bs → lowOf t t bs ≡ t
+unfolding sizes lowOf
+low-self t prev [] u = refl
+low-self t prev (b ∷ bs) u =
+    let l : 0 < size b + 0 = positive prev b [] bs u in
+    low-next t t b bs (λ q. omega (arith, l)) ∙ low-above t (t + size b) bs (omega (arith, l))
 
 -- the last block before t is not free
 last-used : (from at : ℕ) (b : Block) (bs : List Block) → freeB b ≡ false → from ≡ lowOf (at + (size b + 0)) at (b ∷ bs) → from ≡ at + size b

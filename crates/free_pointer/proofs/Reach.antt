@@ -61,7 +61,7 @@ module _ (z : List ℕ) (i : IsZone z) (p at n : ℕ) (ea : at ≡ targetPlace (
   unfolding targetPlace
   at-is = ea ∙ m .place ∙ m .here
 
-  pub at-low : 2 ≤ at
+  at-low : 2 ≤ at
   at-low = omega (arith, at-is)
 
   pub end-word : Fits w64 (at + n)

@@ -1,27 +1,71 @@
 // Free by pointer: the fixed block becomes free, merged with free neighbours. No master changes.
 ghost use mathlib.Core.Path.{_≡_};
-ghost use lib.ListN.{length};
+ghost use mathlib.Core.Bool.{cond};
+ghost use Prim.Native.Nat.{_+_, _<_, _≤_};
+ghost use lib.ListN.{length, drop};
+ghost use Rattle.format.specs.WellFormed.{isFree, firstField};
 ghost use Rattle.access.specs.Edit.{IsZone};
-ghost use Rattle.calls.specs.Calls.{by-pointer, told, free-pointer};
+ghost use Rattle.calls.specs.Calls.{told, free-pointer};
 ghost use Rattle.zone.specs.OnBytes.{result, callBytes};
-ghost use Rattle.locate.specs.Locate.{targetPlace, targetData};
-ghost use Rattle.free_pointer.specs.Free.{Extended, Planned};
+ghost use Rattle.free_pointer.specs.Free.{Spotted, Extended, PlannedIn, Planned};
 use block_type::BlockType;
 use calls::Told;
-use locate::Block;
+
+// Where the free block that ends with the block at `at` starts: there, or past the block where it is not free.
+fn low_after(z: &[u8], at: usize, n: usize) -> usize
+    requires { ⌜ (at < length (now z)) × (at + n ≤ length (now z)) ⌝ }
+    ensures { λ r. ⌜ r ≡ cond (isFree (drop at (now (z .entry)))) at (at + n) ⌝ }
+{
+    if block_check::is_free(z, at) {
+        return at;
+    }
+    at + n
+}
+
+// Where a fixed block's data begin, 0 for no block, how many bytes they are, and where the free block before it starts: at its header where there is none.
+pub struct Spot {
+    pub at: usize,
+    pub size: usize,
+    pub low: usize,
+}
+
+// The fixed block of pointer p and the free block before it, in one walk from block to block.
+fn find_fixed(z: &[u8], first: usize, p: u32) -> Spot
+    requires { ⌜ (IsZone (now z)) × (first ≡ firstField (now z)) ⌝ }
+    ensures { λ r. ⌜ Spotted (now (z .entry)) first p (r .at) (r .size) (r .low) ⌝ }
+{
+    let place = p as usize;
+    let mut at = first;
+    let mut low = first;
+    while at < z.len() {
+        let n = row::step(z, at);
+        if locate::is_pointer(z, at, place) {
+            return Spot {
+                at: place,
+                size: n - BlockType::FIXED_HEADER,
+                low,
+            };
+        }
+        low = low_after(z, at, n);
+        at += n;
+    }
+    Spot {
+        at: 0,
+        size: 0,
+        low: 0,
+    }
+}
 
 pub struct Extent {
     pub from: usize,
     pub to: usize,
 }
 
-// Where the fixed block of pointer p and its free neighbours lie; its n bytes of data lie at `at`.
-fn find_extent(z: &[u8], p: usize, at: usize, n: usize) -> Extent
-    requires { ⌜ (IsZone (now z)) × (at ≡ targetPlace (by-pointer p) (now z)) × (at ≡ 0 → ⊥) × (n ≡ length (targetData (by-pointer p) (now z))) ⌝ }
+// Where the fixed block of pointer p and its free neighbours lie; its n bytes of data lie at `at`, and `from` is where the free block before it starts.
+fn find_extent(z: &[u8], first: usize, p: usize, at: usize, n: usize, from: usize) -> Extent
+    requires { ⌜ (IsZone (now z)) × (first ≡ firstField (now z)) × (Spotted (now z) first p at n from) × (at ≡ 0 → ⊥) ⌝ }
     ensures { λ r. ⌜ Extended (now (z .entry)) p at n (r .from) (r .to) ⌝ }
 {
-    let first = bigendian::get4(z, 4) as usize;
-    let from = walk::low(z, first, at - BlockType::FIXED_HEADER);
     let end = at + n;
     if z.len() <= end {
         return Extent { from, to: end };
@@ -42,35 +86,69 @@ pub struct FreePlan {
     pub to: usize,
 }
 
+// The plan in a well-formed zone.
+fn plan_in(z: &[u8], p: u32) -> FreePlan
+    requires { ⌜ IsZone (now z) ⌝ }
+    ensures { λ r. ⌜ PlannedIn (now (z .entry)) p (r .number) (r .from) (r .at) (r .end) (r .to) ⌝ }
+{
+    let first = bigendian::get4(z, 4) as usize;
+    let b = find_fixed(z, first, p);
+    let at = b.at;
+    let size = b.size;
+    let low = b.low;
+    if at == 0 {
+        return FreePlan {
+            number: 7,
+            len: 0,
+            from: 0,
+            at: 0,
+            end: 0,
+            to: 0,
+        };
+    }
+    let e = find_extent(z, first, p as usize, at, size, low);
+    let from = e.from;
+    let to = e.to;
+    FreePlan {
+        number: 0,
+        len: 0,
+        from,
+        at: at - BlockType::FIXED_HEADER,
+        end: at + size,
+        to,
+    }
+}
+
 // The plan: the refusal, 0 for none, and then the zone's length, the extent that becomes one free block, and where in it the block lies.
 fn free_plan(zone: &[u8], p: u32) -> FreePlan
     ensures { λ r. ⌜ Planned (now (zone .entry)) p (r .number) (r .len) (r .from) (r .at) (r .end) (r .to) ⌝ }
 {
-    let f = locate::find(zone, Block::Pointer(p));
-    let number = f.number;
-    let at = f.at;
-    let size = f.size;
-    if number == 0 {
-        let l = bigendian::get4(zone, 0) as usize;
-        let e = find_extent(&zone[..l], p as usize, at, size);
-        let from = e.from;
-        let to = e.to;
+    let k = zone_check::check(zone);
+    let ok = k.ok;
+    if !ok {
         return FreePlan {
-            number: 0,
-            len: l,
-            from,
-            at: at - BlockType::FIXED_HEADER,
-            end: at + size,
-            to,
+            number: 1,
+            len: 0,
+            from: 0,
+            at: 0,
+            end: 0,
+            to: 0,
         };
     }
+    let l = bigendian::get4(zone, 0) as usize;
+    let f = plan_in(&zone[..l], p);
+    let number = f.number;
+    let from = f.from;
+    let at = f.at;
+    let end = f.end;
+    let to = f.to;
     FreePlan {
         number,
-        len: 0,
-        from: 0,
-        at: 0,
-        end: 0,
-        to: 0,
+        len: l,
+        from,
+        at,
+        end,
+        to,
     }
 }
 

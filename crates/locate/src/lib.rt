@@ -35,7 +35,7 @@ fn by_handle(z: &[u8], h: u32) -> Span
 }
 
 // Whether the block at `at` is fixed and has the pointer p.
-fn is_pointer(z: &[u8], at: usize, p: usize) -> bool
+pub fn is_pointer(z: &[u8], at: usize, p: usize) -> bool
     requires { ⌜ at + 4 ≤ length (now z) ⌝ }
     ensures { λ r. ⌜ r ≡ (eqb (typeOf (drop at (now (z .entry)))) fixedCode && eqb p (at + fixedHeader)) ⌝ }
 {

@@ -18,7 +18,7 @@ use Rattle.zone.specs.Bay.{Item, itemSize, Cell, baySum, put, release, t
 use Rattle.zone.specs.OnBays.{Fixed, pointer, newItem, Out, says, refuse, done, orRefuse, orGive, onTop, withBays, lookup, content, placeLow, placeHigh, resizeIn, liveCount, step}
 use Rattle.zone.specs.ZoneBays.{zoneBays}
 use Rattle.zone.specs.OnBytes.{Zone, outcome, Result, result, callBytes, illFormed}
-use Rattle.zone.specs.Causes.{below, isNone, isEmpty, zoneOf, Cause, cause, notWellFormed, tooLarge, chainEmpty, noBay, noBlock, ownSum, noBayToResize, pastEnd, badEnlarge, tooShort, order, holdsIn, first, FirstCause, FirstCauseView, FirstCauseInit}
+use Rattle.zone.specs.Causes.{below, isNone, isEmpty, zoneIn, Cause, cause, notWellFormed, tooLarge, chainEmpty, noBay, noBlock, ownSum, noBayToResize, pastEnd, badEnlarge, tooShort, order, holdsIn, first, FirstCause, FirstCauseView, FirstCauseInit}
 use Rattle.zone.proofs.Handles.{live, occurs-once}
 use Rattle.zone.proofs.Run.{well-whole}
 use Rattle.zone.proofs.NoBay.{Missing, gone, there, low-missing, high-missing, join-missing, resize-missing}
@@ -44,11 +44,11 @@ always q = record { picked = q }
 -- ---- cause 1, or on a zone the others
 
 module _ (c : Call) (bs : List ℕ) where
-  on-zone : {cs : List Cause} → (illFormed c) .number ≡ 1 → (wellFormed bs ≡ true → Picks (step zoneBays c (zoneOf bs)) cs) → (callBytes c bs) .answer .number ≡ first order (notWellFormed bs ∷ cs)
+  on-zone : {cs : List Cause} → (illFormed c) .number ≡ 1 → (wellFormed bs ≡ true → Picks (step zoneBays c (zoneIn bs)) cs) → (callBytes c bs) .answer .number ≡ first order (notWellFormed bs ∷ cs)
   on-zone {cs} e f = go (wellFormed bs) (λ w. f w .picked)
     where
-      go : (t : Bool) → (t ≡ true → (step zoneBays c (zoneOf bs)) .answer .number ≡ first order cs)
-          → (cond t (outcome bs (decode bs) (step zoneBays c (zoneOf bs))) (result (illFormed c) bs)) .answer .number ≡ first order (cause 1 (not t) ∷ cs)
+      go : (t : Bool) → (t ≡ true → (step zoneBays c (zoneIn bs)) .answer .number ≡ first order cs)
+          → (cond t (outcome bs (decode bs) (step zoneBays c (zoneIn bs))) (result (illFormed c) bs)) .answer .number ≡ first order (cause 1 (not t) ∷ cs)
       go true p = p refl ∙ sym (lapsed order 1 cs)
       go false p = e
 
@@ -197,40 +197,40 @@ module _ (z : Zone) where
 -- ---- in a buffer
 
 -- in a zone no handle stands twice
-once : (h : ℕ) (bs : List ℕ) → Bytes bs → wellFormed bs ≡ true → live h (zoneOf bs .bays) ≤ 1
-once h bs y w = omega (arith, well-whole bs y w .owned .owns h, occurs-once h 16 (zoneOf bs .m))
+pub once : (h : ℕ) (bs : List ℕ) → Bytes bs → wellFormed bs ≡ true → live h (zoneIn bs .bays) ≤ 1
+once h bs y w = omega (arith, well-whole bs y w .owned .owns h, occurs-once h 16 (zoneIn bs .m))
 
 pub first-cause : FirstCause
-first-cause (allocate-relocatable c) bs y n = on-zone (allocate-relocatable c) bs refl (λ w. allocates (zoneOf bs) c)
-first-cause (allocate-fixed c) bs y n = on-zone (allocate-fixed c) bs refl (λ w. allocates-fixed (zoneOf bs) c)
-first-cause (free-handle h) bs y n = on-zone (free-handle h) bs refl (λ w. frees-handle (zoneOf bs) h)
-first-cause (free-pointer p) bs y n = on-zone (free-pointer p) bs refl (λ w. frees-pointer (zoneOf bs) p)
-first-cause (resize h c) bs y n = on-zone (resize h c) bs refl (λ w. resizes (zoneOf bs) h c (once h bs y w))
-first-cause (size t) bs y n = on-zone (size t) bs refl (λ w. sizes (zoneOf bs) t)
-first-cause (read t i k second) bs y n = on-zone (read t i k second) bs refl (λ w. copies (zoneOf bs) i k second _ (λ v. refl) t)
-first-cause (write t i k second) bs y n = on-zone (write t i k second) bs refl (λ w. copies (zoneOf bs) i k second _ (λ v. refl) t)
+first-cause (allocate-relocatable c) bs y n = on-zone (allocate-relocatable c) bs refl (λ w. allocates (zoneIn bs) c)
+first-cause (allocate-fixed c) bs y n = on-zone (allocate-fixed c) bs refl (λ w. allocates-fixed (zoneIn bs) c)
+first-cause (free-handle h) bs y n = on-zone (free-handle h) bs refl (λ w. frees-handle (zoneIn bs) h)
+first-cause (free-pointer p) bs y n = on-zone (free-pointer p) bs refl (λ w. frees-pointer (zoneIn bs) p)
+first-cause (resize h c) bs y n = on-zone (resize h c) bs refl (λ w. resizes (zoneIn bs) h c (once h bs y w))
+first-cause (size t) bs y n = on-zone (size t) bs refl (λ w. sizes (zoneIn bs) t)
+first-cause (read t i k second) bs y n = on-zone (read t i k second) bs refl (λ w. copies (zoneIn bs) i k second _ (λ v. refl) t)
+first-cause (write t i k second) bs y n = on-zone (write t i k second) bs refl (λ w. copies (zoneIn bs) i k second _ (λ v. refl) t)
 first-cause (view t i k) bs y n = absurd (false≢true n)
 first-cause compact bs y n = on-zone compact bs refl (λ w. always refl)
 first-cause sums bs y n = on-zone sums bs refl (λ w. always refl)
 first-cause check bs y n = go (wellFormed bs)
   where
-    go : (t : Bool) → (cond t (outcome bs (decode bs) (step zoneBays check (zoneOf bs))) (result (illFormed check) bs)) .answer .number ≡ 0
+    go : (t : Bool) → (cond t (outcome bs (decode bs) (step zoneBays check (zoneIn bs))) (result (illFormed check) bs)) .answer .number ≡ 0
     go true = refl
     go false = refl
 first-cause length-of bs y n = on-zone length-of bs refl (λ w. always refl)
-first-cause (enlarge k) bs y n = on-zone (enlarge k) bs refl (λ w. enlarges (zoneOf bs) k)
-first-cause (shrink k) bs y n = on-zone (shrink k) bs refl (λ w. shrinks (zoneOf bs) k)
-first-cause (roster second) bs y n = on-zone (roster second) bs refl (λ w. rosters (zoneOf bs) second)
+first-cause (enlarge k) bs y n = on-zone (enlarge k) bs refl (λ w. enlarges (zoneIn bs) k)
+first-cause (shrink k) bs y n = on-zone (shrink k) bs refl (λ w. shrinks (zoneIn bs) k)
+first-cause (roster second) bs y n = on-zone (roster second) bs refl (λ w. rosters (zoneIn bs) second)
 
 pub first-cause-view : FirstCauseView
 first-cause-view t i n bs y = go (wellFormed bs)
   where
-    go : (u : Bool) → length ((cond u (outcome bs (decode bs) (step zoneBays (view t i n) (zoneOf bs))) (result (illFormed (view t i n)) bs)) .answer .bytes)
-        ≡ cond (eqb (first order (cause 1 (not u) ∷ noBlock t (zoneOf bs) ∷ pastEnd t i n (zoneOf bs) ∷ [])) 0) n 0
+    go : (u : Bool) → length ((cond u (outcome bs (decode bs) (step zoneBays (view t i n) (zoneIn bs))) (result (illFormed (view t i n)) bs)) .answer .bytes)
+        ≡ cond (eqb (first order (cause 1 (not u) ∷ noBlock t (zoneIn bs) ∷ pastEnd t i n (zoneIn bs) ∷ [])) 0) n 0
     go true =
-        shows-block (zoneOf bs) t i n (content zoneBays t (zoneOf bs .bays))
-        ∙ ap (λ (k : Cause). cond (eqb (first order (k ∷ pastEnd t i n (zoneOf bs) ∷ [])) 0) n 0) (no-block (zoneOf bs) t)
-        ∙ ap (λ (k : ℕ). cond (eqb k 0) n 0) (sym (lapsed order 1 (noBlock t (zoneOf bs) ∷ pastEnd t i n (zoneOf bs) ∷ [])))
+        shows-block (zoneIn bs) t i n (content zoneBays t (zoneIn bs .bays))
+        ∙ ap (λ (k : Cause). cond (eqb (first order (k ∷ pastEnd t i n (zoneIn bs) ∷ [])) 0) n 0) (no-block (zoneIn bs) t)
+        ∙ ap (λ (k : ℕ). cond (eqb k 0) n 0) (sym (lapsed order 1 (noBlock t (zoneIn bs) ∷ pastEnd t i n (zoneIn bs) ∷ [])))
     go false = refl
 
 pub first-cause-init : FirstCauseInit

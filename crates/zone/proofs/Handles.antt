@@ -89,7 +89,7 @@ count-alter : (g h : ℕ) (f : List ℕ → List ℕ) (a : List Item) → count 
 count-alter g h f [] = refl
 count-alter g h f (e ∷ a) = rw (alter-handle h f e, count-alter g h f a)
 
-get-count : (h : ℕ) (a : List Item) → Each (λ (e : Item). 1 ≤ count h a) (get h a)
+pub get-count : (h : ℕ) (a : List Item) → Each (λ (e : Item). 1 ≤ count h a) (get h a)
 get-count h [] = nothing
 get-count h (e ∷ a) = go (is h e) (get-count h a)
   where

@@ -84,7 +84,7 @@ abbrev often : Option Item → ℕ
 often none = 0
 often (some e) = 1
 
-abbrev taken : Option Item → ℕ
+abbrev pub taken : Option Item → ℕ
 taken none = 0
 taken (some e) = itemSize e
 
@@ -119,7 +119,7 @@ total-remove h (e ∷ es) n = go (is h e) (λ k. total-remove h es k) n
 sum-absent : (h : ℕ) (b : List Cell) → count h (items b) ≡ 0 → baySum (release h b) ≡ baySum b
 sum-absent h b n = omega (arith, bsize-split b, bsize-split (release h b), release-size h b, ap total (release-items h b), total-absent h (items b) n)
 
-sum-released : (h : ℕ) (b : List Cell) → count h (items b) ≤ 1 → baySum (release h b) ≡ baySum b + taken (get h (items b))
+pub sum-released : (h : ℕ) (b : List Cell) → count h (items b) ≤ 1 → baySum (release h b) ≡ baySum b + taken (get h (items b))
 sum-released h b n = omega (arith, bsize-split b, bsize-split (release h b), release-size h b, ap total (release-items h b), total-remove h (items b) n)
 
 -- ---- a resize, where the handle stands at most once in all bays

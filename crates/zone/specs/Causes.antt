@@ -31,8 +31,8 @@ isEmpty [] = true
 isEmpty (a ∷ l) = false
 
 -- the zone in a buffer, in bays. (Where the bytes are no zone it says nothing, and cause 1 holds, which comes first.)
-abbrev pub zoneOf : List ℕ → Zone
-zoneOf bs = inBays (length bs) (decode bs)
+abbrev pub zoneIn : List ℕ → Zone
+zoneIn bs = inBays (length bs) (decode bs)
 
 -- ---- the causes
 
@@ -96,22 +96,22 @@ tooShort second n = cause 10 (below (length second) n)
 -- ---- the causes that a call can have, in the table's order: "all calls but initialize and check" have the first
 
 abbrev pub causes : Call → List ℕ → List Cause
-causes (allocate-relocatable c) bs = notWellFormed bs ∷ tooLarge relocLimit c ∷ chainEmpty (zoneOf bs) ∷ noBay (relocNeed c) (zoneOf bs) ∷ []
-causes (allocate-fixed c) bs = notWellFormed bs ∷ tooLarge fixedLimit c ∷ noBay (fixedNeed c) (zoneOf bs) ∷ []
-causes (free-handle h) bs = notWellFormed bs ∷ noBlock (by-handle h) (zoneOf bs) ∷ []
-causes (free-pointer p) bs = notWellFormed bs ∷ noBlock (by-pointer p) (zoneOf bs) ∷ []
-causes (resize h c) bs = notWellFormed bs ∷ tooLarge relocLimit c ∷ noBayToResize h c (zoneOf bs) ∷ noBlock (by-handle h) (zoneOf bs) ∷ []
-causes (size t) bs = notWellFormed bs ∷ noBlock t (zoneOf bs) ∷ []
-causes (read t i n second) bs = notWellFormed bs ∷ noBlock t (zoneOf bs) ∷ pastEnd t i n (zoneOf bs) ∷ tooShort second n ∷ []
-causes (write t i n second) bs = notWellFormed bs ∷ noBlock t (zoneOf bs) ∷ pastEnd t i n (zoneOf bs) ∷ tooShort second n ∷ []
-causes (view t i n) bs = notWellFormed bs ∷ noBlock t (zoneOf bs) ∷ pastEnd t i n (zoneOf bs) ∷ []
+causes (allocate-relocatable c) bs = notWellFormed bs ∷ tooLarge relocLimit c ∷ chainEmpty (zoneIn bs) ∷ noBay (relocNeed c) (zoneIn bs) ∷ []
+causes (allocate-fixed c) bs = notWellFormed bs ∷ tooLarge fixedLimit c ∷ noBay (fixedNeed c) (zoneIn bs) ∷ []
+causes (free-handle h) bs = notWellFormed bs ∷ noBlock (by-handle h) (zoneIn bs) ∷ []
+causes (free-pointer p) bs = notWellFormed bs ∷ noBlock (by-pointer p) (zoneIn bs) ∷ []
+causes (resize h c) bs = notWellFormed bs ∷ tooLarge relocLimit c ∷ noBayToResize h c (zoneIn bs) ∷ noBlock (by-handle h) (zoneIn bs) ∷ []
+causes (size t) bs = notWellFormed bs ∷ noBlock t (zoneIn bs) ∷ []
+causes (read t i n second) bs = notWellFormed bs ∷ noBlock t (zoneIn bs) ∷ pastEnd t i n (zoneIn bs) ∷ tooShort second n ∷ []
+causes (write t i n second) bs = notWellFormed bs ∷ noBlock t (zoneIn bs) ∷ pastEnd t i n (zoneIn bs) ∷ tooShort second n ∷ []
+causes (view t i n) bs = notWellFormed bs ∷ noBlock t (zoneIn bs) ∷ pastEnd t i n (zoneIn bs) ∷ []
 causes compact bs = notWellFormed bs ∷ []
 causes sums bs = notWellFormed bs ∷ []
 causes check bs = []
 causes length-of bs = notWellFormed bs ∷ []
-causes (enlarge k) bs = notWellFormed bs ∷ badEnlarge k (zoneOf bs) ∷ []
+causes (enlarge k) bs = notWellFormed bs ∷ badEnlarge k (zoneIn bs) ∷ []
 causes (shrink k) bs = notWellFormed bs ∷ []
-causes (roster second) bs = notWellFormed bs ∷ tooShort second (recordSize * liveCount zoneBays (zoneOf bs)) ∷ []
+causes (roster second) bs = notWellFormed bs ∷ tooShort second (recordSize * liveCount zoneBays (zoneIn bs)) ∷ []
 
 -- 2: "initialize: length not a multiple of 4, below 16 + 4m, above the buffer or 1,048,576; m above 8,188"
 abbrev pub initCauses : ℕ → ℕ → List ℕ → List Cause

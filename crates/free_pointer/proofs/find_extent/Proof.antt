@@ -1,19 +1,8 @@
 use native.Mathlib.Omega.{arith}
-use Rattle.call_laws.proofs.Plan.{zone-8}
-use Rattle.release.proofs.Reach.{zone-edge, zone-first}
-use Rattle.free_pointer.proofs.Reach.{at-low, end-edge, end-word, high-end, high-free, high-used}
+use Rattle.free_pointer.proofs.Reach.{end-edge, end-word, high-end, high-free, high-used}
 use borrow.Author.Needs.{needs}
 use Rattle.free_pointer.proofs.find_extent.Statement.{statement}
 use Rattle.free_pointer.proofs.find_extent.Tie as tie
-
-get4-requires : tie.Need-get4-requires
-get4-requires c κs = search zone-8
-
-sub-low : tie.Need-sub-low
-sub-low c = search at-low
-
-low-requires : tie.Need-low-requires
-low-requires c κs = (search zone-edge, search zone-first)
 
 add-end : tie.Need-add-end
 add-end c = search end-word
@@ -32,16 +21,4 @@ returns-3 c = search high-used
 
 pub find-extent-spec : {M : Type 1} → statement M
 find-extent-spec =
-    tie.close
-    (tie.spec
-    get4-requires
-    (λ c. search needs)
-    sub-low
-    low-requires
-    add-end
-    returns
-    step-requires
-    (λ c κs. search needs)
-    (λ c. search needs)
-    returns-2
-    returns-3)
+    tie.close (tie.spec add-end returns step-requires (λ c κs. search needs) (λ c. search needs) returns-2 returns-3)

@@ -1,34 +1,32 @@
-use Rattle.call_laws.proofs.Plan.{take-len}
-use Rattle.free_pointer.proofs.Call.{plan-no, plan-length, plan-live, plan-fits, plan-zone, plan-place, plan-data, plan-yes}
+use Rattle.call_laws.proofs.Plan.{has-length, has-zone, has-whole, take-len, bytes-of}
+use Rattle.free_pointer.proofs.Call.{plan-ill, plan-well}
 use borrow.Author.Needs.{needs}
 use Rattle.free_pointer.proofs.free_plan.Statement.{statement}
 use Rattle.free_pointer.proofs.free_plan.Tie as tie
 
-get4-requires : tie.Need-get4-requires
-get4-requires c κs = search plan-length
-
-slice-aggregate-find-extent : tie.Need-slice-aggregate-find-extent
-slice-aggregate-find-extent c = search (take-len, plan-fits)
-
-find-extent-requires : tie.Need-find-extent-requires
-find-extent-requires c κs = (search plan-zone, search plan-place, search plan-live, search plan-data)
-
 returns : tie.Need-returns
-returns c = search plan-yes
+returns c = search plan-ill
+
+get4-requires : tie.Need-get4-requires
+get4-requires c κs = search has-length
+
+slice-aggregate-plan-in : tie.Need-slice-aggregate-plan-in
+slice-aggregate-plan-in c = search (take-len, has-zone)
+
+plan-in-requires : tie.Need-plan-in-requires
+plan-in-requires c κs = search (has-whole, bytes-of)
 
 returns-2 : tie.Need-returns-2
-returns-2 c = search plan-no
+returns-2 c = search (plan-well, bytes-of)
 
 pub free-plan-spec : {M : Type 1} → statement M
 free-plan-spec =
     tie.close
     (tie.spec
     (λ c κs. search needs)
+    returns
     get4-requires
     (λ c. search needs)
-    slice-aggregate-find-extent
-    find-extent-requires
-    (λ c. search needs)
-    (λ c. search needs)
-    returns
+    slice-aggregate-plan-in
+    plan-in-requires
     returns-2)
