@@ -1,5 +1,5 @@
 #!/usr/bin/env python3
-"""Writes docs/MUST_FAIL.md: each must-fail edit with its text and the fact that refused it.
+"""Writes docs/MUST_FAIL.md: each must-fail edit with its text and the fact that refused it, between tools/edits.txt and tools/edits_not_kept.txt.
 
 Usage: tools/edits.py reads the logs that rt leaves in target/must-fail and writes the page. It stops at an edit whose first error is no fact
        of the program: a bound of a sum or a cast, or a proof's text that no longer fits the code.
@@ -89,7 +89,8 @@ def all_edits():
 
 
 def check():
-    lines = [line for line in PAGE.read_text(encoding="utf-8").split("\n") if line.startswith("| ")][1:]
+    kept = PAGE.read_text(encoding="utf-8").split("\n## ")[0]
+    lines = [line for line in kept.split("\n") if line.startswith("| ")][1:]
     starts = [start_of_row(*edit) for edit in all_edits()]
     missing = [start for start in starts if not any(line.startswith(start) for line in lines)]
     if missing or len(lines) != len(starts):
@@ -99,7 +100,8 @@ def check():
 def write():
     rows = [start_of_row(*edit) + refused_by(*edit) + " |" for edit in all_edits()]
     head = (ROOT / "tools" / "edits.txt").read_text(encoding="utf-8")
-    PAGE.write_text(head + "\n".join(rows) + "\n", encoding="utf-8")
+    tail = (ROOT / "tools" / "edits_not_kept.txt").read_text(encoding="utf-8")
+    PAGE.write_text(head + "\n".join(rows) + "\n\n" + tail, encoding="utf-8")
 
 
 if sys.argv[1:] == ["--check"]:
