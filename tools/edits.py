@@ -55,7 +55,7 @@ def fact_of(need, function, message):
 def refused_by(crate, name):
     """The fact at which the first error of an edit's log stands."""
     folder = LOGS / crate / name
-    log = (folder / ".log").read_text(encoding="utf-8").replace(f"{folder}/", "")
+    log = re.sub(rf"\S*/must-fail/{crate}/{name}/", "", (folder / ".log").read_text(encoding="utf-8"))
     unproved = UNPROVED.search(log)
     if unproved:
         place, line, message, need = unproved.groups()
