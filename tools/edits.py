@@ -63,8 +63,10 @@ def refused_by(crate, name):
     else:
         place, line, need, message = ERROR.search(log).groups()
         found = re.fullmatch(r"proofs/(?:.*/)?(\w+)/Proof\.antt", place)
-        if not found:
+        if not found and need and "is not in scope" not in message:
             return f"law `{need}` of `{place}`"
+        if not found:
+            sys.exit(f"{crate}/{name} is refused at no law: {place}: {message[:200]}")
         function = found.group(1)
     fact = fact_of(need or "", function, message)
     if fact is None:

@@ -1,19 +1,19 @@
 -- Where a handle's data lies, by the bytes and by the structure.
 use mathlib.Core.Path.{_≡_, refl, sym, ap, _∙_}
-use mathlib.Core.List.{List, [], _∷_, _++_, map}
+use mathlib.Core.List.{List, map}
 use mathlib.Core.Bool.{Bool, true, false, cond}
-use Prim.Native.Nat.{ℕ, zero, suc, _+_, _*_, _-_, _<_, _≤_}
+use Prim.Native.Nat.{ℕ, zero, suc, _+_, _-_, _<_, _≤_}
 use native.Mathlib.Omega.{arith}
 use lib.Dec.{eqb}
-use borrow.Author.Tests.{ne-eqb, eq-eqb}
+use borrow.Author.Tests.{ne-eqb}
 use lib.ListN.{length, drop}
 use Rattle.bigendian.specs.BigEndian.{fromBE, slice}
-use Rattle.format.specs.WellFormed.{firstField, mastersField, chainField, isMaster, masterAt, splitBlocks, relocs}
+use Rattle.format.specs.WellFormed.{firstField, mastersField, chainField, isMaster, masterAt, splitBlocks}
 use Rattle.format.proofs.Bool.{not-both}
-use Rattle.format.proofs.Masters.{Master, is-master}
+use Rattle.format.proofs.Masters.{is-master}
 use Rattle.format.proofs.Count.{occurs, all-at}
 use Rattle.format.proofs.Live.{handles, live-of, live-high, handles-high}
-use Rattle.structure.specs.Structure.{Structure, start, placeOf, decodeZone, decodeBlock}
+use Rattle.structure.specs.Structure.{placeOf, decodeZone, decodeBlock}
 use Rattle.structure.proofs.Table.{Whole, places, start-is}
 use Rattle.structure.proofs.Back.{master-of}
 use Rattle.access.specs.Edit.{placeIn, IsZone}

@@ -1,19 +1,18 @@
 -- A overwrite of a block's data, by the bytes and by the structure.
-use mathlib.Core.Path.{_≡_, refl, sym, ap, _∙_}
-use mathlib.Core.List.{List, [], _∷_, _++_, map}
+use mathlib.Core.Path.{_≡_, _∙_}
+use mathlib.Core.List.{List, [], _∷_}
 use mathlib.Core.Bool.{Bool, true, false, cond}
-use Prim.Native.Nat.{ℕ, zero, suc, _+_, _*_, _-_, _<_, _≤_}
+use Prim.Native.Nat.{ℕ, _+_, _-_, _<_, _≤_}
 use native.Mathlib.Omega.{arith}
 use mir.Val.{Fits}
 use mir.Syntax.{w64}
 use lib.Dec.{eqb}
-use lib.ListN.{length, drop}
+use lib.ListN.{length}
 use Rattle.bigendian.specs.BigEndian.{overwrite}
-use Rattle.format.specs.WellFormed.{lengthField}
-use Rattle.structure.specs.Structure.{Block, free, fixed, reloc, Structure, start, len, sizes, placeOf, encode, decodeZone}
+use Rattle.structure.specs.Structure.{Block, free, fixed, reloc, start, sizes, placeOf, encode, decodeZone}
 use Rattle.structure.proofs.Table.{Whole, encode-zone, len-is}
 use Rattle.structure.proofs.Sound.{valid-zone}
-use Rattle.access.specs.Edit.{dataOf, edit, store, placeIn, dataIn, IsZone}
+use Rattle.access.specs.Edit.{dataOf, store, placeIn, dataIn, IsZone}
 use Rattle.access.proofs.Zone.{whole-of}
 use Rattle.access.proofs.Store.{store-bytes}
 

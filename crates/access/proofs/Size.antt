@@ -2,17 +2,15 @@
 use mathlib.Core.Path.{_≡_, refl, sym, ap, _∙_}
 use mathlib.Core.List.{List, [], _∷_, _++_, map}
 use mathlib.Core.Bool.{Bool, true, false, cond}
-use Prim.Native.Nat.{ℕ, zero, suc, _+_, _*_, _-_, _%_, _<_, _≤_}
+use Prim.Native.Nat.{ℕ, _+_, _-_, _%_, _<_, _≤_}
 use native.Mathlib.Omega.{arith}
 use lib.Dec.{eqb}
-use borrow.Author.Tests.{eqb-true}
-use lib.ListN.{length, take, drop, length-append}
-use lib.Seq.{drop-append-add, drop-append-seam, take-append-seam, drop-drop}
-use Rattle.format.specs.WellFormed.{sizeOf, lengthField}
+use lib.ListN.{length, drop, length-append}
+use lib.Seq.{drop-append-add, take-append-seam, drop-drop}
+use Rattle.format.specs.WellFormed.{sizeOf}
 use Rattle.format.proofs.Walk.{size-take}
-use Rattle.format.proofs.Count.{offsets, length-offsets}
-use Rattle.structure.specs.Structure.{Block, free, fixed, reloc, Structure, size, encodeBlock, sizes, start, len, count, placeOf, value, words, join, header, encode, decodeZone}
-use Rattle.structure.specs.Valid.{Tiled, Valid}
+use Rattle.structure.specs.Structure.{Block, free, fixed, reloc, Structure, encodeBlock, start, placeOf, join, decodeZone}
+use Rattle.structure.specs.Valid.{Tiled}
 use Rattle.structure.proofs.Back.{size-reloc}
 use Rattle.structure.proofs.Round.{rest-is}
 use Rattle.bigendian.proofs.Laws.{length-toBE}

@@ -1,18 +1,17 @@
 -- Bytes written at a block's place are those of the structure with the block's data replaced.
-use mathlib.Core.Path.{_≡_, refl, sym, ap, ap₂, _∙_, subst}
+use mathlib.Core.Path.{_≡_, refl, sym, ap, ap₂, _∙_}
 use mathlib.Core.List.{List, [], _∷_, _++_, map, append-assoc}
 use mathlib.Core.Bool.{Bool, true, false, cond}
-use Prim.Native.Nat.{ℕ, zero, suc, _+_, _*_, _-_, _/_, _%_, _<_, _≤_, min}
-use native.Mathlib.Nat.{add-zero, zero-add, add-assoc}
+use Prim.Native.Nat.{ℕ, zero, suc, _+_, _*_, _-_, _/_, _<_, _≤_}
+use native.Mathlib.Nat.{add-assoc}
 use native.Mathlib.Omega.{arith}
 use lib.Dec.{eqb}
-use borrow.Author.Tests.{eqb-true, eqb-false}
-use lib.ListN.{length, getD, take, drop, length-append, length-take, length-drop, replicate, length-replicate}
+use lib.ListN.{length, take, drop, length-append, length-take, length-drop, length-replicate}
 use lib.Seq.{take-append-add, drop-append-add, take-append-le, drop-append-le}
-use Rattle.bigendian.specs.BigEndian.{fromBE, toBE, slice, overwrite, Bytes}
+use Rattle.bigendian.specs.BigEndian.{toBE, overwrite, Bytes}
 use Rattle.bigendian.proofs.Laws.{length-toBE}
 use Rattle.format.proofs.Count.{offsets, length-offsets}
-use Rattle.structure.specs.Structure.{Block, free, fixed, reloc, Structure, size, encodeBlock, sizes, relocCount, count, start, len, headOf, placeOf, nextOf, value, words, join, header, encode}
+use Rattle.structure.specs.Structure.{Block, free, fixed, reloc, Structure, size, encodeBlock, sizes, relocCount, count, start, len, placeOf, nextOf, value, words, join, header, encode}
 use Rattle.structure.specs.Valid.{handlesOf, Tiled, Valid}
 use Rattle.structure.proofs.Codec.{bytes-take, bytes-drop}
 use Rattle.format.proofs.Count.{occurs}

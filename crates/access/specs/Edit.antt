@@ -1,9 +1,8 @@
 -- One block's data, read and replaced, in the structure. Both go to the first block with the handle, so no law asks that it is the only one.
 use mathlib.Core.Path.{_≡_}
-use mathlib.Core.List.{List, [], _∷_, _++_}
-use mathlib.Core.Bool.{Bool, true, false, cond}
-use Prim.Native.Nat.{ℕ, _+_}
-use lib.ListN.{length}
+use mathlib.Core.List.{List, [], _∷_}
+use mathlib.Core.Bool.{true, cond}
+use Prim.Native.Nat.{ℕ}
 use lib.Dec.{eqb}
 use Rattle.bigendian.specs.BigEndian.{Bytes, overwrite}
 use Rattle.format.specs.WellFormed.{wellFormed, zoneOf}

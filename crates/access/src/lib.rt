@@ -1,7 +1,6 @@
 // Reads and writes of a block's data, over the bytes of a well-formed zone with none beyond its length.
 use block_type::BlockType;
 ghost use mathlib.Core.Path.{_≡_};
-ghost use mathlib.Core.Bool.{true};
 ghost use Prim.Native.Nat.{_+_, _<_, _≤_};
 ghost use lib.ListN.{length};
 ghost use Rattle.structure.specs.Structure.{decodeZone, encode};

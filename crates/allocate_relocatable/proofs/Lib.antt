@@ -1,7 +1,6 @@
 pub mod Bays
 pub mod Block
 pub mod Call
-pub mod Kept
 pub mod Outcome
 pub mod Placed
 pub mod PlanLaws

@@ -3,7 +3,7 @@ use mathlib.Core.Path.{_≡_, refl, ap, _∙_}
 use mathlib.Core.Bool.{Bool, true, false, cond}
 use mathlib.Core.Option.{Option, none, some}
 use mathlib.Core.List.{List, [], _∷_, _++_}
-use Prim.Native.Nat.{ℕ, zero, suc, _+_, _-_, _<_, _≤_}
+use Prim.Native.Nat.{ℕ, suc, _+_, _-_, _≤_}
 use native.Mathlib.Omega.{arith}
 use borrow.Author.Tests.{eqb-true}
 use Rattle.format.proofs.Count.{occurs}
@@ -11,16 +11,8 @@ use Rattle.structure.specs.Structure.{Block, free, reloc}
 use Rattle.structure.specs.Valid.{handlesOf}
 use Rattle.release.specs.Release as Release
 use Rattle.zone.specs.Bays.{over}
-use Rattle.zone.specs.Bay.{Item, is, count, Cell, free as gapCell, held, items, gap, inPlace, growHere}
+use Rattle.zone.specs.Bay.{Item, is, count, Cell, free as gapCell, held, items, inPlace, growHere}
 use Rattle.bay_spots.proofs.Spots.{blocksIn}
-
--- n free bytes in front, merged with a free block that follows
-pub gap-merge : (n : ℕ) (cs : List Cell) → 0 < n → blocksIn (gap n cs) ≡ Release.gap n (blocksIn cs)
-unfolding Release.gap
-gap-merge zero cs l = let x : ⊥ = omega arith in absurd x
-gap-merge (suc n) [] l = refl
-gap-merge (suc n) (gapCell k ∷ cs) l = refl
-gap-merge (suc n) (held e ∷ cs) l = refl
 
 -- where the block of handle h stands: pre before it, the cells rest behind it
 pub record Stands (h a : ℕ) (cs : List Cell) : Type 0 where

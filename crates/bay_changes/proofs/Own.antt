@@ -9,10 +9,8 @@ use lib.ListN.{length}
 use lib.Dec.{eqb, leb}
 use borrow.Author.Tests.{eqb-true}
 use Rattle.format.proofs.Count.{occurs}
-use Rattle.structure.specs.Structure.{Block}
 use Rattle.structure.specs.Valid.{handlesOf}
 use Rattle.access.specs.Edit.{dataOf}
-use Rattle.find_bay.specs.Spots.{freeTotal}
 use Rattle.zone.specs.Bay.{is, get, count, Cell, free as gapCell, held, baySum, items, roomFor}
 use Rattle.zone.specs.OnBays.{own}
 use Rattle.zone.specs.ZoneBays.{zoneBays}

@@ -1,5 +1,5 @@
 -- The lowest and the highest spot whose blocks pass a test.
-use mathlib.Core.Bool.{Bool, true, false, cond}
+use mathlib.Core.Bool.{Bool, cond}
 use mathlib.Core.List.{List, [], _∷_}
 use Rattle.structure.specs.Structure.{Block}
 use Rattle.find_bay.specs.Spots.{Spot, Choice, none, some}

@@ -2,13 +2,13 @@
 use mathlib.Core.Path.{_≡_, refl, sym, ap, _∙_}
 use mathlib.Core.List.{List, [], _∷_, _++_}
 use Prim.Native.Nat.{ℕ, zero, suc, _+_, _*_, _/_, _%_, _^_, _<_, _≤_}
-use native.Mathlib.Nat.{pow-succ', pow-zero, one-le-pow, mod-lt, mod-eq-of-lt, add-assoc, add-mul, mul-assoc, mul-comm, mod-one, div-one, mul-add-div-right, zero-add, add-zero}
+use native.Mathlib.Nat.{pow-succ', one-le-pow, mod-lt, mod-eq-of-lt, add-assoc, add-mul, mul-assoc, mod-one, div-one, mul-add-div-right}
 use native.Mathlib.Numerals.{add-one, add-two, towards-suc}
 use native.Mathlib.Omega.{arith}
-use lib.Arith.{digits-lt, digits-div, digits-mod, mod-mul}
+use lib.Arith.{digits-lt, digits-div, mod-mul}
 use lib.Pow.{pow-add}
-use lib.ListN.{length, getD, take, drop, set, length-append, length-take, length-drop}
-use lib.Seq.{drop-cons, sets, sets-eq}
+use lib.ListN.{length, getD, set, length-append}
+use lib.Seq.{drop-cons, sets-eq}
 use Rattle.bigendian.specs.BigEndian.{fromBE, toBE, slice, overwrite, Bytes}
 
 pub pow256-pos : (n : ℕ) → 0 < 256 ^ n
@@ -59,10 +59,6 @@ toBE-be [] h = refl
 toBE-be (x ∷ xs) h =
     let t : Bytes xs = λ i. h (suc i) in
     rw (digits-div x (be-lt xs t), toBE-low (length xs) x (fromBE xs), toBE-be xs t, mod-eq-of-lt (h 0))
-
--- one element more in front of a part, at the code's at + 1
-pub cut-cons : (s : List ℕ) (at n : ℕ) → at < length s → slice s at (suc n) ≡ getD s at 0 ∷ slice s (at + 1) n
-cut-cons s at n h = rw (add-one, drop-cons s at 0)
 
 pub cut2 : (s : List ℕ) (at : ℕ) → at + 2 ≤ length s → slice s at 2 ≡ getD s at 0 ∷ getD s (at + 1) 0 ∷ []
 cut2 s at h =

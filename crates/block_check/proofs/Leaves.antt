@@ -1,22 +1,22 @@
 -- The laws that the leaves and loops of the check cite: each concludes what the code returns, from facts that stand there.
-use mathlib.Core.Path.{_≡_, refl, sym, ap, _∙_}
-use mathlib.Core.List.{List, [], _∷_, _++_}
-use mathlib.Core.Bool.{Bool, true, false, cond, not, _&&_, and-assoc}
-use Prim.Native.Nat.{ℕ, zero, suc, _+_, _*_, _-_, _/_, _%_, _<_, _≤_, min}
-use native.Mathlib.Nat.{sub-zero, add-zero, zero-add, add-sub-cancel-left, sub-add-eq}
-use native.Mathlib.Numerals.{add-one, sub-one}
+use mathlib.Core.Path.{_≡_, refl, sym, _∙_}
+use mathlib.Core.List.{List}
+use mathlib.Core.Bool.{Bool, true, false, cond, not, _&&_}
+use Prim.Native.Nat.{ℕ, zero, suc, _+_, _*_, _-_, _/_, _%_, _<_, _≤_}
+use native.Mathlib.Nat.{add-zero}
+use native.Mathlib.Numerals.{sub-one}
 use native.Mathlib.Omega.{arith}
 use lib.Dec.{eqb, leb}
 use borrow.Author.Tests.{eq-eqb, ne-eqb, leb-true, eqb-true, le-leb, lt-leb, not-true, not-false}
-use lib.ListN.{length, getD, take, drop, length-take, length-drop, drop-of-length-le}
-use lib.Seq.{take-take, getD-take, getD-drop, drop-drop}
+use lib.ListN.{length, getD, take, drop, length-drop}
+use lib.Seq.{getD-drop, drop-drop}
 use Rattle.bigendian.specs.BigEndian.{fromBE, slice}
 use Rattle.memory.specs.Zeros.{allZero}
 use Rattle.format.proofs.Bool.{and-left, and-right, is-false, not-both}
-use Rattle.format.specs.WellFormed.{headerOk, lengthField, firstField, mastersField, typeOf, sizeOf, handleOf, isFree, isReloc, splitFrom, splitBlocks, isMaster, masterAt, relocs}
-use Rattle.format.specs.OneWalk.{links, typeRule, freeRule, relocRule, blockOk, blocksOk, bodyOk}
-use Rattle.format.proofs.Masters.{Master, is-master}
-use Rattle.format.proofs.Walk.{First, is-first, first-rule, drop-take, turn, stop, end, end-count}
+use Rattle.format.specs.WellFormed.{headerOk, lengthField, firstField, mastersField, typeOf, sizeOf, handleOf, isFree, isReloc, splitBlocks, isMaster, relocs}
+use Rattle.format.specs.OneWalk.{links, typeRule, freeRule, relocRule, blockOk, blocksOk}
+use Rattle.format.proofs.Masters.{is-master}
+use Rattle.format.proofs.Walk.{is-first, first-rule, drop-take, turn, stop, end, end-count}
 use Rattle.format.specs.Steps.{GoodSize}
 
 pub kind-law : (z : List ℕ) (at : ℕ) → getD z at 0 / 64 ≡ typeOf (drop at z)

@@ -15,7 +15,6 @@ use Rattle.format.proofs.Walk.{drop-take}
 use Rattle.format.proofs.Bool.{and-left}
 use Rattle.format.specs.Steps.{Fields}
 use Rattle.format.proofs.Header.{header-facts}
-use Rattle.structure.proofs.Table.{whole}
 use Rattle.access.specs.Edit.{IsZone, is-zone}
 use Rattle.access.proofs.Zone.{whole-of}
 

@@ -19,7 +19,6 @@ use Rattle.release.proofs.Reach.{tiles-are}
 use Rattle.bigendian.specs.BigEndian.{fromBE, slice}
 use Rattle.format.specs.WellFormed.{isFree, wellFormed, firstField, zoneOf}
 use Rattle.structure.specs.Structure.{Block, free, fixed, reloc, size, decode}
-use Rattle.structure.proofs.Table.{whole}
 use Rattle.walk.specs.Walker.{blocksAt, Seen, blockAt, freeB}
 use Rattle.walk.proofs.Laws.{tiles-end}
 use Rattle.zone.specs.Census.{limitsFrom, lowerLimits, countIf, countsOf, freeWords, census}

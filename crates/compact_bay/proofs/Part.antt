@@ -1,18 +1,16 @@
 -- The laws of compaction in place.
-use mathlib.Core.Path.{_≡_, refl, sym, ap, ap₂, _∙_, subst}
-use mathlib.Core.List.{List, [], _∷_, _++_, map, append-assoc, append-nil}
-use mathlib.Core.Bool.{Bool, true, false, cond}
-use Prim.Native.Nat.{ℕ, zero, suc, _+_, _-_, _/_, _%_, _<_, _≤_}
+use mathlib.Core.Path.{_≡_, refl, sym, ap, _∙_}
+use mathlib.Core.List.{List, [], _∷_, _++_, append-assoc, append-nil}
+use Prim.Native.Nat.{ℕ, zero, suc, _+_, _-_, _%_, _<_, _≤_}
 use native.Mathlib.Omega.{arith}
-use lib.Dec.{eqb}
-use borrow.Author.Tests.{eq-eqb, ne-eqb}
-use lib.ListN.{length, take, drop, replicate, length-replicate, length-append, length-take, length-drop, drop-of-length-le, take-append-drop}
-use lib.Seq.{drop-drop, take-at, drop-append-add, length-take-le}
-use Rattle.bigendian.specs.BigEndian.{toBE, slice, overwrite}
+use borrow.Author.Tests.{ne-eqb}
+use lib.ListN.{length, take, drop, length-replicate, length-append, length-take, length-drop, drop-of-length-le, take-append-drop}
+use lib.Seq.{drop-drop, take-at, drop-append-add}
+use Rattle.bigendian.specs.BigEndian.{slice, overwrite}
 use Rattle.bigendian.proofs.Laws.{length-toBE}
 use Rattle.format.specs.WellFormed.{typeOf}
-use Rattle.structure.specs.Structure.{Block, free, fixed, reloc, size, sizes, encodeBlock, join}
-use Rattle.row.specs.Row.{blocksOf, bytesOf, kindB, freeB, Row, Stepped, blockAt}
+use Rattle.structure.specs.Structure.{Block, free, encodeBlock, join}
+use Rattle.row.specs.Row.{blocksOf, bytesOf, kindB, Stepped, blockAt}
 use Rattle.row.proofs.Laws.{row-end, bytes-append}
 use Rattle.find_bay.specs.Spots.{freeTotal, used, gapOf, squeeze}
 use Rattle.access.proofs.Store.{write-length}

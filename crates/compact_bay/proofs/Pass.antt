@@ -1,22 +1,19 @@
 -- The laws of the masters' pass.
-use mathlib.Core.Path.{_≡_, refl, sym, ap, ap₂, _∙_, subst}
-use mathlib.Core.List.{List, [], _∷_, _++_, map, append-assoc, append-nil}
-use mathlib.Core.Bool.{Bool, true, false, cond}
-use Prim.Native.Nat.{ℕ, zero, suc, _+_, _-_, _/_, _%_, _<_, _≤_}
+use mathlib.Core.Path.{_≡_, refl, sym, ap, _∙_, subst}
+use mathlib.Core.List.{List, [], _∷_}
+use Prim.Native.Nat.{ℕ, _+_, _-_, _<_, _≤_}
 use native.Mathlib.Omega.{arith}
-use lib.Dec.{eqb}
-use lib.ListN.{length, take, drop, length-append, length-take, length-drop, drop-of-length-le}
-use lib.Seq.{drop-drop, take-take, length-take-le}
+use lib.ListN.{length, take, drop, length-take}
+use lib.Seq.{drop-drop, length-take-le}
 use Rattle.bigendian.specs.BigEndian.{fromBE, toBE, slice, overwrite}
 use Rattle.bigendian.proofs.Laws.{length-toBE}
-use Rattle.format.specs.WellFormed.{typeOf, sizeOf, handleOf}
+use Rattle.format.specs.WellFormed.{typeOf, handleOf}
 use Rattle.format.proofs.Walk.{drop-take, kind-take, handle-take}
-use Rattle.structure.specs.Structure.{Block, free, fixed, reloc, size, sizes, encodeBlock, decodeBlock, join}
-use Rattle.row.specs.Row.{blocksOf, bytesOf, kindB, freeB, Row, Stepped, blockAt, Sound}
-use Rattle.row.proofs.Laws.{row-end, bytes-append, reloc-at}
-use Rattle.find_bay.specs.Spots.{freeTotal, used, gapOf, squeeze}
+use Rattle.structure.specs.Structure.{Block, free, fixed, reloc, size}
+use Rattle.row.specs.Row.{blocksOf, kindB, Stepped, blockAt}
+use Rattle.row.proofs.Laws.{row-end, reloc-at}
 use Rattle.access.proofs.Store.{write-length}
-use Rattle.compact_bay.specs.Tidy.{setOne, setAll, Low, IsLow, is-low, Owner, owner, Turned, tidied}
+use Rattle.compact_bay.specs.Tidy.{setOne, setAll, Low, IsLow, is-low, Owner, owner, Turned}
 use Rattle.compact_bay.proofs.Part.{drop-write}
 
 low-more : (a b : ℕ) (bs : List Block) → a ≤ b → Low a bs → Low b bs

@@ -1,18 +1,18 @@
 -- What compaction keeps.
-use mathlib.Core.Path.{_≡_, refl, sym, ap, ap₂, _∙_, subst}
-use mathlib.Core.List.{List, [], _∷_, _++_, map, append-assoc, append-nil}
+use mathlib.Core.Path.{_≡_, refl, sym, ap, _∙_}
+use mathlib.Core.List.{List, [], _∷_, _++_, append-assoc, append-nil}
 use mathlib.Core.Bool.{Bool, true, false, cond}
-use Prim.Native.Nat.{ℕ, zero, suc, _+_, _-_, _/_, _%_, _<_, _≤_}
+use Prim.Native.Nat.{ℕ, _+_, _-_, _%_, _≤_}
 use native.Mathlib.Omega.{arith}
 use lib.Dec.{eqb}
 use borrow.Author.Tests.{eqb-true, eqb-false}
-use lib.ListN.{length, take, drop, length-append, length-take, length-drop, drop-of-length-le}
+use lib.ListN.{length, take, drop, length-take, length-drop}
 use lib.Seq.{drop-drop, take-at, drop-at, length-take-le}
-use Rattle.bigendian.specs.BigEndian.{fromBE, toBE, slice, overwrite}
+use Rattle.bigendian.specs.BigEndian.{slice, overwrite}
 use Rattle.format.proofs.Walk.{drop-take}
-use Rattle.structure.specs.Structure.{Block, free, fixed, reloc, size, sizes, encodeBlock, join}
+use Rattle.structure.specs.Structure.{Block, free, fixed, reloc, sizes}
 use Rattle.structure.specs.Valid.{handlesOf}
-use Rattle.row.specs.Row.{blocksOf, bytesOf, kindB, freeB, Row, row, Sound, Sound1}
+use Rattle.row.specs.Row.{blocksOf, bytesOf, Row, row, Sound}
 use Rattle.row.proofs.Laws.{tiles-join, row-bytes, row-sound, bytes-long, sound-append}
 use Rattle.find_bay.specs.Spots.{freeTotal, used, gapOf, squeeze}
 use Rattle.find_bay.proofs.Numbers.{sizes-append}

@@ -4,7 +4,7 @@ ghost use mathlib.Core.Path.{_≡_};
 ghost use mathlib.Core.List.{_++_};
 ghost use Prim.Native.Nat.{_+_, _-_, _%_, _<_, _≤_};
 ghost use lib.ListN.{length, take, drop};
-ghost use Rattle.bigendian.specs.BigEndian.{slice, overwrite};
+ghost use Rattle.bigendian.specs.BigEndian.{slice};
 ghost use Rattle.row.specs.Row.{Row, Stepped, blocksOf, bytesOf};
 ghost use Rattle.find_bay.specs.Spots.{gapOf, squeeze};
 ghost use Rattle.compact_bay.specs.Tidy.{Kept, Gathered, IsLow, Owner, Turned, setAll, tidied};

@@ -8,7 +8,6 @@ use lib.ListN.{length}
 use Rattle.bigendian.specs.BigEndian.{Bytes}
 use Rattle.format.specs.WellFormed.{wellFormed, zoneOf, lengthField, firstField}
 use Rattle.structure.specs.Structure.{decode}
-use Rattle.structure.proofs.Table.{whole}
 use Rattle.access.specs.Edit.{is-zone}
 use Rattle.walk.specs.Walker.{blocksAt, lowOf}
 use Rattle.calls.specs.Calls.{Call, Answer, answers, enlarge, length-of, sums}

@@ -1,15 +1,13 @@
 -- The laws of the two searches.
-use mathlib.Core.Path.{_≡_, refl, sym, ap, _∙_}
-use mathlib.Core.List.{List, [], _∷_}
-use mathlib.Core.Bool.{Bool, true, false, cond, _&&_}
+use mathlib.Core.Path.{_≡_, sym, _∙_}
+use mathlib.Core.List.{List}
+use mathlib.Core.Bool.{true, false, cond, _&&_}
 use Prim.Native.Nat.{ℕ, _+_, _<_, _≤_}
-use native.Mathlib.Omega.{arith}
 use lib.Dec.{eqb, leb}
 use borrow.Author.Tests.{eq-eqb, ne-eqb, le-leb, lt-leb}
 use lib.ListN.{length, drop}
 use Rattle.format.specs.WellFormed.{typeOf}
-use Rattle.structure.specs.Structure.{Block}
-use Rattle.row.specs.Row.{blocksOf, Row, Stepped, kindB, blockAt}
+use Rattle.row.specs.Row.{blocksOf, Stepped, kindB, blockAt}
 use Rattle.row.proofs.Laws.{row-end}
 use Rattle.find_bay.specs.Find.{BayN, bayN, findBay, HoleN, holeN, findHole}
 

@@ -1,15 +1,14 @@
 -- The offsets of the chosen bay and hole are those that the code finds, and what a choice says.
-use mathlib.Core.Path.{_≡_, refl, sym, ap, ap₂, _∙_, subst}
-use mathlib.Core.List.{List, [], _∷_, _++_, append-assoc, append-nil}
+use mathlib.Core.Path.{_≡_, refl}
+use mathlib.Core.List.{List, [], _∷_, _++_}
 use mathlib.Core.Bool.{Bool, true, false, cond, _&&_}
-use Prim.Native.Nat.{ℕ, zero, suc, _+_, _<_, _≤_}
-use native.Mathlib.Nat.{add-zero, add-assoc}
+use Prim.Native.Nat.{ℕ, _+_}
+use native.Mathlib.Nat.{add-zero}
 use native.Mathlib.Omega.{arith}
-use lib.Dec.{eqb, leb}
-use borrow.Author.Tests.{leb-true}
-use Rattle.structure.specs.Structure.{Block, free, fixed, reloc, size, sizes}
-use Rattle.row.specs.Row.{freeB, fixedB, kindB}
-use Rattle.find_bay.specs.Spots.{freeSize, freeTotal, Spot, spot, put, baysFrom, bays, holesFrom, holes, Choice, none, some, firstFit}
+use lib.Dec.{leb}
+use Rattle.structure.specs.Structure.{Block, size, sizes}
+use Rattle.row.specs.Row.{freeB, fixedB}
+use Rattle.find_bay.specs.Spots.{freeSize, freeTotal, spot, baysFrom, holesFrom, none, some, firstFit}
 use Rattle.find_bay.specs.Find.{BayN, bayN, findBay, bayAt, HoleN, holeN, findHole, holeAt}
 
 pub sizes-append : (a b : List Block) → sizes (a ++ b) ≡ sizes a + sizes b

@@ -1,11 +1,11 @@
 -- The same choices by offsets, in the order of the code.
-use mathlib.Core.List.{List, [], _∷_, _++_}
+use mathlib.Core.List.{List, [], _∷_}
 use mathlib.Core.Bool.{Bool, true, false, cond, _&&_}
 use Prim.Native.Nat.{ℕ, _+_}
-use lib.Dec.{eqb, leb}
-use Rattle.structure.specs.Structure.{Block, free, size, sizes}
+use lib.Dec.{leb}
+use Rattle.structure.specs.Structure.{Block, size, sizes}
 use Rattle.row.specs.Row.{freeB, fixedB}
-use Rattle.find_bay.specs.Spots.{freeSize, freeTotal, Spot, Choice, none, some}
+use Rattle.find_bay.specs.Spots.{freeSize, freeTotal, Choice, none, some}
 
 pub record BayN : Type 0 where
   pub found : Bool

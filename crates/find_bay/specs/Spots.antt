@@ -1,10 +1,10 @@
 -- Bays and holes as places in a list of blocks, and the choice among them.
 use mathlib.Core.List.{List, [], _∷_, _++_}
-use mathlib.Core.Bool.{Bool, true, false, cond}
+use mathlib.Core.Bool.{cond}
 use Prim.Native.Nat.{ℕ, _+_, _-_}
 use lib.ListN.{replicate}
 use lib.Dec.{eqb, leb}
-use Rattle.structure.specs.Structure.{Block, free, fixed, reloc, size}
+use Rattle.structure.specs.Structure.{Block, free, reloc, size}
 use Rattle.row.specs.Row.{freeB, fixedB}
 
 -- ---- sums

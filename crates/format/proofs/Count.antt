@@ -6,7 +6,7 @@ use Prim.Native.Nat.{ℕ, zero, suc, _+_, _*_, _-_, _%_, _<_, _≤_}
 use native.Mathlib.Omega.{arith}
 use lib.Dec.{eqb}
 use borrow.Author.Tests.{eqb-true, eqb-false, eq-eqb, ne-eqb}
-use lib.ListN.{length, length-append}
+use lib.ListN.{length}
 unfoldable pub use Rattle.format.specs.WellFormed.{offsets}
 pub use Rattle.format.specs.Occurs.{one}
 unfoldable pub use Rattle.format.specs.Occurs.{occurs}

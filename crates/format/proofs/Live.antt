@@ -1,21 +1,19 @@
 -- What well-formedness says of handles: a master is in the chain or is the handle of one relocatable block, and which it is shows in its value.
 use mathlib.Core.Path.{_≡_, refl, sym, ap, _∙_, subst}
 use mathlib.Core.List.{List, [], _∷_, _++_}
-use mathlib.Core.Bool.{Bool, true, false, cond, not, _&&_}
-use Prim.Native.Nat.{ℕ, zero, suc, _+_, _*_, _-_, _/_, _%_, _<_, _≤_}
+use mathlib.Core.Bool.{Bool, true, false, cond, _&&_}
+use Prim.Native.Nat.{ℕ, zero, suc, _+_, _*_, _-_, _<_, _≤_}
 use native.Mathlib.Omega.{arith}
-use native.Mathlib.Nat.{add-zero, zero-add}
 use lib.Dec.{eqb, leb}
-use borrow.Author.Tests.{eq-eqb, ne-eqb, leb-true, eqb-true, eqb-false, le-leb}
-use lib.ListN.{length, getD, take, drop, length-append}
-use Rattle.bigendian.specs.BigEndian.{fromBE, slice}
-use Rattle.format.proofs.Bool.{and-left, and-right, is-false, not-both}
-use Rattle.format.specs.WellFormed.{typeOf, sizeOf, handleOf, isFree, isReloc, splitBlocks, isMaster, masterAt, relocs}
-use Rattle.format.specs.OneWalk.{links, typeRule, freeRule, relocRule, blockOk, blocksOk, bodyOk}
+use borrow.Author.Tests.{leb-true, eqb-true, eqb-false}
+use lib.ListN.{length, drop, length-append}
+use Rattle.format.proofs.Bool.{and-left, and-right}
+use Rattle.format.specs.WellFormed.{typeOf, handleOf, isFree, isReloc, splitBlocks, isMaster, masterAt, relocs}
+use Rattle.format.specs.OneWalk.{links, typeRule, relocRule, blockOk, blocksOk, bodyOk}
 unfoldable pub use Rattle.format.specs.WellFormed.{chain}
-use Rattle.format.proofs.Walk.{Good, is-good}
+use Rattle.format.proofs.Walk.{is-good}
 use Rattle.format.proofs.Masters.{Master, is-master}
-use Rattle.format.proofs.Count.{one, occurs, All, offsets, one-same, one-other, one-le, one-eq, occurs-offset, cover, occurs-append, all-append, all-at}
+use Rattle.format.proofs.Count.{one, occurs, All, offsets, one-other, one-le, occurs-offset, cover, occurs-append, all-append, all-at}
 
 -- the handles of the relocatable blocks, in address order
 unfoldable pub handles : List (List ℕ) → List ℕ

@@ -1,10 +1,10 @@
 -- A compacted bay in which one block has grown, in bytes.
 use mathlib.Core.Path.{_≡_}
-use mathlib.Core.List.{List, [], _∷_, _++_}
-use Prim.Native.Nat.{ℕ, _+_, _-_, _/_, _%_, _<_, _≤_}
+use mathlib.Core.List.{List, _++_}
+use Prim.Native.Nat.{ℕ, _+_, _-_, _/_, _%_, _≤_}
 use lib.ListN.{length, take, drop, replicate}
 use Rattle.bigendian.specs.BigEndian.{toBE, slice}
-use Rattle.structure.specs.Structure.{Block, free, encodeBlock}
+use Rattle.structure.specs.Structure.{free, encodeBlock}
 use Rattle.row.specs.Row.{bytesOf}
 use Rattle.find_bay.specs.Spots.{gapOf}
 

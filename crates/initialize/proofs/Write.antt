@@ -166,9 +166,6 @@ module _ (z : List ℕ) (first n : ℕ) where
       rw (ne-eqb (n - first) 0 (λ x. omega arith), ← k)
       (e₂ ∙ (rw e₁ (write-more z (toBE 4 ((n - first) / 2)) (replicate (n - (first + 4)) 0) first (first + 4) (omega arith) (omega arith))))
 
-  pub free-room : first < n → (n - first) % 4 ≡ 0 → first + 4 ≤ n
-  free-room l q = omega arith
-
 -- ---- all of it
 
 pub make-done : (z z₁ z₂ z₃ : List ℕ) (n m : ℕ) → Fresh (length z) n m → z₁ ≡ overwrite z 0 (headBytes n m) → z₂ ≡ overwrite z₁ 16 (chainBytes 16 m)

@@ -1,5 +1,5 @@
 -- No step of the ledger but free-pointer takes a fixed block away, and none moves it or changes its size.
-use mathlib.Core.Path.{_≡_, refl, ap, ap₂, sym, _∙_, subst}
+use mathlib.Core.Path.{_≡_, refl, ap, ap₂, sym, subst}
 use mathlib.Core.Bool.{Bool, true, false, cond, _&&_}
 use mathlib.Core.Option.{Option, none, some}
 use mathlib.Core.List.{List, [], _∷_, map}
@@ -10,9 +10,9 @@ use lib.Dec.{leb, eqb}
 use borrow.Author.Tests.{eqb-true}
 use Rattle.block_type.specs.Limits.{fixedHeader, relocHeader, relocLimit, fixedLimit, up4, fixedNeed, relocNeed, longestZone, recordSize}
 use Rattle.calls.specs.Calls.{Target, by-handle, by-pointer, Call, allocate-relocatable, allocate-fixed, free-handle, free-pointer, resize, size, read, write, view, compact, sums, check, length-of, enlarge, shrink, roster, Answer}
-use Rattle.ledger.specs.Ledger.{Entry, Bay, Fixed, Line, last, more, Ledger, Lodged, Step, bay, pointerOf, fixedSize, entryOf, bytesOf, liveCount, orElse, before, lowest, reaches, enter, without, onEntries, change, changeFixed, changeBytes, onLast, zeros, newFixed, lodgedAfter, split, highest, joined, joinFirst, strike, sized, ownReaches, resizeIn, orRefuse, orGive, onTop, step, after}
+use Rattle.ledger.specs.Ledger.{Entry, Bay, Fixed, Line, last, more, Ledger, Lodged, Step, pointerOf, fixedSize, entryOf, bytesOf, liveCount, orElse, before, lowest, reaches, without, onEntries, change, changeFixed, changeBytes, onLast, lodgedAfter, split, highest, joinFirst, strike, ownReaches, orRefuse, orGive, onTop, step}
 use Rattle.ledger.specs.Space.{Spot, spot, fixedSpots}
-use Rattle.ledger.specs.Still.{Has, first, later, NotFreed, no-call, a-call, StaysPut}
+use Rattle.ledger.specs.Still.{Has, first, later, a-call, StaysPut}
 
 -- ---- what leaves the fixed blocks as they are
 

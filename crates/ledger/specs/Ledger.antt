@@ -1,6 +1,6 @@
 -- Document 01, 'The ledger'. It is fed the calls alone. It holds no place of a relocatable block and never reads a zone.
 -- From elsewhere it has the calls, their answers, and document 01's numbers, and nothing else.
-use mathlib.Core.Bool.{Bool, true, false, cond, _&&_, _||_}
+use mathlib.Core.Bool.{Bool, false, cond, _&&_}
 use mathlib.Core.Option.{Option, none, some}
 use mathlib.Core.List.{List, [], _∷_, _++_, map}
 use Prim.Native.Nat.{ℕ, zero, suc, _+_, _-_, _*_, _/_, _%_, max, min}

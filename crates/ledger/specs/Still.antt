@@ -1,10 +1,10 @@
 -- "No fixed block moves until it is freed": of the ledger, for every call and for every list of calls.
 use mathlib.Core.Path.{_≡_}
 use mathlib.Core.List.{List, [], _∷_}
-use Prim.Native.Nat.{ℕ, _+_}
+use Prim.Native.Nat.{_+_}
 use Rattle.block_type.specs.Limits.{fixedHeader}
 use Rattle.calls.specs.Calls.{Call, free-pointer}
-use Rattle.ledger.specs.Ledger.{Ledger, step, after}
+use Rattle.ledger.specs.Ledger.{Ledger, after}
 use Rattle.ledger.specs.Space.{Spot, fixedSpots}
 
 -- x is one of the spots

@@ -19,7 +19,7 @@ use Rattle.structure.specs.Structure as Structure
 use Rattle.structure.specs.Structure.{free, fixed, reloc, start, count, decodeBlock, decodeZone}
 use Rattle.structure.specs.Valid.{handlesOf, Tiled}
 use Rattle.structure.proofs.Round.{offset-is, rest-is}
-use Rattle.structure.proofs.Table.{Whole, whole, start-is, encode-zone}
+use Rattle.structure.proofs.Table.{Whole, start-is, encode-zone}
 use Rattle.structure.proofs.Sound.{valid-zone}
 use Rattle.access.specs.Edit as Edit
 use Rattle.access.specs.Edit.{IsZone, is-zone}

@@ -1,17 +1,17 @@
 -- The laws of the loops over bytes: each loop's invariant says that the specification, applied to what is there now
 -- and what is left, gives what it gave at the start.
 use mathlib.Core.Path.{_≡_, refl, sym, ap, _∙_}
-use mathlib.Core.List.{List, [], _∷_, _++_, append-nil, append-assoc}
+use mathlib.Core.List.{List, [], _∷_, _++_, append-nil}
 use mathlib.Core.Bool.{Bool, true, false, _&&_}
-use Prim.Native.Nat.{ℕ, zero, suc, _+_, _*_, _-_, _<_, _≤_, max}
-use native.Mathlib.Nat.{sub-self, add-zero, zero-add, suc-add}
+use Prim.Native.Nat.{ℕ, zero, suc, _+_, _-_, _<_, _≤_, max}
+use native.Mathlib.Nat.{add-zero}
 use native.Mathlib.Numerals.{add-one}
 use native.Mathlib.Omega.{arith}
 use lib.Dec.{eqb}
 use borrow.Author.Tests.{eq-eqb, ne-eqb}
-use lib.ListN.{length, getD, take, drop, set, replicate, length-set, length-append, length-take, length-drop, take-append-drop}
-use lib.Seq.{drop-cons, drop-drop, take-add, set-split, take-suc-set, drop-set-lt, append-snoc}
-use Rattle.bigendian.specs.BigEndian.{slice, overwrite, Bytes}
+use lib.ListN.{length, getD, take, drop, set, replicate, take-append-drop}
+use lib.Seq.{drop-cons, drop-drop, take-add, take-suc-set, drop-set-lt, append-snoc}
+use Rattle.bigendian.specs.BigEndian.{slice, overwrite}
 use Rattle.memory.specs.Zeros.{allZero}
 
 pub cut-step : (s : List ℕ) (i to : ℕ) → i < to → to ≤ length s → slice s i (to - i) ≡ getD s i 0 ∷ slice s (i + 1) (to - (i + 1))

@@ -1,20 +1,19 @@
 -- The bay that the offsets give is the bay that has the handle.
-use mathlib.Core.Path.{_≡_, refl, sym, ap, _∙_, subst}
+use mathlib.Core.Path.{_≡_, refl, sym, ap, _∙_}
 use mathlib.Core.List.{List, [], _∷_, _++_}
 use mathlib.Core.Bool.{Bool, true, false, cond}
 use Prim.Native.Nat.{ℕ, _+_, _-_, _<_, _≤_}
 use native.Mathlib.Nat.{add-zero}
 use native.Mathlib.Omega.{arith}
 use lib.ListN.{length}
-use lib.Dec.{eqb, ltb, leb}
-use borrow.Author.Tests.{eqb-true, eqb-false, ne-eqb, eq-eqb, lt-ltb, le-ltb, ltb-true, ltb-false, le-leb}
-use Rattle.format.proofs.Count.{one, occurs, one-same, one-other, occurs-append}
+use lib.Dec.{eqb, ltb}
+use borrow.Author.Tests.{eqb-true, eqb-false, ne-eqb, lt-ltb, le-ltb, ltb-false}
+use Rattle.format.proofs.Count.{occurs, one-same, one-other, occurs-append}
 use Rattle.structure.specs.Structure.{Block, free, fixed, reloc, size, sizes, placeOf}
 use Rattle.structure.specs.Valid.{handlesOf}
-use Rattle.access.specs.Edit.{dataOf}
 use Rattle.row.specs.Row.{fixedB}
-use Rattle.find_bay.specs.Spots.{freeSize, freeTotal, Spot, spot, baysFrom, bays, Choice, none, some}
-use Rattle.find_bay.specs.Find.{BayN, bayN, bayAt}
+use Rattle.find_bay.specs.Spots.{freeSize, freeTotal, Spot, spot, baysFrom, Choice, some}
+use Rattle.find_bay.specs.Find.{bayN, bayAt}
 use Rattle.find_bay.proofs.Numbers.{sizes-append, free-append}
 use Rattle.compact_bay.proofs.Squeeze.{handles-append}
 use Rattle.bay_spots.proofs.Spots.{firstBy}

@@ -9,7 +9,7 @@ use lib.Seq.{take-set-le, set-split, drop-at, length-take-le}
 use Rattle.bigendian.specs.BigEndian.{overwrite}
 use Rattle.memory.proofs.Writes.{write-none}
 use Rattle.initialize.proofs.Write.{write-more}
-use Rattle.records.specs.Records.{decimal, digits, Line, skip, line, text}
+use Rattle.records.specs.Records.{decimal, Line, skip, line, text}
 use Rattle.records.specs.Shown.{lineOf, Put}
 use Rattle.records.proofs.Decimal.{digits-one, digits-some, digits-most, decimal-step}
 

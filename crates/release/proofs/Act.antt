@@ -1,15 +1,14 @@
 -- The laws that the writes of a release cite.
-use mathlib.Core.Path.{_≡_, refl, sym, ap, ap₂, _∙_, subst}
-use mathlib.Core.List.{List, [], _∷_, _++_, map, append-assoc}
-use Prim.Native.Nat.{ℕ, zero, suc, _+_, _*_, _-_, _/_, _<_, _≤_}
-use native.Mathlib.Nat.{add-zero, zero-add, add-assoc}
+use mathlib.Core.Path.{_≡_, sym, ap, _∙_}
+use mathlib.Core.List.{List, _++_, append-assoc}
+use Prim.Native.Nat.{ℕ, _+_, _-_, _/_, _<_, _≤_}
+use native.Mathlib.Nat.{zero-add}
 use native.Mathlib.Omega.{arith}
-use lib.ListN.{length, take, drop, length-append, length-take, length-drop, replicate, length-replicate}
+use lib.ListN.{length, take, drop, length-append, replicate, length-replicate}
 use lib.Seq.{drop-drop, length-take-le}
 use Rattle.bigendian.specs.BigEndian.{fromBE, toBE, slice, overwrite}
 use Rattle.bigendian.proofs.Laws.{length-toBE}
-use Rattle.format.specs.WellFormed.{chainField, lengthField}
-use Rattle.structure.specs.Structure.{Block, free, Structure, encodeBlock, encode, decodeZone, start, sizes, len, headOf}
+use Rattle.structure.specs.Structure.{free, encodeBlock, encode, decodeZone, start, sizes, headOf}
 use Rattle.structure.proofs.Table.{Whole, encode-zone, len-is, head-is}
 use Rattle.structure.proofs.Sound.{valid-zone}
 use Rattle.access.specs.Edit.{IsZone}

@@ -7,14 +7,13 @@ use native.Mathlib.Nat.{add-zero, zero-add, add-assoc}
 use native.Mathlib.Omega.{arith}
 use lib.Dec.{eqb}
 use borrow.Author.Tests.{eqb-true, eqb-false, eq-eqb, ne-eqb}
-use lib.ListN.{length, take, drop, set, length-append, length-take, length-drop, replicate, length-replicate, length-set, length-map}
-use lib.Seq.{take-at, drop-at}
-use Rattle.bigendian.specs.BigEndian.{fromBE, toBE, overwrite}
+use lib.ListN.{length, set, length-append, length-replicate, length-set, length-map}
+use Rattle.bigendian.specs.BigEndian.{toBE, overwrite}
 use Rattle.bigendian.proofs.Laws.{length-toBE}
 use Rattle.format.proofs.Count.{one, occurs, offsets, one-same, one-other, occurs-append, length-offsets}
-use Rattle.structure.specs.Structure.{Block, free, fixed, reloc, Structure, size, encodeBlock, sizes, relocCount, count, start, len, headOf, placeOf, nextOf, value, join, encode}
+use Rattle.structure.specs.Structure.{Block, free, fixed, reloc, Structure, encodeBlock, sizes, relocCount, count, start, len, headOf, placeOf, nextOf, value, join, encode}
 use Rattle.structure.specs.Valid.{handlesOf, Tiled, Valid}
-use Rattle.structure.proofs.Round.{offset-le, offset-is, place-none, next-none}
+use Rattle.structure.proofs.Round.{offset-le, offset-is, place-none}
 use Rattle.access.proofs.Store.{length-enc}
 use Rattle.release.proofs.ZoneLayout.{lay, values, encode-lay, lay-chain, lay-master, lay-rest, lay-same, write-mid}
 use Rattle.release.specs.Release.{gap, release, freed, Span}

@@ -1,17 +1,17 @@
 -- From a place of the structure to the offset in the bytes.
-use mathlib.Core.Path.{_≡_, refl, sym, ap, ap₂, _∙_, subst}
-use mathlib.Core.List.{List, [], _∷_, _++_, map}
-use mathlib.Core.Bool.{Bool, true, false, cond}
-use Prim.Native.Nat.{ℕ, zero, suc, _+_, _-_, _<_, _≤_}
-use native.Mathlib.Nat.{add-zero, add-assoc}
+use mathlib.Core.Path.{_≡_, refl, sym, ap, _∙_, subst}
+use mathlib.Core.List.{List, [], _∷_, _++_}
+use mathlib.Core.Bool.{Bool, true, false}
+use Prim.Native.Nat.{ℕ, _+_, _-_, _<_, _≤_}
+use native.Mathlib.Nat.{add-zero}
 use native.Mathlib.Omega.{arith}
 use lib.ListN.{length, drop}
 use native.Mathlib.Decide.{decLt}
-use Rattle.format.specs.WellFormed.{sizeOf, isFree, firstField, mastersField, chainField}
-use Rattle.structure.specs.Structure.{Block, free, fixed, reloc, size, sizes, start, decodeZone, placeOf}
+use Rattle.format.specs.WellFormed.{sizeOf, isFree, firstField}
+use Rattle.structure.specs.Structure.{Block, free, fixed, reloc, size, sizes, start, decodeZone}
 use Rattle.structure.proofs.Table.{Whole, start-is, len-is}
 use Rattle.structure.proofs.Sound.{valid-zone}
-use Rattle.structure.specs.Valid.{Tiled, Valid}
+use Rattle.structure.specs.Valid.{Tiled}
 use Rattle.access.specs.Edit.{IsZone, placeIn, dataIn, dataOf}
 use Rattle.access.proofs.Zone.{whole-of}
 use Rattle.access.proofs.PutLaws.{data-fits}

@@ -1,16 +1,15 @@
 -- A zone's bytes as a layout whose parts change one at a time: what a call writes between two structures.
-use mathlib.Core.Path.{_≡_, refl, sym, ap, ap₂, _∙_, subst}
+use mathlib.Core.Path.{_≡_, refl, sym, ap, _∙_}
 use mathlib.Core.List.{List, [], _∷_, _++_, map, append-assoc}
-use Prim.Native.Nat.{ℕ, zero, suc, _+_, _*_, _-_, _/_, _<_, _≤_}
-use native.Mathlib.Nat.{add-zero, zero-add}
+use Prim.Native.Nat.{ℕ, zero, suc, _+_, _*_, _-_, _<_}
 use native.Mathlib.Omega.{arith}
-use lib.ListN.{length, take, drop, set, length-append, length-set}
-use lib.Seq.{take-at, drop-at, take-append-add, drop-append-add}
-use Rattle.bigendian.specs.BigEndian.{fromBE, toBE, overwrite}
+use lib.ListN.{length, set, length-append}
+use lib.Seq.{take-at, drop-at, drop-append-add}
+use Rattle.bigendian.specs.BigEndian.{toBE, overwrite}
 use Rattle.bigendian.proofs.Laws.{length-toBE}
-use Rattle.format.proofs.Count.{offsets, length-offsets}
-use Rattle.structure.specs.Structure.{Block, Structure, encodeBlock, count, start, len, headOf, value, words, join, header, encode}
-use Rattle.access.proofs.Store.{write-right, write-left}
+use Rattle.format.proofs.Count.{offsets}
+use Rattle.structure.specs.Structure.{Structure, encodeBlock, count, start, len, headOf, value, words, join, header, encode}
+use Rattle.access.proofs.Store.{write-right}
 
 -- 4 bytes for each number of a list
 unfoldable pub wordsL : List ℕ → List ℕ
@@ -43,10 +42,6 @@ length-words : (vs : List ℕ) → length (wordsL vs) ≡ 4 * length vs
 unfolding wordsL
 length-words [] = refl
 length-words (v ∷ vs) = simp (length-append, length-toBE) (omega (arith, length-words vs))
-
-pub length-lay : (l f m c : ℕ) (vs r : List ℕ) → length (lay l f m c vs r) ≡ 16 + 4 * length vs + length r
-unfolding lay
-length-lay l f m c vs r = simp (length-append, length-toBE) (omega (arith, length-append (wordsL vs) r, length-words vs))
 
 front : (l f m : ℕ) (t : List ℕ) → toBE 4 l ++ (toBE 4 f ++ (toBE 4 m ++ t)) ≡ (toBE 4 l ++ (toBE 4 f ++ toBE 4 m)) ++ t
 front l f m t = simp append-assoc

@@ -6,8 +6,6 @@ use Prim.Native.Nat.{ℕ, _+_, _≤_}
 use native.Mathlib.Omega.{arith}
 use mir.Val.{Fits}
 use mir.Syntax.{w64}
-use lib.ListN.{length}
-use Rattle.block_type.specs.Limits.{relocHeader}
 use Rattle.structure.specs.Structure.{Structure, encode, decodeZone}
 use Rattle.access.specs.Edit.{dataIn, dataOf}
 use Rattle.resize_in_place.specs.InPlace.{leadIn, resizedIn, LiveIn, live-in, Here}

@@ -1,12 +1,12 @@
 -- The call is what the flat list of blocks gives.
-use mathlib.Core.Path.{_≡_, refl, sym, ap, ap₂, _∙_}
+use mathlib.Core.Path.{_≡_, refl, sym, _∙_}
 use mathlib.Core.List.{List, _++_}
-use mathlib.Core.Bool.{Bool, true, false, cond}
+use mathlib.Core.Bool.{Bool, true, false}
 use Prim.Native.Nat.{ℕ, suc, _+_, _<_, _≤_}
 use native.Mathlib.Omega.{arith}
 use native.Mathlib.Decide.{ℕ-discrete}
 use lib.ListN.{drop}
-use lib.Dec.{ltb, leb}
+use lib.Dec.{leb}
 use borrow.Author.Tests.{eq-eqb, ne-eqb, lt-ltb, le-ltb, le-leb, lt-leb, leb-true, leb-false}
 use Rattle.bigendian.specs.BigEndian.{Bytes}
 use Rattle.block_type.specs.Limits.{relocLimit, up4}
@@ -22,7 +22,7 @@ use Rattle.resize_layout.specs.Layout.{laidOut}
 use Rattle.resize_layout.proofs.Call.{resize-layout}
 use Rattle.resize_move.specs.Relocated.{relocated}
 use Rattle.resize_choice.proofs.Call.{resize-5, resize-moved}
-use Rattle.resize.specs.Resized.{roomHere, ownFor, bayFor, ifNone, resizedTo, roomCode, resizeCode, resizeOut}
+use Rattle.resize.specs.Resized.{roomHere, ownFor, bayFor, resizedTo, roomCode, resizeCode, resizeOut}
 
 -- ---- the refusal, by its cases
 

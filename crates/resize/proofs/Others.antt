@@ -1,8 +1,8 @@
 -- The plan where the own bay has no room.
-use mathlib.Core.Path.{_≡_, refl, sym, ap, ap₂, _∙_}
+use mathlib.Core.Path.{_≡_, refl, sym, ap, _∙_}
 use mathlib.Core.List.{List}
 use mathlib.Core.Bool.{Bool, true, false}
-use Prim.Native.Nat.{ℕ, zero, suc, _+_, _-_, _%_, _<_, _≤_}
+use Prim.Native.Nat.{ℕ, zero, suc, _+_, _-_, _≤_}
 use native.Mathlib.Omega.{arith}
 use mir.Val.{Fits}
 use mir.Syntax.{w64}
@@ -10,22 +10,22 @@ use lib.ListN.{length, drop}
 use Rattle.format.specs.WellFormed.{firstField}
 use Rattle.format.proofs.Bool.{not-both}
 use Rattle.format.proofs.Count.{occurs}
-use Rattle.structure.specs.Structure.{Block, Structure, sizes, start, placeOf, decodeZone}
+use Rattle.structure.specs.Structure.{Structure, sizes, start, decodeZone}
 use Rattle.structure.specs.Valid.{handlesOf, Valid}
 use Rattle.structure.proofs.Table.{Whole, start-is}
 use Rattle.structure.proofs.Round.{place-none}
 use Rattle.structure.proofs.Sound.{valid-zone}
-use Rattle.access.specs.Edit.{IsZone, placeIn, dataIn, dataOf}
+use Rattle.access.specs.Edit.{IsZone, placeIn, dataIn}
 use Rattle.access.proofs.Zone.{whole-of}
 use Rattle.row.specs.Row.{blocksOf, Row}
-use Rattle.find_bay.specs.Spots.{Spot, Choice, none, some, bays, firstFit}
+use Rattle.find_bay.specs.Spots.{Choice, none, some, bays, firstFit}
 use Rattle.find_bay.specs.Find.{BayN, bayN, findBay, bayAt}
 use Rattle.surgery.proofs.Sound.{handle-once}
 use Rattle.allocate_relocatable.proofs.Zone.{zone-row, zone-start, zone-short, start-numbers}
 use Rattle.resize_choice.proofs.Choice.{other-none, other-bay}
-use Rattle.resize_relocate.specs.Carry.{RelocateIn, relocate-in}
-use Rattle.resize.specs.Resized.{roomHere, ownFor, bayFor, roomCode}
-use Rattle.resize.specs.Ways.{FoundBay, SpotIn, spot-in, FoundHole, HoleIn, hole-in, Grow, Moves, moves, WayIn, other, Chosen, chosen}
+use Rattle.resize_relocate.specs.Carry.{relocate-in}
+use Rattle.resize.specs.Resized.{ownFor, bayFor}
+use Rattle.resize.specs.Ways.{SpotIn, spot-in, HoleIn, hole-in, Grow, Moves, moves, other, Chosen, chosen}
 use Rattle.resize.proofs.Flat.{room-other, room-none}
 
 -- the blocks behind the masters are those of the structure

@@ -8,7 +8,7 @@ use native.Mathlib.Omega.{arith}
 use lib.ListN.{length, take, drop}
 use lib.Seq.{take-all}
 use lib.Dec.{eqb, leb}
-use borrow.Author.Tests.{eqb-true, le-leb, leb-true}
+use borrow.Author.Tests.{eqb-true, le-leb}
 use Rattle.bigendian.specs.BigEndian.{Bytes}
 use Rattle.block_type.specs.Limits.{relocLimit, up4}
 use Rattle.format.specs.WellFormed.{wellFormed}
@@ -23,7 +23,7 @@ use Rattle.zone.proofs.BayLaws.{Each, nothing, just, each-over, each-cond, rele
 use Rattle.zone.proofs.Sums.{each-weaken, each-orElse, mapS-zero}
 use Rattle.zone.proofs.Resize.{length-sized}
 use Rattle.zone.proofs.Own.{own-shaped}
-use Rattle.zone.proofs.Handles.{live, occurs, occurs-once, Found, found}
+use Rattle.zone.proofs.Handles.{live, occurs-once, Found, found}
 use Rattle.zone.proofs.Run.{well-whole}
 use Rattle.call_laws.proofs.Outcome.{call-ill, call-of, after-call}
 use Rattle.allocate_relocatable.proofs.Outcome.{get-none, low-found}

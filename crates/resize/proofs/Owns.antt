@@ -1,11 +1,11 @@
 -- The plan where there is no room right after the block.
-use mathlib.Core.Path.{_≡_, refl, sym, ap, ap₂, _∙_, subst}
+use mathlib.Core.Path.{_≡_, refl, sym, ap, ap₂, _∙_}
 use mathlib.Core.List.{List, _++_}
 use mathlib.Core.Bool.{Bool, true, false, cond}
-use Prim.Native.Nat.{ℕ, suc, _+_, _-_, _%_, _<_, _≤_}
+use Prim.Native.Nat.{ℕ, _+_, _-_, _<_, _≤_}
 use native.Mathlib.Omega.{arith}
 use lib.ListN.{length, drop}
-use lib.Dec.{ltb, leb}
+use lib.Dec.{leb}
 use borrow.Author.Tests.{eq-eqb, le-leb, lt-leb, ltb-true}
 use Rattle.format.proofs.Bool.{not-both}
 use Rattle.format.proofs.Count.{occurs}
@@ -15,22 +15,18 @@ use Rattle.structure.proofs.Table.{Whole, start-is}
 use Rattle.access.specs.Edit.{IsZone, placeIn, dataIn, dataOf}
 use Rattle.access.proofs.Zone.{whole-of}
 use Rattle.row.specs.Row.{blocksOf, Row}
-use Rattle.release.proofs.Find.{mid-of}
 use Rattle.find_bay.specs.Spots.{freeTotal, Spot, Choice, none, some, bays}
 use Rattle.find_bay.specs.Find.{BayN, bayN, bayAt}
-use Rattle.surgery.proofs.Spots.{IsBay}
-use Rattle.bay_spots.proofs.Spots.{firstBy}
 use Rattle.bay_changes.proofs.Own.{ownBlocks}
 use Rattle.bay_changes.proofs.Edges.{low-bay}
 use Rattle.allocate_relocatable.proofs.Zone.{zone-row, zone-start, zone-short}
 use Rattle.own_bay.specs.Own.{hasHandle, ownBay, findOwn}
 use Rattle.own_bay.proofs.Numbers.{place-low, own-numbers, own-pick}
-use Rattle.resize_layout.specs.Layout.{OwnIn, own-in}
+use Rattle.resize_layout.specs.Layout.{own-in}
 use Rattle.resize_layout.proofs.Parts.{occurs-two}
 use Rattle.resize_move.proofs.NoRoom.{no-room}
 use Rattle.resize_relocate.proofs.Moving.{data-inside}
-use Rattle.resize.specs.Resized.{roomHere, ownFor, roomCode}
-use Rattle.resize.specs.Ways.{Grow, Grows, grows, Moves, moves, WayIn, own, Chosen, chosen}
+use Rattle.resize.specs.Ways.{Grow, Grows, grows, Moves, moves, own, Chosen, chosen}
 use Rattle.resize.proofs.Flat.{room-own}
 use Rattle.resize.proofs.Others.{blocks-here, live-once}
 

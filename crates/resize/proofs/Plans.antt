@@ -2,7 +2,7 @@
 use mathlib.Core.Path.{_≡_, refl, sym, ap, _∙_}
 use mathlib.Core.List.{List}
 use mathlib.Core.Bool.{Bool}
-use Prim.Native.Nat.{ℕ, suc, _+_, _*_, _/_, _%_, _<_, _≤_}
+use Prim.Native.Nat.{ℕ, suc, _+_, _*_, _/_, _<_, _≤_}
 use native.Mathlib.Omega.{arith}
 use mir.Val.{Fits}
 use mir.Syntax.{w64}
@@ -10,11 +10,11 @@ use lib.ListN.{length}
 use Rattle.block_type.specs.Limits.{up4}
 use Rattle.format.specs.WellFormed.{firstField}
 use Rattle.structure.specs.Structure.{Structure, start, placeOf, decodeZone}
-use Rattle.access.specs.Edit.{IsZone, placeIn, dataIn, dataOf}
-use Rattle.resize_in_place.specs.InPlace.{leadIn, live-in, Here}
+use Rattle.access.specs.Edit.{IsZone, placeIn, dataIn}
+use Rattle.resize_in_place.specs.InPlace.{leadIn, live-in}
 use Rattle.resize_in_place.proofs.Writes.{end-in, is-short, is-four, is-low}
-use Rattle.resize.specs.Resized.{roomHere, roomCode, resizeCode}
-use Rattle.resize.specs.Ways.{Grows, grows, WayIn, here, Chosen, chosen, PlannedIn, planned-in}
+use Rattle.resize.specs.Resized.{roomHere, roomCode}
+use Rattle.resize.specs.Ways.{Grows, grows, here, Chosen, chosen, PlannedIn, planned-in}
 use Rattle.resize.proofs.Flat.{room-here, code-6, code-3, code-room}
 
 stop : {A : Type 0} (number k : ℕ) → number ≡ suc k → number ≡ 0 → A

@@ -28,7 +28,7 @@ use Rattle.surgery.proofs.Spots.{IsBay, bay-is}
 use Rattle.surgery.proofs.Spots.{hole-is as hole-at}
 use Rattle.allocate_relocatable.specs.Site.{HoleOf, there, made}
 use Rattle.allocate_relocatable.proofs.PlanLaws.{hole-found, hole-none}
-use Rattle.resize.specs.Ways.{FoundBay, SpotIn, spot-in, FoundHole, HoleIn, hole-in}
+use Rattle.resize.specs.Ways.{FoundBay, SpotIn, spot-in, HoleIn, hole-in}
 
 module _ (z : List ℕ) (need a e sum : ℕ) (x : SpotIn z need a e sum) where
   abbrev s : Structure

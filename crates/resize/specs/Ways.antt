@@ -6,8 +6,8 @@ use Prim.Native.Nat.{ℕ, _+_, _-_, _%_, _<_, _≤_}
 use lib.ListN.{length, take}
 use Rattle.block_type.specs.Limits.{relocHeader, up4}
 use Rattle.format.specs.WellFormed.{wellFormed, lengthField, firstField}
-use Rattle.structure.specs.Structure.{Block, Structure, sizes, start, decodeZone}
-use Rattle.access.specs.Edit.{IsZone, placeIn, dataIn, dataOf}
+use Rattle.structure.specs.Structure.{Block, sizes, start, decodeZone}
+use Rattle.access.specs.Edit.{IsZone, placeIn, dataIn}
 use Rattle.find_bay.specs.Spots.{freeTotal, Spot, none, some, bays, firstFit}
 use Rattle.allocate_relocatable.specs.Site.{HoleOf}
 use Rattle.resize_in_place.specs.InPlace.{Here}

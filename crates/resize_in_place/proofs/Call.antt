@@ -6,26 +6,26 @@ use mathlib.Core.List.{List, [], _∷_, _++_, append-assoc}
 use Prim.Native.Nat.{ℕ, _+_, _-_, _<_, _≤_}
 use native.Mathlib.Omega.{arith}
 use lib.ListN.{length, drop}
-use lib.Dec.{eqb, leb}
+use lib.Dec.{leb}
 use borrow.Author.Tests.{le-leb, lt-leb}
 use Rattle.bigendian.specs.BigEndian.{Bytes}
 use Rattle.block_type.specs.Limits.{relocLimit, up4}
 use Rattle.format.specs.WellFormed.{wellFormed, zoneOf, lengthField}
 use Rattle.format.proofs.Count.{occurs, one-same, occurs-append}
-use Rattle.structure.specs.Structure.{Block, reloc, Structure, start, encode, decode, decodeZone}
+use Rattle.structure.specs.Structure.{Block, reloc, Structure, start, encode, decode}
 use Rattle.structure.specs.Valid.{handlesOf, Tiled, Valid}
 use Rattle.structure.proofs.Sound.{valid}
-use Rattle.access.specs.Edit.{placeIn, dataIn, dataOf}
+use Rattle.access.specs.Edit.{placeIn, dataOf}
 use Rattle.compact_bay.proofs.Squeeze.{handles-append}
 use Rattle.find_bay.specs.Spots.{Spot, put, Choice, none as noSpot, some as theSpot, bays, gapOf}
 use Rattle.release.proofs.Find.{leadOf, Mid, mid-of}
-use Rattle.surgery.proofs.Sound.{handle-once, lastFree, tiled-left, tiled-right}
+use Rattle.surgery.proofs.Sound.{handle-once, tiled-left, tiled-right}
 use Rattle.surgery.proofs.Spots.{IsBay}
 use Rattle.calls.specs.Calls.{told, refusal, resize}
 use Rattle.zone.specs.Bays.{Bays, onLow, over, orElse, mapS}
 use Rattle.zone.specs.Bay as Bay
-use Rattle.zone.specs.Bay.{Item, Cell, growHere, inPlace, sized}
-use Rattle.zone.specs.OnBays.{Fixed, Out, own, lookup, placeLow, resizeIn, orRefuse, done, refuse, withBays, step}
+use Rattle.zone.specs.Bay.{Item, Cell, growHere, sized}
+use Rattle.zone.specs.OnBays.{Fixed, Out, own, lookup, placeLow, resizeIn, orRefuse, done, refuse, withBays}
 use Rattle.zone.specs.ZoneBays.{zoneBays}
 use Rattle.zone.specs.Group.{flatten}
 use Rattle.zone.specs.OnBytes.{Zone, inBays, inLine, result, callBytes}
@@ -41,7 +41,7 @@ use Rattle.bay_changes.proofs.Own.{ownBlocks, count-flat, own-flat}
 use Rattle.bay_changes.proofs.Edges.{low-bay}
 use Rattle.bay_changes.proofs.Grow.{Stands, stands}
 use Rattle.free_handle.proofs.Bays.{found-strip, place-is}
-use Rattle.resize_in_place.specs.InPlace.{pastLead, leadAfter, leadIn, atSize, resizedIn}
+use Rattle.resize_in_place.specs.InPlace.{pastLead, leadAfter, atSize, resizedIn}
 use Rattle.resize_in_place.proofs.Shape.{size-at, lead-at, data-at, lead-join, past-join}
 use Rattle.resize_in_place.proofs.Cells.{Sized, sized-here, given, own-once, has-own}
 

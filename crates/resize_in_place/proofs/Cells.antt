@@ -1,5 +1,5 @@
 -- A block that changes its size where it stands: in the cells of its bay, and which bay that is.
-use mathlib.Core.Path.{_≡_, refl, sym, ap, ap₂, _∙_}
+use mathlib.Core.Path.{_≡_, refl, sym, ap, _∙_}
 use mathlib.Core.Bool.{Bool, true, false, cond, true≢false, false≢true}
 use mathlib.Core.Option.{Option, none, some, Option·getD}
 use mathlib.Core.List.{List, [], _∷_, _++_}
@@ -8,8 +8,8 @@ use native.Mathlib.Nat.{add-zero}
 use native.Mathlib.Omega.{arith}
 use lib.ListN.{length}
 use lib.Dec.{eqb, leb}
-use borrow.Author.Tests.{eqb-true, eq-eqb, ne-eqb, le-leb, lt-leb, leb-true, leb-false}
-use Rattle.format.proofs.Count.{one, occurs, one-same, occurs-append}
+use borrow.Author.Tests.{eqb-true, eq-eqb, ne-eqb, le-leb, leb-true, leb-false}
+use Rattle.format.proofs.Count.{occurs, one-same, occurs-append}
 use Rattle.structure.specs.Structure.{Block, free, fixed, reloc}
 use Rattle.structure.specs.Valid.{handlesOf, Tiled}
 use Rattle.access.specs.Edit.{dataOf}

@@ -1,8 +1,8 @@
 -- What stands behind the block of a live handle, by its offset.
-use mathlib.Core.Path.{_≡_, refl, sym, ap, _∙_, subst}
+use mathlib.Core.Path.{_≡_, refl, sym, ap, _∙_}
 use mathlib.Core.List.{List, [], _∷_, _++_}
 use mathlib.Core.Bool.{Bool, true, false}
-use Prim.Native.Nat.{ℕ, _+_, _-_, _<_, _≤_}
+use Prim.Native.Nat.{ℕ, _+_, _-_, _≤_}
 use native.Mathlib.Omega.{arith}
 use lib.ListN.{length, drop}
 use Rattle.format.specs.WellFormed.{isFree, firstField}
@@ -10,7 +10,7 @@ use Rattle.structure.specs.Structure.{Block, free, fixed, reloc, size, sizes, s
 use Rattle.structure.proofs.Table.{Whole, start-is}
 use Rattle.access.specs.Edit.{IsZone, placeIn, dataIn, dataOf}
 use Rattle.access.proofs.Zone.{whole-of}
-use Rattle.walk.specs.Walker.{blocksAt, Edge, Seen, blockAt, freeB}
+use Rattle.walk.specs.Walker.{blocksAt, Seen, blockAt, freeB}
 use Rattle.walk.proofs.Laws.{tiles-end}
 use Rattle.release.proofs.Find.{leadOf, Mid, mid-of}
 use Rattle.release.proofs.Reach.{reach, zone-edge, tiles-are}

@@ -8,11 +8,10 @@ use native.Mathlib.Omega.{arith}
 use native.Mathlib.Decide.{ℕ-discrete}
 use borrow.Author.Tests.{eq-eqb, ne-eqb}
 use lib.ListN.{length, take, drop, replicate, length-replicate, length-append, length-take, length-drop, take-append-drop, replicate-append-replicate}
-use lib.Seq.{drop-drop}
 use Rattle.bigendian.specs.BigEndian.{toBE, slice, overwrite}
 use Rattle.bigendian.proofs.Laws.{length-toBE}
-use Rattle.format.proofs.Count.{one, occurs, offsets, one-same, one-other}
-use Rattle.structure.specs.Structure.{Block, free, fixed, reloc, Structure, sizes, encodeBlock, count, start, len, headOf, placeOf, nextOf, value, join, encode, decodeZone}
+use Rattle.format.proofs.Count.{one, occurs, one-same, one-other}
+use Rattle.structure.specs.Structure.{Block, reloc, Structure, sizes, encodeBlock, count, start, len, headOf, placeOf, nextOf, value, join, encode, decodeZone}
 use Rattle.structure.specs.Valid.{handlesOf, Tiled, Valid}
 use Rattle.structure.proofs.Table.{Whole, encode-zone}
 use Rattle.structure.proofs.Sound.{valid-zone}
@@ -25,7 +24,7 @@ use Rattle.find_bay.specs.Spots.{gapOf}
 use Rattle.compact_bay.proofs.Squeeze.{gap-sizes, gap-sound, gap-handles}
 use Rattle.release.proofs.Find.{leadOf, Mid, mid-of}
 use Rattle.release.proofs.ZoneLayout.{write-mid}
-use Rattle.surgery.proofs.Image.{img, encode-img, img-rest}
+use Rattle.surgery.proofs.Image.{encode-img, img-rest}
 use Rattle.surgery.proofs.Sound.{valid-sound, lastFree, tiled-right}
 use Rattle.surgery.proofs.Replace.{replaced, place-same, place-mid, sizes-parts}
 use Rattle.surgery.proofs.Carved.{part-bytes}

@@ -1,6 +1,6 @@
 -- The call resize where the block grows in its own bay, but not into the free block right after it.
-use mathlib.Core.Path.{_≡_, refl, sym, ap, ap₂, _∙_, subst}
-use mathlib.Core.Bool.{Bool, true, false, cond}
+use mathlib.Core.Path.{_≡_, refl, sym, ap, _∙_, subst}
+use mathlib.Core.Bool.{true}
 use mathlib.Core.Option.{Option, none, some, Option·getD}
 use mathlib.Core.List.{List, [], _∷_, _++_, map}
 use Prim.Native.Nat.{ℕ, _+_, _-_, _<_, _≤_}
@@ -15,13 +15,13 @@ use Rattle.structure.specs.Structure.{Block, reloc, Structure, start, encode, d
 use Rattle.structure.specs.Valid.{handlesOf, Valid}
 use Rattle.structure.proofs.Sound.{valid}
 use Rattle.access.specs.Edit.{placeIn, dataOf}
-use Rattle.find_bay.specs.Spots.{freeTotal, Spot, put, Choice, none as noSpot, some as theSpot, bays, gapOf}
-use Rattle.release.proofs.Find.{leadOf, Mid}
+use Rattle.find_bay.specs.Spots.{Spot, put, Choice, none as noSpot, some as theSpot, bays, gapOf}
+use Rattle.release.proofs.Find.{leadOf}
 use Rattle.surgery.proofs.Sound.{handle-once}
 use Rattle.calls.specs.Calls.{told, resize}
 use Rattle.zone.specs.Bays.{Bays, onLow, over}
 use Rattle.zone.specs.Bay as Bay
-use Rattle.zone.specs.Bay.{Item, Cell, free as gapCell, held, alter, items, baySize, baySum, total, gap, packed, sized, resized, growInto, inPlace, growHere}
+use Rattle.zone.specs.Bay.{Item, Cell, free as gapCell, held, alter, items, baySize, total, gap, packed, sized, resized, growInto, inPlace, growHere}
 use Rattle.zone.specs.OnBays.{Fixed, own}
 use Rattle.zone.specs.ZoneBays.{zoneBays}
 use Rattle.zone.specs.Group.{flatten}
@@ -40,7 +40,7 @@ use Rattle.resize_in_place.proofs.Shape.{lead-at, data-at, lead-join}
 use Rattle.resize_in_place.proofs.Call.{Owns, owns, resize-own}
 use Rattle.resize_layout.specs.Layout.{layout, layoutIn, laidOut}
 use Rattle.resize_layout.proofs.Parts.{used-data}
-use Rattle.resize_layout.proofs.Laid.{m, u, v, d, new, after-none, layout-is}
+use Rattle.resize_layout.proofs.Laid.{m, u, v, d, after-none, layout-is}
 
 -- it does not grow where it stands
 not-here : (e : Item) (a : ℕ) (cs : List Cell) → length (e .bytes) < a → length (e .bytes) + leadOf (blocksIn cs) < a → inPlace e a cs ≡ none

@@ -1,5 +1,5 @@
 -- The grown bay is back in the zone, and its masters are set.
-use mathlib.Core.Path.{_≡_, sym, ap, ap₂, _∙_}
+use mathlib.Core.Path.{_≡_, ap, ap₂, _∙_}
 use mathlib.Core.List.{List, _++_, append-assoc}
 use Prim.Native.Nat.{ℕ, _+_, _-_, _≤_}
 use native.Mathlib.Omega.{arith}
@@ -7,7 +7,7 @@ use lib.ListN.{length, take, drop, length-take, length-drop}
 use lib.Seq.{drop-drop, drop-at, take-at, length-take-le}
 use Rattle.bigendian.specs.BigEndian.{slice, overwrite}
 use Rattle.format.proofs.Walk.{drop-take}
-use Rattle.row.specs.Row.{bytesOf, blocksOf, Row, row}
+use Rattle.row.specs.Row.{blocksOf, Row, row}
 use Rattle.row.proofs.Laws.{tiles-join}
 use Rattle.compact_bay.specs.Tidy.{IsLow, is-low, setAll}
 use Rattle.resize_layout.specs.Layout.{grownPart, grownZone, GrowsTo, grows-to}

@@ -1,18 +1,16 @@
 -- The bay is compacted, the block grows in it, and the masters follow: the bytes are those of the structure laid out.
 use mathlib.Core.Path.{_≡_, refl, sym, ap, ap₂, _∙_, subst}
-use mathlib.Core.List.{List, [], _∷_, _++_, append-assoc, append-nil}
-use mathlib.Core.Bool.{Bool, true, false}
-use Prim.Native.Nat.{ℕ, _+_, _-_, _*_, _%_, _<_, _≤_}
-use native.Mathlib.Nat.{add-zero}
+use mathlib.Core.List.{List, _∷_, _++_, append-assoc, append-nil}
+use mathlib.Core.Bool.{true}
+use Prim.Native.Nat.{ℕ, _+_, _-_, _%_, _≤_}
 use native.Mathlib.Omega.{arith}
 use borrow.Author.Tests.{ne-eqb}
-use lib.ListN.{length, take, drop, replicate, length-replicate, length-append, length-take, length-drop}
-use lib.Seq.{drop-drop, drop-at, take-at, take-all, length-take-le}
+use lib.ListN.{length, drop, replicate, length-replicate, length-append}
+use lib.Seq.{drop-at, take-all}
 use Rattle.bigendian.specs.BigEndian.{fromBE, slice, overwrite}
 use Rattle.format.proofs.Count.{occurs, one-same}
-use Rattle.format.proofs.Walk.{drop-take}
 use Rattle.format.proofs.Masters.{Master}
-use Rattle.structure.specs.Structure.{Block, free, fixed, reloc, Structure, sizes, encodeBlock, count, start, placeOf, nextOf, value, join, encode, decodeZone}
+use Rattle.structure.specs.Structure.{Block, free, reloc, Structure, sizes, encodeBlock, count, start, placeOf, join, encode, decodeZone}
 use Rattle.structure.specs.Valid.{handlesOf, Valid}
 use Rattle.structure.proofs.Table.{Whole, encode-zone}
 use Rattle.structure.proofs.Sound.{valid-zone}
@@ -21,7 +19,7 @@ use Rattle.access.specs.Edit.{IsZone, dataOf}
 use Rattle.access.proofs.Zone.{whole-of}
 use Rattle.row.specs.Row.{bytesOf, blocksOf, Sound, Row, row}
 use Rattle.row.proofs.Laws.{bytes-append, bytes-long, sound-left, sound-right, sound-append, tiles-join}
-use Rattle.find_bay.specs.Spots.{freeTotal, Spot, put, bays, Choice, none, some, used, gapOf, squeeze}
+use Rattle.find_bay.specs.Spots.{freeTotal, Spot, put, Choice, none, some, used, gapOf, squeeze}
 use Rattle.find_bay.proofs.Numbers.{sizes-append}
 use Rattle.compact_bay.specs.Tidy.{IsLow, is-low, Low, setAll, tidied}
 use Rattle.compact_bay.proofs.Squeeze.{used-sizes, free-four, gap-sizes, gap-sound, squeeze-sizes, squeeze-sound}
@@ -34,7 +32,6 @@ use Rattle.surgery.proofs.Carved.{part-bytes}
 use Rattle.surgery.proofs.Plain.{grown}
 use Rattle.surgery.proofs.Spots.{IsBay, bay-tidied, bay-valid, bay-start}
 use Rattle.zone.specs.Bay.{sized}
-use Rattle.bay_spots.proofs.Spots.{firstBy}
 use Rattle.bay_changes.proofs.Own.{ownBlocks}
 use Rattle.bay_changes.proofs.Edges.{low-bay}
 use Rattle.own_bay.proofs.Numbers.{place-low}

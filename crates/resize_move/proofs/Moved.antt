@@ -1,7 +1,6 @@
 -- The writes of a move make the bytes of the structure with the block moved.
-use mathlib.Core.Path.{_≡_, refl, sym, ap, ap₂, _∙_, subst}
-use mathlib.Core.List.{List, [], _∷_, _++_, append-nil}
-use mathlib.Core.Bool.{true, false}
+use mathlib.Core.Path.{_≡_, refl, sym, ap, _∙_, subst}
+use mathlib.Core.List.{List, [], _∷_, _++_}
 use Prim.Native.Nat.{ℕ, suc, _+_, _-_, _*_, _%_, _<_, _≤_}
 use native.Mathlib.Nat.{add-zero}
 use native.Mathlib.Omega.{arith}
@@ -9,11 +8,11 @@ use native.Mathlib.Decide.{ℕ-discrete}
 use lib.ListN.{length, replicate, length-replicate, length-append}
 use borrow.Author.Tests.{eq-eqb, ne-eqb}
 use Rattle.bigendian.specs.BigEndian.{toBE, overwrite}
-use Rattle.format.proofs.Count.{one, occurs, offsets, one-same, occurs-append}
-use Rattle.structure.specs.Structure.{Block, free, fixed, reloc, Structure, sizes, relocCount, encodeBlock, count, start, len, headOf, placeOf, value, join, encode}
+use Rattle.format.proofs.Count.{one, occurs, offsets, one-same}
+use Rattle.structure.specs.Structure.{Block, free, Structure, sizes, relocCount, encodeBlock, count, start, len, headOf, placeOf, value, encode}
 use Rattle.structure.specs.Valid.{handlesOf, Valid}
 use Rattle.structure.proofs.Round.{offset-is}
-use Rattle.access.specs.Edit.{dataOf, store}
+use Rattle.access.specs.Edit.{dataOf}
 use Rattle.access.proofs.Store.{write-length, store-bytes}
 use Rattle.row.specs.Row.{bytesOf, Sound}
 use Rattle.row.proofs.Laws.{bytes-long, sound-right}

@@ -1,7 +1,7 @@
 -- A block moved into a free block of another bay, in the flat list of blocks.
 use mathlib.Core.Path.{_≡_}
 use mathlib.Core.List.{List, [], _∷_, _++_}
-use Prim.Native.Nat.{ℕ, _+_, _-_, _/_, _%_, _<_, _≤_}
+use Prim.Native.Nat.{ℕ, _+_, _-_, _%_, _≤_}
 use lib.ListN.{length}
 use Rattle.bigendian.specs.BigEndian.{toBE, overwrite}
 use Rattle.structure.specs.Structure.{Block, free, Structure, sizes, start, encodeBlock}

@@ -5,21 +5,19 @@ use Prim.Native.Nat.{ℕ, _+_, _-_, _*_, _/_, _<_, _≤_}
 use native.Mathlib.Omega.{arith}
 use lib.ListN.{length, take, drop, length-append}
 use lib.Seq.{drop-drop, drop-at}
-use Rattle.bigendian.specs.BigEndian.{fromBE, toBE, slice}
+use Rattle.bigendian.specs.BigEndian.{toBE, slice}
 use Rattle.bigendian.proofs.Laws.{length-toBE}
-use Rattle.format.specs.WellFormed.{firstField}
 use Rattle.format.proofs.Walk.{drop-take}
 use Rattle.format.proofs.Count.{occurs, one-same}
 use Rattle.structure.specs.Structure.{Block, reloc, Structure, sizes, encodeBlock, start, placeOf, join, encode, decodeZone}
 use Rattle.structure.specs.Valid.{handlesOf, Valid}
-use Rattle.structure.proofs.Table.{Whole, encode-zone, len-is}
+use Rattle.structure.proofs.Table.{Whole, encode-zone}
 use Rattle.structure.proofs.Sound.{valid-zone}
 use Rattle.access.specs.Edit.{IsZone, placeIn, dataIn, dataOf}
 use Rattle.access.proofs.Zone.{whole-of}
-use Rattle.access.proofs.PutLaws.{data-fits}
 use Rattle.find_bay.proofs.Numbers.{sizes-append}
 use Rattle.release.specs.Release.{Span, SpanIn, span-of}
-use Rattle.release.proofs.Find.{Mid, mid-of}
+use Rattle.release.proofs.Find.{mid-of}
 use Rattle.release.proofs.Act.{act-low, act-high}
 use Rattle.surgery.proofs.Sound.{handle-once}
 use Rattle.surgery.proofs.Carved.{part-bytes}

@@ -1,20 +1,19 @@
 -- The block is in its new place: the bytes are those of the structure with it.
-use mathlib.Core.Path.{_≡_, refl, sym, ap, ap₂, _∙_, subst}
+use mathlib.Core.Path.{_≡_, refl, sym, ap, _∙_, subst}
 use mathlib.Core.List.{List, [], _∷_, _++_, append-nil}
 use mathlib.Core.Bool.{Bool, true, false, cond}
 use Prim.Native.Nat.{ℕ, _+_, _-_, _*_, _%_, _<_, _≤_}
 use native.Mathlib.Nat.{add-zero}
 use native.Mathlib.Omega.{arith}
-use lib.ListN.{length, take, drop, replicate, length-replicate}
+use lib.ListN.{length, length-replicate}
 use lib.Seq.{take-all}
 use lib.Dec.{eqb}
-use borrow.Author.Tests.{eqb-true, ne-eqb}
+use borrow.Author.Tests.{ne-eqb}
 use Rattle.bigendian.specs.BigEndian.{slice, Bytes}
 use Rattle.format.specs.WellFormed.{wellFormed, zoneOf, lengthField}
 use Rattle.format.proofs.Count.{occurs, one-same}
 use Rattle.structure.specs.Structure.{Block, free, fixed, reloc, Structure, sizes, encodeBlock, count, start, placeOf, join, encode, decode, decodeZone}
 use Rattle.structure.specs.Valid.{handlesOf, Valid}
-use Rattle.structure.proofs.Table.{Whole, whole}
 use Rattle.structure.proofs.Round.{length-is, offset-is, heads-self, well-formed, decode-encode}
 use Rattle.access.specs.Edit.{IsZone, is-zone, placeIn, dataIn, dataOf, store}
 use Rattle.row.specs.Row.{bytesOf, Sound}
@@ -29,10 +28,10 @@ use Rattle.surgery.proofs.Carved.{carvedFrom, part-bytes}
 use Rattle.own_bay.proofs.Numbers.{place-low}
 use Rattle.allocate_relocatable.specs.Site.{Fit}
 use Rattle.allocate_relocatable.proofs.Placed.{regroup}
-use Rattle.resize_move.specs.Move.{Apart, below, above, Move, movedTo, movedBytes}
+use Rattle.resize_move.specs.Move.{Apart, below, above, Move, movedBytes}
 use Rattle.resize_move.specs.Relocated.{relocated, OtherBay}
 use Rattle.resize_move.proofs.Moved.{moved-bytes}
-use Rattle.resize_relocate.specs.Carry.{Carry, CarryIn, carry-in}
+use Rattle.resize_relocate.specs.Carry.{CarryIn, carry-in}
 
 -- ---- the bytes of a valid structure are a zone
 

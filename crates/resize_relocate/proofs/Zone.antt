@@ -25,7 +25,7 @@ use Rattle.compact_bay.proofs.Squeeze.{used-sizes, squeeze-sizes, squeeze-handl
 use Rattle.surgery.proofs.Sound.{valid-sound, valid-low, low-append, low-left}
 use Rattle.surgery.proofs.Replace.{sizes-parts}
 use Rattle.surgery.proofs.Carved.{carvedFrom, part-bytes}
-use Rattle.surgery.proofs.Spots.{IsBay, bay-is, IsHole, hole-is, bay-tidied, bay-valid, bay-start}
+use Rattle.surgery.proofs.Spots.{IsBay, bay-is, hole-is, bay-tidied, bay-valid, bay-start}
 use Rattle.call_laws.proofs.Plan.{bytes-of}
 use Rattle.allocate_relocatable.specs.Site.{HoleOf, there, made}
 use Rattle.allocate_relocatable.proofs.Placed.{gap-some, settle-there, settle-made}

@@ -16,7 +16,7 @@ use Rattle.bigendian.proofs.Laws.{length-toBE, be-toBE}
 use Rattle.memory.proofs.Writes.{write-none}
 use Rattle.format.specs.WellFormed.{wellFormed, zoneOf, mastersField, countOf, offsets}
 use Rattle.structure.specs.Structure.{decode, decodeZone, start}
-use Rattle.structure.proofs.Table.{whole, len-is}
+use Rattle.structure.proofs.Table.{len-is}
 use Rattle.access.specs.Edit.{placeIn, dataIn, IsZone, is-zone}
 use Rattle.access.proofs.Zone.{whole-of}
 use Rattle.access.proofs.PutLaws.{data-fits}

@@ -9,7 +9,7 @@ use lib.Dec.{eqb}
 use borrow.Author.Tests.{eq-eqb, ne-eqb}
 use lib.ListN.{length}
 use Rattle.format.specs.WellFormed.{mastersField, offsets}
-use Rattle.format.proofs.Count.{one, occurs, one-same, one-other}
+use Rattle.format.proofs.Count.{occurs, one-same, one-other}
 use Rattle.structure.specs.Structure.{Block, free, fixed, reloc, start, placeOf, relocCount, decodeZone}
 use Rattle.structure.specs.Valid.{handlesOf, Valid}
 use Rattle.structure.proofs.Round.{place-none, offset-le}

@@ -5,7 +5,7 @@ use mathlib.Core.List.{List, [], _∷_, List·Permᴰ, List·Permᴰ·nil, List�
 use Prim.Native.Nat.{ℕ, _+_, _*_, _≤_}
 use native.Mathlib.Omega.{arith}
 use lib.Dec.{leb}
-use lib.ListN.{length, drop}
+use lib.ListN.{length}
 use Rattle.bigendian.specs.BigEndian.{Bytes}
 use Rattle.block_type.specs.Limits.{recordSize}
 use Rattle.format.specs.WellFormed.{wellFormed}
@@ -14,7 +14,7 @@ use Rattle.structure.specs.Structure.{Block, free, fixed, reloc, start, count, 
 use Rattle.structure.specs.Valid.{handlesOf}
 use Rattle.structure.proofs.Sound.{valid}
 use Rattle.structure.proofs.Round.{offset-le}
-use Rattle.calls.specs.Calls.{Card, Answer, roster}
+use Rattle.calls.specs.Calls.{Card, roster}
 use Rattle.zone.specs.OnBays.{step}
 use Rattle.zone.specs.ZoneBays.{zoneBays}
 use Rattle.zone.specs.OnBytes.{callBytes, inBays}

@@ -9,7 +9,7 @@ use Rattle.bigendian.specs.BigEndian.{overwrite, Bytes}
 use Rattle.block_type.specs.Limits.{recordSize}
 use Rattle.format.specs.WellFormed.{wellFormed, countOf, lengthField, mastersField, offsets}
 use Rattle.access.specs.Edit.{placeIn, dataIn}
-use Rattle.calls.specs.Calls.{Card, Answer, roster, shows}
+use Rattle.calls.specs.Calls.{Card, roster, shows}
 use Rattle.zone.specs.OnBytes.{callBytes}
 use Rattle.zone.specs.Roster.{cardBytes, cardsIn}
 pub use Rattle.zone.specs.Roster.{rosterAnswer}

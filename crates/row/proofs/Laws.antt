@@ -1,15 +1,13 @@
 -- The laws of stretches.
-use mathlib.Core.Path.{_≡_, refl, sym, ap, ap₂, _∙_, subst}
+use mathlib.Core.Path.{_≡_, refl, sym, ap, ap₂, _∙_}
 use mathlib.Core.List.{List, [], _∷_, _++_, map, append-assoc}
-use mathlib.Core.Bool.{Bool, true, false, cond}
-use Prim.Native.Nat.{ℕ, zero, suc, _+_, _-_, _%_, _<_, _≤_}
+use Prim.Native.Nat.{ℕ, _+_, _-_, _%_, _<_, _≤_}
 use native.Mathlib.Omega.{arith}
-use lib.ListN.{length, take, drop, length-append, length-take, length-drop, drop-of-length-le}
+use lib.ListN.{length, take, drop, length-append, length-drop, drop-of-length-le}
 use lib.Seq.{drop-drop, take-at, drop-at}
-use Rattle.bigendian.specs.BigEndian.{slice}
-use Rattle.format.specs.WellFormed.{typeOf, sizeOf, handleOf, splitBlocks}
+use Rattle.format.specs.WellFormed.{typeOf, sizeOf, handleOf}
 use Rattle.format.proofs.Walk.{blocks-cons, blocks-nil, kind-take, size-take, handle-take}
-use Rattle.structure.specs.Structure.{Block, free, fixed, reloc, size, sizes, encodeBlock, decodeBlock, byType, join}
+use Rattle.structure.specs.Structure.{Block, free, fixed, reloc, size, sizes, encodeBlock, decodeBlock, join}
 use Rattle.structure.proofs.Back.{Enc, enc-free, enc-fixed, enc-reloc, kind-free, kind-fixed, kind-reloc}
 use Rattle.row.specs.Row.{blocksOf, bytesOf, kindB, Sound1, Sound, Row, row, blockAt, Stepped}
 

@@ -1,5 +1,4 @@
 // A stretch of blocks: a list of bytes that blocks tile.
-ghost use mathlib.Core.Path.{_≡_};
 ghost use Prim.Native.Nat.{_<_};
 ghost use lib.ListN.{length, drop};
 ghost use Rattle.row.specs.Row.{Row, Stepped};

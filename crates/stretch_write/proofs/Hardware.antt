@@ -2,18 +2,16 @@
 use mathlib.Core.Path.{_≡_, refl, sym, ap, _∙_}
 use mathlib.Core.Bool.{Bool, true, false, cond}
 use mathlib.Core.List.{List, [], _∷_}
-use Prim.Native.Nat.{ℕ, _+_, _≤_}
-use native.Mathlib.Omega.{arith}
-use lib.ListN.{length, take}
+use Prim.Native.Nat.{ℕ, _+_}
+use lib.ListN.{length}
 use lib.Seq.{take-length}
 use lib.Dec.{eqb}
 use borrow.Author.Tests.{eqb-true}
-use Rattle.bigendian.specs.BigEndian.{Bytes, overwrite}
 use Rattle.format.specs.WellFormed.{zoneOf}
 use Rattle.structure.specs.Structure.{Block, free, fixed, reloc, size, start, decodeZone}
-use Rattle.calls.specs.Calls.{by-pointer, write}
-use Rattle.zone.specs.OnBytes.{Result, callBytes}
-use Rattle.zone.specs.Hardware.{store, HardwareWrites}
+use Rattle.calls.specs.Calls.{by-pointer}
+use Rattle.zone.specs.OnBytes.{Result}
+use Rattle.zone.specs.Hardware.{HardwareWrites}
 use Rattle.locate.specs.Locate.{placeAmong, targetPlace}
 use Rattle.stretch.specs.Stretch.{stretchNumber}
 use Rattle.stretch.proofs.Laws.{accepted}

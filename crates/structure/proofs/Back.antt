@@ -1,26 +1,25 @@
 -- From a valid structure to bytes and back.
 use mathlib.Core.Path.{_≡_, refl, sym, ap, ap₂, _∙_, subst}
-use mathlib.Core.List.{List, [], _∷_, _++_, map, append-assoc, append-nil}
-use mathlib.Core.Bool.{Bool, true, false, cond, not, _&&_}
-use Prim.Native.Nat.{ℕ, zero, suc, _+_, _*_, _-_, _/_, _%_, _^_, _<_, _≤_, min}
-use native.Mathlib.Nat.{add-zero, zero-add, add-assoc}
+use mathlib.Core.List.{List, [], _∷_, _++_, map, append-assoc}
+use mathlib.Core.Bool.{Bool, true, false, cond}
+use Prim.Native.Nat.{ℕ, zero, suc, _+_, _*_, _-_, _/_, _%_, _^_, _<_, _≤_}
+use native.Mathlib.Nat.{zero-add}
 use native.Mathlib.Omega.{arith}
-use lib.Dec.{eqb, leb}
+use lib.Dec.{eqb}
 use borrow.Author.Tests.{eqb-true, eqb-false, eq-eqb, ne-eqb, le-leb}
-use lib.ListN.{length, getD, take, drop, replicate, length-append, length-take, length-drop, length-replicate, take-append-drop}
-use lib.Seq.{take-at, drop-at, take-append-seam, drop-append-seam, getD-append-add, drop-drop, drop-append-add}
-use Rattle.bigendian.specs.BigEndian.{fromBE, toBE, slice, Bytes}
-use Rattle.bigendian.proofs.Laws.{be-toBE, length-toBE, bytes-toBE}
+use lib.ListN.{length, take, drop, replicate, length-append, length-replicate}
+use lib.Seq.{take-at, drop-at, drop-drop}
+use Rattle.bigendian.specs.BigEndian.{fromBE, toBE, slice}
+use Rattle.bigendian.proofs.Laws.{be-toBE, length-toBE}
 use Rattle.memory.specs.Zeros.{allZero}
-use Rattle.format.proofs.Bool.{and-left, and-right}
-use Rattle.format.specs.WellFormed.{headerOk, lengthField, firstField, mastersField, chainField, typeOf, sizeOf, handleOf, isFree, isReloc, splitBlocks, isMaster, masterAt, relocs, zoneOf, wellFormed}
-use Rattle.format.specs.OneWalk.{links, typeRule, freeRule, relocRule, blockOk, blocksOk, bodyOk}
-use Rattle.format.proofs.Masters.{Master, is-master}
-use Rattle.format.proofs.Count.{one, occurs, All, offsets, one-same, one-other, one-eq, one-le, occurs-offset, occurs-below, length-offsets}
+use Rattle.format.specs.WellFormed.{typeOf, sizeOf, handleOf, isFree, isReloc, isMaster, masterAt, relocs}
+use Rattle.format.specs.OneWalk.{links, typeRule, freeRule, relocRule, blockOk, blocksOk}
+use Rattle.format.proofs.Masters.{Master}
+use Rattle.format.proofs.Count.{occurs, offsets, one-same}
 use Rattle.format.proofs.Live.{chain}
-use Rattle.structure.specs.Structure.{Block, free, fixed, reloc, Structure, size, encodeBlock, decodeBlock, byType, sizes, relocCount, count, start, len, headOf, placeOf, nextOf, value, words, join, header, encode, decodeZone, decode}
-use Rattle.structure.proofs.Codec.{blocks-join, size-free, size-used}
-use Rattle.structure.specs.Valid.{handlesOf, Tiled, Valid}
+use Rattle.structure.specs.Structure.{Block, free, fixed, reloc, size, encodeBlock, decodeBlock, sizes, relocCount, headOf, placeOf, nextOf, words, join}
+use Rattle.structure.proofs.Codec.{size-free, size-used}
+use Rattle.structure.specs.Valid.{handlesOf, Tiled}
 
 -- ---- one block
 

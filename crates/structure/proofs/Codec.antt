@@ -1,21 +1,21 @@
 -- One block: its bytes and its structure.
 use mathlib.Core.Path.{_≡_, refl, sym, ap, _∙_, subst}
 use mathlib.Core.List.{List, [], _∷_, _++_, map}
-use mathlib.Core.Bool.{Bool, true, false, cond, not, _&&_}
-use Prim.Native.Nat.{ℕ, zero, suc, _+_, _*_, _-_, _/_, _%_, _<_, _≤_, min}
+use mathlib.Core.Bool.{Bool, true, false, not, _&&_}
+use Prim.Native.Nat.{ℕ, zero, suc, _+_, _*_, _-_, _/_, _%_, _<_, _≤_}
 use native.Mathlib.Omega.{arith}
-use lib.Dec.{eqb, leb}
-use borrow.Author.Tests.{eqb-true, eq-eqb, ne-eqb}
-use lib.ListN.{length, getD, take, drop, replicate, length-append, length-take, length-drop, take-append-drop}
-use lib.Seq.{take-take, getD-take, getD-drop, drop-drop, take-append-seam, drop-append-seam, length-take-le}
-use Rattle.bigendian.specs.BigEndian.{fromBE, toBE, slice, Bytes}
-use Rattle.bigendian.proofs.Laws.{toBE-be, be-toBE, length-toBE, be2-at, cut2}
+use lib.Dec.{eqb}
+use borrow.Author.Tests.{eqb-true, ne-eqb}
+use lib.ListN.{length, take, drop, replicate, length-append, length-take, length-drop, take-append-drop}
+use lib.Seq.{getD-drop, drop-drop, take-append-seam, drop-append-seam, length-take-le}
+use Rattle.bigendian.specs.BigEndian.{fromBE, toBE, Bytes}
+use Rattle.bigendian.proofs.Laws.{toBE-be, be2-at}
 use Rattle.memory.specs.Zeros.{allZero}
 use Rattle.format.proofs.Bool.{and-left, and-right}
-use Rattle.format.specs.WellFormed.{typeOf, sizeOf, handleOf, isFree, isReloc, splitBlocks, splitFrom}
+use Rattle.format.specs.WellFormed.{typeOf, sizeOf, handleOf, isFree, splitBlocks, splitFrom}
 use Rattle.format.specs.OneWalk.{typeRule, freeRule, relocRule, blockOk, blocksOk}
-use Rattle.format.proofs.Walk.{Good, is-good, size-take, blocks-cons, blocks-nil}
-use Rattle.structure.specs.Structure.{Block, free, fixed, reloc, encodeBlock, decodeBlock, byType, join}
+use Rattle.format.proofs.Walk.{is-good, size-take, blocks-cons, blocks-nil}
+use Rattle.structure.specs.Structure.{free, fixed, reloc, encodeBlock, decodeBlock, byType, join}
 
 -- ---- joining blocks
 

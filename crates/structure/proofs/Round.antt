@@ -1,23 +1,21 @@
 -- The bytes of a valid structure are well-formed, and have that structure.
-use mathlib.Core.Path.{_≡_, refl, sym, ap, ap₂, _∙_, subst}
-use mathlib.Core.List.{List, [], _∷_, _++_, map, append-assoc, append-nil}
-use mathlib.Core.Bool.{Bool, true, false, cond, not, _&&_}
-use Prim.Native.Nat.{ℕ, zero, suc, _+_, _*_, _-_, _/_, _%_, _^_, _<_, _≤_, min}
-use native.Mathlib.Nat.{add-zero, zero-add, add-assoc}
+use mathlib.Core.Path.{_≡_, refl, sym, ap, _∙_}
+use mathlib.Core.List.{List, [], _∷_, _++_, map, append-assoc}
+use mathlib.Core.Bool.{Bool, true, false, cond}
+use Prim.Native.Nat.{ℕ, zero, suc, _+_, _*_, _-_, _%_, _<_, _≤_}
 use native.Mathlib.Omega.{arith}
-use lib.Dec.{eqb, leb}
+use lib.Dec.{eqb}
 use borrow.Author.Tests.{eqb-true, eqb-false, eq-eqb, ne-eqb, le-leb}
-use lib.ListN.{length, getD, take, drop, replicate, length-append, length-take, length-drop}
+use lib.ListN.{length, getD, drop, length-append}
 use lib.Seq.{take-at, drop-at, drop-drop}
-use Rattle.bigendian.specs.BigEndian.{fromBE, toBE, slice, Bytes}
+use Rattle.bigendian.specs.BigEndian.{toBE}
 use Rattle.bigendian.proofs.Laws.{be-toBE, length-toBE}
-use Rattle.format.specs.WellFormed.{headerOk, lengthField, firstField, mastersField, chainField, splitBlocks, isMaster, masterAt, relocs, zoneOf, wellFormed}
+use Rattle.format.specs.WellFormed.{headerOk, lengthField, firstField, mastersField, chainField, splitBlocks, masterAt, relocs, zoneOf, wellFormed}
 use Rattle.format.proofs.OneWalk.{one-walk}
-use Rattle.format.specs.OneWalk.{links, blocksOk, bodyOk}
+use Rattle.format.specs.OneWalk.{links, bodyOk}
 use Rattle.format.proofs.Masters.{Master}
-use Rattle.format.proofs.Count.{one, occurs, All, offsets, one-same, one-other, one-eq, one-le, occurs-offset, length-offsets}
-use Rattle.format.proofs.Live.{chain}
-use Rattle.structure.specs.Structure.{Block, free, fixed, reloc, Structure, size, encodeBlock, decodeBlock, sizes, relocCount, count, start, len, headOf, placeOf, nextOf, value, words, join, header, encode, decodeZone, decode}
+use Rattle.format.proofs.Count.{occurs, All, offsets, one-same, one-other, occurs-offset, length-offsets}
+use Rattle.structure.specs.Structure.{Block, free, fixed, reloc, Structure, encodeBlock, sizes, relocCount, count, start, len, headOf, placeOf, nextOf, value, words, join, header, encode, decodeZone, decode}
 use Rattle.structure.proofs.Codec.{blocks-join}
 use Rattle.structure.specs.Valid.{handlesOf, Tiled, Valid}
 use Rattle.structure.proofs.Back.{Placed, Encs, encs, Linked, chain-links, chain-back, length-words, words-at}

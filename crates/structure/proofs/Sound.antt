@@ -1,21 +1,21 @@
 -- The structure of a well-formed zone is valid.
-use mathlib.Core.Path.{_≡_, refl, sym, ap, ap₂, _∙_, subst}
-use mathlib.Core.List.{List, [], _∷_, _++_, map}
-use mathlib.Core.Bool.{Bool, true, false, cond, not, _&&_}
-use Prim.Native.Nat.{ℕ, zero, suc, _+_, _*_, _-_, _/_, _%_, _<_, _≤_}
+use mathlib.Core.Path.{_≡_, refl, sym, ap, _∙_, subst}
+use mathlib.Core.List.{List, [], _∷_, map}
+use mathlib.Core.Bool.{Bool, true, false, cond, not}
+use Prim.Native.Nat.{ℕ, zero, suc, _+_, _-_, _<_, _≤_}
 use native.Mathlib.Omega.{arith}
-use lib.Dec.{eqb, leb}
-use borrow.Author.Tests.{eqb-true, not-true}
-use lib.ListN.{length, getD, take, drop, length-append, length-drop}
-use Rattle.bigendian.specs.BigEndian.{fromBE, slice, Bytes}
+use lib.Dec.{eqb}
+use borrow.Author.Tests.{not-true}
+use lib.ListN.{length, drop, length-append, length-drop}
+use Rattle.bigendian.specs.BigEndian.{Bytes}
 use Rattle.format.proofs.Bool.{and-left, and-right}
-use Rattle.format.specs.WellFormed.{lengthField, firstField, mastersField, chainField, typeOf, sizeOf, handleOf, isFree, isReloc, splitBlocks, isMaster, masterAt, relocs, wellFormed, zoneOf}
-use Rattle.format.specs.OneWalk.{links, typeRule, freeRule, relocRule, blockOk, blocksOk}
+use Rattle.format.specs.WellFormed.{firstField, mastersField, chainField, typeOf, sizeOf, handleOf, isFree, isReloc, splitBlocks, relocs, wellFormed, zoneOf}
+use Rattle.format.specs.OneWalk.{typeRule, freeRule, relocRule, blockOk, blocksOk}
 use Rattle.format.proofs.Walk.{Good, is-good}
 use Rattle.format.proofs.Masters.{Master}
-use Rattle.format.proofs.Count.{one, occurs, All, offsets, occurs-offset, all-at}
-use Rattle.format.proofs.Live.{handles, chain, Parts, owned, handles-high, chain-low}
-use Rattle.structure.specs.Structure.{Block, free, fixed, reloc, Structure, decodeBlock, byType, join, decodeZone, decode, count, len}
+use Rattle.format.proofs.Count.{occurs, offsets, occurs-offset, all-at}
+use Rattle.format.proofs.Live.{handles, chain, owned, handles-high, chain-low}
+use Rattle.structure.specs.Structure.{Block, free, fixed, reloc, decodeBlock, byType, join, decodeZone, decode}
 use Rattle.structure.proofs.Codec.{bytes-drop, bytes-left, bytes-right, join-blocks, size-used}
 use Rattle.structure.proofs.Table.{Whole, whole, by, count-is, len-is}
 use Rattle.structure.proofs.Round.{offset-is}

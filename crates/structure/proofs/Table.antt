@@ -1,24 +1,24 @@
 -- From bytes to the structure and back: the masters' values follow from the blocks' places and the chain.
-use mathlib.Core.Path.{_≡_, refl, sym, ap, ap₂, _∙_, subst}
+use mathlib.Core.Path.{_≡_, refl, sym, ap, ap₂, _∙_}
 use mathlib.Core.List.{List, [], _∷_, _++_, map, append-assoc}
-use mathlib.Core.Bool.{Bool, true, false, cond, not, _&&_}
-use Prim.Native.Nat.{ℕ, zero, suc, _+_, _*_, _-_, _/_, _%_, _<_, _≤_, min}
-use native.Mathlib.Nat.{add-zero, zero-add, add-assoc}
+use mathlib.Core.Bool.{Bool, true, false, cond, _&&_}
+use Prim.Native.Nat.{ℕ, zero, suc, _+_, _*_, _-_, _%_, _≤_}
+use native.Mathlib.Nat.{add-zero, zero-add}
 use native.Mathlib.Omega.{arith}
-use lib.Dec.{eqb, leb}
-use borrow.Author.Tests.{eqb-true, eqb-false, eq-eqb, ne-eqb}
+use lib.Dec.{eqb}
+use borrow.Author.Tests.{eqb-true, eqb-false, ne-eqb}
 use lib.ListN.{length, getD, take, drop, length-append, length-take, length-drop, take-append-drop}
-use lib.Seq.{take-take, take-add, getD-take, drop-drop, drop-cons, take-all}
+use lib.Seq.{take-take, getD-take, drop-drop, drop-cons}
 use Rattle.bigendian.specs.BigEndian.{fromBE, toBE, slice, Bytes}
 use Rattle.format.proofs.Bool.{and-left, and-right}
 use Rattle.format.specs.WellFormed.{headerOk, lengthField, firstField, mastersField, chainField, typeOf, sizeOf, handleOf, isFree, isReloc, splitBlocks, isMaster, masterAt, relocs, zoneOf, wellFormed}
 use Rattle.format.proofs.OneWalk.{one-walk}
 use Rattle.format.specs.OneWalk.{links, typeRule, freeRule, relocRule, blockOk, blocksOk, bodyOk}
-use Rattle.format.proofs.Walk.{Good, is-good, drop-take}
-use Rattle.format.proofs.Masters.{Master, is-master}
-use Rattle.format.proofs.Header.{Fields, header-facts}
-use Rattle.format.proofs.Count.{one, occurs, All, offsets, one-same, one-other, one-eq}
-use Rattle.format.proofs.Live.{handles, chain, total, Held, is-held, handles-none, Parts, body-parts, owned, length-handles, length-chain}
+use Rattle.format.proofs.Walk.{is-good, drop-take}
+use Rattle.format.proofs.Masters.{Master}
+use Rattle.format.proofs.Header.{header-facts}
+use Rattle.format.proofs.Count.{one, occurs, All, offsets, one-same, one-other}
+use Rattle.format.proofs.Live.{handles, chain, total, is-held, Parts, body-parts, owned, length-chain}
 use Rattle.structure.specs.Structure.{Block, free, fixed, reloc, Structure, size, encodeBlock, decodeBlock, byType, sizes, relocCount, count, start, len, headOf, placeOf, nextOf, value, words, join, header, encode, decodeZone, decode}
 use Rattle.structure.proofs.Codec.{part-bytes, bytes-drop, bytes-take, tiles-bytes, join-blocks}
 

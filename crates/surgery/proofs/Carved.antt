@@ -1,26 +1,26 @@
 -- A block carved out of a free block, in a zone.
 use mathlib.Core.Path.{_≡_, refl, sym, ap, ap₂, _∙_, subst}
-use mathlib.Core.List.{List, [], _∷_, _++_, map}
+use mathlib.Core.List.{List, [], _∷_, _++_}
 use mathlib.Core.Bool.{Bool, true, false, cond}
-use Prim.Native.Nat.{ℕ, zero, suc, _+_, _*_, _-_, _/_, _%_, _<_, _≤_}
-use native.Mathlib.Nat.{zero-add, add-zero}
+use Prim.Native.Nat.{ℕ, zero, suc, _+_, _-_, _%_, _<_, _≤_}
+use native.Mathlib.Nat.{add-zero}
 use native.Mathlib.Omega.{arith}
 use native.Mathlib.Decide.{ℕ-discrete}
 use lib.Dec.{eqb}
-use borrow.Author.Tests.{eqb-true, eqb-false, eq-eqb, ne-eqb}
-use lib.ListN.{length, getD, take, drop, length-append, replicate, length-replicate}
+use borrow.Author.Tests.{eqb-false, eq-eqb, ne-eqb}
+use lib.ListN.{length, take, drop, replicate, length-replicate}
 use lib.Seq.{drop-drop, drop-at, take-at}
 use Rattle.bigendian.specs.BigEndian.{toBE, slice, overwrite, Bytes}
 use Rattle.format.proofs.Count.{one, occurs, offsets, one-same, one-other}
-use Rattle.structure.specs.Structure.{Block, free, fixed, reloc, Structure, size, sizes, encodeBlock, count, start, len, headOf, placeOf, nextOf, value, join, encode}
+use Rattle.structure.specs.Structure.{Block, free, fixed, reloc, Structure, sizes, count, start, len, headOf, placeOf, nextOf, value, encode}
 use Rattle.structure.specs.Valid.{handlesOf, Tiled, Valid}
 use Rattle.structure.proofs.Round.{next-none, offset-is, rest-is}
 use Rattle.row.specs.Row.{bytesOf, Sound}
 use Rattle.row.proofs.Laws.{bytes-append, bytes-long, sound-left, sound-right}
 use Rattle.find_bay.specs.Spots.{gapOf}
 use Rattle.compact_bay.proofs.Squeeze.{gap-sound, gap-sizes}
-use Rattle.surgery.proofs.Image.{img, encode-img, upd, img-chain, img-master, img-rest}
-use Rattle.surgery.proofs.Sound.{handle-in, handle-once, valid-sound, lastFree, tiled-left, tiled-right, tiled-join, tiled-false}
+use Rattle.surgery.proofs.Image.{encode-img, upd, img-chain, img-master, img-rest}
+use Rattle.surgery.proofs.Sound.{handle-once, valid-sound, lastFree, tiled-left, tiled-right, tiled-join, tiled-false}
 use Rattle.surgery.proofs.Replace.{replaced, replaced-valid, place-same, place-mid}
 pub use Rattle.surgery.specs.Carved.{carvedFrom, carvedBytes}
 

@@ -1,17 +1,17 @@
 -- The bytes of a zone as header fields, what the masters hold (a function of the handle), and the blocks' bytes.
 -- Each overwrite of the code changes one of these.
-use mathlib.Core.Path.{_≡_, refl, sym, ap, ap₂, _∙_, subst}
-use mathlib.Core.List.{List, [], _∷_, _++_, map}
+use mathlib.Core.Path.{_≡_, refl, sym, ap, ap₂, _∙_}
+use mathlib.Core.List.{List, [], _∷_, map}
 use mathlib.Core.Bool.{Bool, true, false, cond}
-use Prim.Native.Nat.{ℕ, zero, suc, _+_, _*_, _-_, _/_, _%_, _<_, _≤_}
+use Prim.Native.Nat.{ℕ, _+_, _*_, _-_, _/_, _<_, _≤_}
 use native.Mathlib.Nat.{zero-add}
 use native.Mathlib.Omega.{arith}
 use lib.Dec.{eqb}
-use borrow.Author.Tests.{eqb-true, eqb-false, eq-eqb, ne-eqb}
+use borrow.Author.Tests.{eqb-true, eq-eqb, ne-eqb}
 use lib.ListN.{length, set, length-map}
 use Rattle.bigendian.specs.BigEndian.{toBE, overwrite}
-use Rattle.format.proofs.Count.{one, occurs, offsets, one-same, one-other, length-offsets}
-use Rattle.structure.specs.Structure.{Block, free, fixed, reloc, Structure, size, encodeBlock, count, start, len, headOf, placeOf, value, join, encode}
+use Rattle.format.proofs.Count.{one, occurs, offsets, one-same, length-offsets}
+use Rattle.structure.specs.Structure.{Block, free, fixed, reloc, Structure, size, count, start, len, headOf, placeOf, value, encode}
 use Rattle.structure.specs.Valid.{handlesOf}
 use Rattle.structure.proofs.Round.{offset-is}
 use Rattle.row.specs.Row.{bytesOf}

@@ -1,22 +1,21 @@
 -- Two more uses of the replacement law: blocks without masters, and a block that has grown in a compacted bay.
-use mathlib.Core.Path.{_≡_, refl, sym, ap, ap₂, _∙_, subst}
+use mathlib.Core.Path.{_≡_, refl, sym, ap, _∙_}
 use mathlib.Core.List.{List, [], _∷_, _++_, append-nil}
-use mathlib.Core.Bool.{Bool, true, false, cond}
-use Prim.Native.Nat.{ℕ, zero, suc, _+_, _*_, _-_, _%_, _<_, _≤_}
+use Prim.Native.Nat.{ℕ, _+_, _-_, _%_, _≤_}
 use native.Mathlib.Omega.{arith}
 use lib.ListN.{length, replicate, length-replicate, length-append}
-use Rattle.bigendian.specs.BigEndian.{toBE, overwrite}
-use Rattle.format.proofs.Count.{occurs, offsets}
-use Rattle.structure.specs.Structure.{Block, free, fixed, reloc, Structure, size, sizes, count, start, len, headOf, placeOf, nextOf, value, encode}
-use Rattle.structure.specs.Valid.{handlesOf, Tiled, Valid}
+use Rattle.bigendian.specs.BigEndian.{overwrite}
+use Rattle.format.proofs.Count.{occurs}
+use Rattle.structure.specs.Structure.{Block, free, fixed, reloc, Structure, sizes, count, start, len, headOf, nextOf, value, encode}
+use Rattle.structure.specs.Valid.{handlesOf, Valid}
 use Rattle.row.specs.Row.{bytesOf, Sound}
-use Rattle.row.proofs.Laws.{sound-append, sound-left, sound-right}
+use Rattle.row.proofs.Laws.{sound-append}
 use Rattle.find_bay.specs.Spots.{gapOf}
 use Rattle.find_bay.proofs.Numbers.{sizes-append}
 use Rattle.compact_bay.specs.Tidy.{setAll}
 use Rattle.compact_bay.proofs.Squeeze.{handles-append, gap-sizes, gap-sound, gap-handles}
-use Rattle.surgery.proofs.Image.{img, encode-img, img-rest}
-use Rattle.surgery.proofs.Replace.{replaced, replaced-valid, place-same, moved}
+use Rattle.surgery.proofs.Image.{encode-img, img-rest}
+use Rattle.surgery.proofs.Replace.{replaced, place-same, moved}
 
 -- blocks without masters in the place of such: one overwrite, and nothing else changes
 module _ (s : Structure) (v : Valid s) (pre mid mid′ post : List Block) (e : s .blocks ≡ pre ++ (mid ++ post)) (sz : sizes mid′ ≡ sizes mid) (so : Sound mid′)
@@ -37,9 +36,6 @@ module _ (s : Structure) (v : Valid s) (pre mid mid′ post : List Block) (e : s
       ∙ img-rest (len s) (start s) (count s) (headOf (s .links)) (sizes pre) (start s + sizes pre) (value s) (bytesOf (s .blocks)) (bytesOf mid′) refl
       ∙ replaced s v pre mid mid′ post (s .links) e sz so ct (value s)
       (λ k p. ap (λ (x : ℕ). x + nextOf k (s .links)) (sym (place-same s v pre mid mid′ post (s .links) e sz so ct k (none k mid h) (none k mid′ h′))))
-
-  pub plain-valid : Tiled false (pre ++ (mid′ ++ post)) → Valid s′
-  plain-valid t = replaced-valid s v pre mid mid′ post (s .links) e sz so ct t (λ k. rw (h, h′))
 
 -- a fixed block of need bytes at the high end of a free block of n
 pub fixed-placed : (s : Structure) → Valid s → (pre post : List Block) (n need : ℕ) → s .blocks ≡ pre ++ ((free n ∷ []) ++ post) → need ≤ n → 4 ≤ need → need % 4 ≡ 0 → n % 4 ≡ 0 → n ≤ 1048576 → need ≤ 32764

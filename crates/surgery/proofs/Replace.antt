@@ -1,27 +1,26 @@
 -- Blocks replaced by blocks of the same total size, in a zone.
 use mathlib.Core.Path.{_≡_, refl, sym, ap, ap₂, _∙_, subst}
-use mathlib.Core.List.{List, [], _∷_, _++_, map}
-use mathlib.Core.Bool.{Bool, true, false, cond}
-use Prim.Native.Nat.{ℕ, zero, suc, _+_, _*_, _-_, _/_, _%_, _<_, _≤_}
-use native.Mathlib.Nat.{zero-add, add-zero}
+use mathlib.Core.List.{List, _++_, map}
+use mathlib.Core.Bool.{false, cond}
+use Prim.Native.Nat.{ℕ, zero, suc, _+_, _*_, _-_, _<_, _≤_}
+use native.Mathlib.Nat.{add-zero}
 use native.Mathlib.Omega.{arith}
 use lib.Dec.{eqb}
-use borrow.Author.Tests.{eqb-true, eqb-false, eq-eqb, ne-eqb}
-use lib.ListN.{length, length-append, replicate, length-replicate}
-use Rattle.bigendian.specs.BigEndian.{toBE, overwrite}
-use Rattle.format.proofs.Count.{one, occurs, offsets, one-same, one-other, occurs-append}
-use Rattle.structure.specs.Structure.{Block, free, fixed, reloc, Structure, size, sizes, relocCount, encodeBlock, count, start, len, headOf, placeOf, nextOf, value, join, encode}
+use borrow.Author.Tests.{ne-eqb}
+use lib.ListN.{length, length-append}
+use Rattle.bigendian.specs.BigEndian.{overwrite}
+use Rattle.format.proofs.Count.{occurs, offsets, occurs-append}
+use Rattle.structure.specs.Structure.{Block, Structure, sizes, relocCount, count, start, len, headOf, placeOf, nextOf, value, encode}
 use Rattle.structure.specs.Valid.{handlesOf, Tiled, Valid}
-use Rattle.structure.proofs.Round.{next-none, place-none}
+use Rattle.structure.proofs.Round.{next-none}
 use Rattle.row.specs.Row.{bytesOf, Sound}
 use Rattle.row.proofs.Laws.{bytes-append, bytes-long, sound-left, sound-right}
 use Rattle.find_bay.proofs.Numbers.{sizes-append}
-use Rattle.find_bay.specs.Spots.{gapOf}
 use Rattle.compact_bay.specs.Tidy.{setAll}
 use Rattle.compact_bay.proofs.Squeeze.{handles-append}
 use Rattle.release.proofs.ZoneLayout.{write-mid, lay-same}
 use Rattle.release.proofs.Freed.{place-append, count-handles}
-use Rattle.surgery.proofs.Image.{img, encode-img, upd, img-chain, img-master, img-rest, img-same, img-all, all-is, updAll}
+use Rattle.surgery.proofs.Image.{img, encode-img, img-rest, img-same, img-all, all-is, updAll}
 use Rattle.surgery.proofs.Sound.{handle-in, handle-once, valid-sound}
 
 occurs-parts : (g : ℕ) (a b c : List Block) → occurs g (handlesOf (a ++ (b ++ c))) ≡ occurs g (handlesOf a) + (occurs g (handlesOf b) + occurs g (handlesOf c))

@@ -1,15 +1,14 @@
 -- What a valid structure's blocks are, and which lists of blocks are tiled.
-use mathlib.Core.Path.{_≡_, refl, sym, ap, ap₂, _∙_, subst}
-use mathlib.Core.List.{List, [], _∷_, _++_, map}
-use mathlib.Core.Bool.{Bool, true, false, cond}
-use Prim.Native.Nat.{ℕ, zero, suc, _+_, _*_, _-_, _/_, _%_, _<_, _≤_}
+use mathlib.Core.Path.{_≡_, refl}
+use mathlib.Core.List.{List, [], _∷_, _++_}
+use mathlib.Core.Bool.{Bool, true, false}
+use Prim.Native.Nat.{ℕ, _+_, _-_, _<_, _≤_}
 use native.Mathlib.Omega.{arith}
-use lib.ListN.{length}
-use Rattle.format.proofs.Count.{one, occurs, offsets, one-same}
-use Rattle.structure.specs.Structure.{Block, free, fixed, reloc, Structure, size, sizes, count, start, len}
+use Rattle.format.proofs.Count.{occurs, offsets, one-same}
+use Rattle.structure.specs.Structure.{Block, free, fixed, reloc, Structure, count, start}
 use Rattle.structure.specs.Valid.{handlesOf, Tiled, Valid}
 use Rattle.structure.proofs.Round.{offset-is, offset-le}
-use Rattle.row.specs.Row.{Sound, freeB}
+use Rattle.row.specs.Row.{Sound}
 use Rattle.compact_bay.specs.Tidy.{Low}
 pub use Rattle.surgery.specs.Bays.{lastFree, firstFree}
 

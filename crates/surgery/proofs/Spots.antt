@@ -1,21 +1,21 @@
 -- What is known of a chosen bay or hole.
-use mathlib.Core.Path.{_≡_, refl, sym, ap, ap₂, _∙_, subst}
-use mathlib.Core.List.{List, [], _∷_, _++_, append-assoc, append-nil}
+use mathlib.Core.Path.{_≡_, refl, sym, ap, _∙_, subst}
+use mathlib.Core.List.{List, [], _∷_, _++_, append-assoc}
 use mathlib.Core.Bool.{Bool, true, false, cond}
-use Prim.Native.Nat.{ℕ, zero, suc, _+_, _*_, _-_, _/_, _%_, _<_, _≤_}
+use Prim.Native.Nat.{ℕ, _+_, _-_, _≤_}
 use native.Mathlib.Omega.{arith}
 use lib.Dec.{eqb, leb}
-use borrow.Author.Tests.{eqb-true, eqb-false, leb-true}
+use borrow.Author.Tests.{eqb-false, leb-true}
 use lib.ListN.{length}
 use Rattle.bigendian.specs.BigEndian.{slice}
-use Rattle.structure.specs.Structure.{Block, free, fixed, reloc, Structure, size, sizes, start, encode}
-use Rattle.structure.specs.Valid.{handlesOf, Tiled, Valid}
-use Rattle.row.specs.Row.{freeB, fixedB, Sound, blocksOf, bytesOf}
+use Rattle.structure.specs.Structure.{Block, free, fixed, reloc, Structure, sizes, start, encode}
+use Rattle.structure.specs.Valid.{Tiled, Valid}
+use Rattle.row.specs.Row.{freeB, fixedB, Sound, blocksOf}
 use Rattle.row.proofs.Laws.{sound-left, sound-right, tiles-join}
 use Rattle.find_bay.specs.Spots.{freeTotal, Spot, spot, put, baysFrom, bays, holesFrom, holes, Choice, none, some, firstFit, used, gapOf, squeeze}
-use Rattle.compact_bay.specs.Tidy.{setAll, tidied}
+use Rattle.compact_bay.specs.Tidy.{tidied}
 use Rattle.compact_bay.proofs.Squeeze.{squeeze-sizes, squeeze-sound, squeeze-handles, used-sizes, free-four}
-use Rattle.surgery.proofs.Sound.{valid-sound, lastFree, firstFree, tiled-left, tiled-right, tiled-join, tiled-any, tiled-false}
+use Rattle.surgery.proofs.Sound.{valid-sound, lastFree, tiled-left, tiled-right, tiled-join, tiled-any}
 use Rattle.surgery.proofs.Replace.{start-same, moved, moved-valid, sizes-parts}
 use Rattle.surgery.proofs.Carved.{part-bytes}
 pub use Rattle.surgery.specs.Bays.{IsBay}

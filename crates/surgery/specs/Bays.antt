@@ -1,6 +1,6 @@
 -- A bay among blocks.
 use mathlib.Core.Path.{_≡_}
-use mathlib.Core.Bool.{Bool, true, false}
+use mathlib.Core.Bool.{Bool, false}
 use mathlib.Core.List.{List, [], _∷_}
 use Rattle.structure.specs.Structure.{Block}
 use Rattle.row.specs.Row.{freeB}

@@ -8,7 +8,7 @@ use native.Mathlib.Omega.{arith}
 use lib.Dec.{leb}
 use Rattle.structure.specs.Structure.{Block, size, sizes}
 use Rattle.row.specs.Row.{fixedB}
-use Rattle.find_bay.specs.Spots.{freeSize, freeTotal, spot, baysFrom, bays, Choice, none, some}
+use Rattle.find_bay.specs.Spots.{freeSize, freeTotal, spot, baysFrom, Choice, none, some}
 use Rattle.find_bay.proofs.Numbers.{sizes-append, free-append}
 use Rattle.bay_spots.proofs.Spots.{orSpot, lastBy}
 use Rattle.bay_changes.proofs.TakeHigh.{endFree}

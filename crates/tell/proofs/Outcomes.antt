@@ -1,5 +1,5 @@
 -- What the answers of sum, length and check say.
-use mathlib.Core.Path.{_≡_, refl, ap, ap₂, sym, _∙_, subst}
+use mathlib.Core.Path.{_≡_, refl, ap, sym, _∙_, subst}
 use mathlib.Core.Bool.{Bool, true, false, cond}
 use mathlib.Core.List.{List, [], _∷_, List·Permᴰ, Permᴰ·refl}
 use Prim.Native.Nat.{ℕ, _+_, _%_, _≤_, max}

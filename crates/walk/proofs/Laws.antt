@@ -1,20 +1,20 @@
 -- The laws of a walk.
 use mathlib.Core.Path.{_≡_, refl, sym, ap, _∙_, subst}
-use mathlib.Core.List.{List, [], _∷_, map}
-use mathlib.Core.Bool.{Bool, true, false, cond, _&&_}
-use Prim.Native.Nat.{ℕ, zero, suc, _+_, _%_, _<_, _≤_}
+use mathlib.Core.List.{List, [], _∷_}
+use mathlib.Core.Bool.{Bool, true, false}
+use Prim.Native.Nat.{ℕ, _+_, _<_, _≤_}
 use native.Mathlib.Omega.{arith}
 use lib.Dec.{eqb}
 use borrow.Author.Tests.{eq-eqb, ne-eqb}
 use lib.ListN.{length, take, drop, length-take, length-drop, drop-of-length-le}
 use lib.Seq.{drop-drop}
 use Rattle.format.proofs.Bool.{and-left, and-right}
-use Rattle.format.specs.WellFormed.{typeOf, sizeOf, handleOf, isFree, splitBlocks, splitFrom}
+use Rattle.format.specs.WellFormed.{sizeOf, handleOf, isFree, splitBlocks, splitFrom}
 use Rattle.format.specs.OneWalk.{blockOk, blocksOk}
-use Rattle.format.proofs.Walk.{First, is-first, blocks-cons, blocks-nil, free-take}
-use Rattle.structure.specs.Structure.{Block, free, fixed, reloc, size, decodeBlock, byType}
+use Rattle.format.proofs.Walk.{is-first, blocks-cons, blocks-nil, free-take}
+use Rattle.structure.specs.Structure.{free, fixed, reloc, decodeBlock, byType}
 use Rattle.structure.proofs.Table.{by, size-dec}
-use Rattle.walk.specs.Walker.{blocksAt, Edge, edge, Seen, blockAt, freeB, lowOf, freeAt}
+use Rattle.walk.specs.Walker.{blocksAt, Edge, edge, Seen, freeB, lowOf, freeAt}
 
 free-dec : (z : List ℕ) (first : ℕ) (prev : Bool) (at : ℕ) (b : List ℕ) → blockOk z first prev at b ≡ true → freeB (decodeBlock b) ≡ isFree b
 unfolding decodeBlock isFree

@@ -1,12 +1,12 @@
 -- The bays of a zone and of a ledger agree: a bay's size is the capacity, and its items are the entries up to order.
-use mathlib.Core.Path.{_≡_, refl, ap, ap₂, sym, _∙_, subst}
-use mathlib.Core.List.{List, [], _∷_, _++_, map, List·Permᴰ, List·Permᴰ·nil, List·Permᴰ·cons, List·Permᴰ·swap, List·Permᴰ·trans, Permᴰ·refl, Permᴰ·symm, Permᴰ·middle, Permᴰ·append-left, Permᴰ·append-right, Permᴰ·append-nil}
-use Prim.Native.Nat.{ℕ, zero, suc, _+_, _-_, _%_, _≤_}
+use mathlib.Core.Path.{_≡_, refl, ap, _∙_}
+use mathlib.Core.List.{List, [], _∷_, _++_, map, List·Permᴰ, List·Permᴰ·nil, List·Permᴰ·cons, List·Permᴰ·trans, Permᴰ·append-left, Permᴰ·append-right, Permᴰ·append-nil}
+use Prim.Native.Nat.{ℕ, _+_, _-_, _%_, _≤_}
 use native.Mathlib.Omega.{arith}
-use Rattle.zone.specs.Bay.{Item, itemSize, total, remove, alter, get, count, Cell, free, held, baySize, baySum, items, gap, joinBays, compactBay, put, takeHigh, release, edit, sized, resized, reshape, roomFor}
-use Rattle.zone.proofs.BayLaws.{bsize-split, bsize-gap, items-gap, bsize-weld, items-weld, Keeps, put-keeps, tidy-size, tidy-items, Less, cut-less, release-size, release-items, edit-size, edit-items, perm-total, perm-map, perm-remove, perm-count, perm-get, perm-length}
+use Rattle.zone.specs.Bay.{Item, itemSize, total, alter, get, count, Cell, baySize, baySum, items, gap, compactBay, put, takeHigh, edit, sized, resized, reshape, roomFor}
+use Rattle.zone.proofs.BayLaws.{bsize-split, bsize-gap, items-gap, bsize-weld, items-weld, put-keeps, tidy-size, tidy-items, cut-less, release-size, release-items, edit-size, edit-items, perm-total, perm-map, perm-remove, perm-count, perm-get, perm-length}
 use Rattle.zone.proofs.Places.{alter-fsize}
-use Rattle.zone.proofs.Resize.{Shaped, reshape-sound}
+use Rattle.zone.proofs.Resize.{reshape-sound}
 use Rattle.zone.proofs.Own.{own-shaped}
 use mathlib.Core.Bool.{Bool, true, false, cond}
 use lib.Dec.{eqb}
@@ -15,7 +15,7 @@ use Rattle.zone.proofs.Sound
 use Rattle.zone.proofs.Sound.{Block, Sound, s-nil, gap-sound, put-sound, release-sound, edit-sound, cut-sound, weld-sound, tidy-sound}
 use Rattle.zone.specs.OnBays.{Fixed, fsize, own, card, alterFixed}
 use Rattle.block_type.specs.Limits.{fixedHeader}
-use lib.ListN.{length, take, length-replicate}
+use lib.ListN.{length, length-replicate}
 use mathlib.Core.Option.{Option, none, some}
 use Rattle.zone.proofs.BaysLaws.{Both, absent, present}
 use Rattle.zone.proofs.BayKinds.{Room, room, zoneBays, ledgerBays}

@@ -1,16 +1,11 @@
 -- A call that changes one bay changes one growHere of the blocks, and of the bytes.
-use mathlib.Core.Path.{_≡_, refl, ap, ap₂, sym, _∙_}
-use mathlib.Core.Bool.{Bool, true, false, cond}
-use mathlib.Core.Option.{Option, none, some}
-use mathlib.Core.List.{List, [], _∷_, _++_, map, append-assoc, append-nil}
-use Prim.Native.Nat.{ℕ, zero, suc, _+_, _≤_, max}
-use native.Mathlib.Omega.{arith}
-use lib.ListN.{length, length-append}
-use lib.Dec.{leb}
-use borrow.Author.Tests.{leb-false}
-use Rattle.structure.specs.Structure.{Block, free, fixed, reloc, encodeBlock, join, sizes}
-use Rattle.zone.specs.Bays.{Bays, last, more, over, onLow, maxS}
-use Rattle.zone.specs.Bay.{Item, Cell, free as gapCell, held, baySize, baySum}
+use mathlib.Core.Path.{_≡_, refl, ap, sym, _∙_}
+use mathlib.Core.Bool.{Bool, true}
+use mathlib.Core.List.{List, [], _∷_, _++_, map, append-assoc}
+use Prim.Native.Nat.{ℕ, _+_}
+use Rattle.structure.specs.Structure.{Block, free, fixed, reloc, encodeBlock, join}
+use Rattle.zone.specs.Bays.{Bays, last, more, onLow}
+use Rattle.zone.specs.Bay.{Cell, free as gapCell, held}
 use Rattle.zone.proofs.BayLaws.{Each, nothing, just, each-over, each-cond′}
 use Rattle.zone.specs.OnBays.{Fixed}
 use Rattle.zone.specs.Group.{flatBay, flatten}
@@ -52,12 +47,3 @@ bytes-append : (a b : List Block) → bytesOf (a ++ b) ≡ bytesOf a ++ bytesOf 
 unfolding join
 bytes-append [] b = refl
 bytes-append (x ∷ a) b = ap (encodeBlock x ++_) (bytes-append a b) ∙ sym (append-assoc (encodeBlock x) (bytesOf a) (bytesOf b))
-
--- the bytes before and behind the bay stay: a `write-mid` of one growHere
-pub low-bytes : (t : List Cell → Bool) (f : List Cell → List Cell) (s u : Bays (List Cell) Fixed) (a : AtBay t f s u)
-    → (bytesOf (flatten s) ≡ bytesOf (a .pre) ++ (bytesOf (flatBay (a .bay) []) ++ bytesOf (a .rest)))
-    × (bytesOf (flatten u) ≡ bytesOf (a .pre) ++ (bytesOf (flatBay (f (a .bay)) []) ++ bytesOf (a .rest)))
-low-bytes t f s u a = (ap bytesOf (a .before) ∙ parts (a .bay), ap bytesOf (a .after) ∙ parts (f (a .bay)))
-  where
-    parts : (b : List Cell) → bytesOf (a .pre ++ flatBay b (a .rest)) ≡ bytesOf (a .pre) ++ (bytesOf (flatBay b []) ++ bytesOf (a .rest))
-    parts b = bytes-append (a .pre) (flatBay b (a .rest)) ∙ ap (bytesOf (a .pre) ++_) (ap bytesOf (flat-append b [] (a .rest)) ∙ bytes-append (flatBay b []) (a .rest))

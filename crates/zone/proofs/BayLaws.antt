@@ -1,15 +1,15 @@
 -- What each call does to a bay: its size, and its items up to order.
-use mathlib.Core.Path.{_≡_, refl, ap, ap₂, sym, _∙_, subst}
-use mathlib.Core.Bool.{Bool, true, false, cond, true≢false, false≢true}
+use mathlib.Core.Path.{_≡_, refl, ap, ap₂, _∙_}
+use mathlib.Core.Bool.{Bool, true, false, cond}
 use mathlib.Core.Option.{Option, none, some, Option·getD}
-use mathlib.Core.List.{List, [], _∷_, _++_, map, append-nil, List·Permᴰ, List·Permᴰ·nil, List·Permᴰ·cons, List·Permᴰ·swap, List·Permᴰ·trans, Permᴰ·refl, Permᴰ·symm, Permᴰ·middle}
-use Prim.Native.Nat.{ℕ, zero, suc, _+_, _-_, _*_, _/_, _≤_, _<_, max}
+use mathlib.Core.List.{List, [], _∷_, _++_, map, append-nil, List·Permᴰ, List·Permᴰ·nil, List·Permᴰ·cons, List·Permᴰ·swap, List·Permᴰ·trans, Permᴰ·refl, Permᴰ·middle}
+use Prim.Native.Nat.{ℕ, zero, suc, _+_, _-_, _≤_}
 use native.Mathlib.Omega.{arith}
-use lib.ListN.{length, take, drop, replicate}
-use lib.Dec.{leb, ltb, eqb}
-use borrow.Author.Tests.{leb-true, leb-false, eqb-true, eqb-false}
+use lib.ListN.{length}
+use lib.Dec.{leb}
+use borrow.Author.Tests.{leb-true}
 use Rattle.zone.specs.Bays.{over}
-use Rattle.zone.specs.Bay.{is, Item, itemSize, total, remove, alter, get, count, Cell, free, held, baySize, baySum, items, merge, gap, packed, joinBays, compactBay, fit, put, trim, takeHigh, release, edit}
+use Rattle.zone.specs.Bay.{is, Item, itemSize, total, remove, alter, get, count, Cell, free, held, baySize, baySum, items, gap, packed, joinBays, compactBay, fit, put, trim, takeHigh, release, edit}
 use Rattle.block_type.specs.Limits.{relocHeader}
 
 pub bsize-split : (cs : List Cell) → baySize cs ≡ baySum cs + total (items cs)

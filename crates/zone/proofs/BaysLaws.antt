@@ -1,9 +1,9 @@
 -- Two strips whose bays are related by R and whose fixed blocks are related by Q: each function of Bays keeps that, for ANY R and Q.
-use mathlib.Core.Path.{_≡_, refl, ap, ap₂, sym, _∙_, subst}
+use mathlib.Core.Path.{_≡_, refl, ap₂, subst}
 use mathlib.Core.Bool.{Bool, true, false, cond, true≢false, false≢true}
 use mathlib.Core.Option.{Option, none, some}
 use mathlib.Core.List.{List, List·Permᴰ, List·Permᴰ·trans, Permᴰ·append-left, Permᴰ·append-right}
-use Prim.Native.Nat.{ℕ, zero, suc, _+_, _≤_, max}
+use Prim.Native.Nat.{ℕ, _+_, max}
 use Rattle.zone.specs.Bays.{Bays, last, more, over, orElse, onLow, onHigh, glue, onJoin, mapS, onFixed, onLast, findS, findF, concatS, sumS, maxS, lastS, AllS}
 
 -- both absent, or both present and related

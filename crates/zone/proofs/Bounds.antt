@@ -1,27 +1,19 @@
 -- What each call keeps: the zone fits its buffer and the limits, and the buffer keeps its length.
-use mathlib.Core.Path.{_≡_, refl, ap, ap₂, sym, _∙_, subst}
-use mathlib.Core.List.{List, [], _∷_, _++_}
-use Prim.Native.Nat.{ℕ, _+_, _-_, _*_, _%_, _≤_, _<_, max}
+use mathlib.Core.Path.{_≡_}
+use Prim.Native.Nat.{ℕ, _-_, _≤_}
 use native.Mathlib.Omega.{arith}
-use lib.ListN.{length, take, drop, replicate, length-append, length-replicate, length-drop}
-use lib.Seq.{take-at}
-use Rattle.zone.specs.Bays.{Bays, AllS}
+use lib.ListN.{drop}
+use Rattle.zone.specs.Bays.{AllS}
 use Rattle.zone.proofs.BaysLaws.{all-like}
-use Rattle.zone.specs.Bay.{Cell}
-use Rattle.zone.proofs.BayLaws.{Each}
 use Rattle.zone.proofs.Sums.{each-weaken}
 use Rattle.zone.proofs.Sound.{Sound}
-use Rattle.zone.specs.OnBays.{State, Out, lookup, placeLow, placeHigh, joinAt, resizeIn, newItem, step, initial, run, after}
-use Rattle.calls.specs.Calls.{Call, Answer}
-use Rattle.zone.proofs.BayKinds.{Room, zoneBays, ledgerBays}
-use Rattle.zone.proofs.Walk.{Closed, Whatever, left, step-kept, any}
-use Rattle.zone.proofs.Handles.{Zone, Owns, owns-closed, single}
-use Rattle.zone.proofs.Places.{Placed, placed-closed}
-use Rattle.zone.proofs.Bytes.{zoneBytes}
-use Rattle.zone.proofs.Stands.{zone-length}
-use Rattle.zone.proofs.Simulation.{sim, AnswerLike, Agreed, g-nil, g-cons, step-same, same-answer, same-next}
-use Rattle.zone.proofs.Agreement.{Fits, Equal, link, agree}
-use Rattle.zone.proofs.Matching.{Matches, Accepted, Equally, initial-owns, initial-placed, initial-matches}
+use Rattle.zone.specs.OnBays.{State, lookup, placeLow, placeHigh, joinAt, resizeIn, newItem}
+use Rattle.zone.proofs.BayKinds.{Room, zoneBays}
+use Rattle.zone.proofs.Walk.{Closed, Whatever, any}
+use Rattle.zone.proofs.Handles.{Zone}
+use Rattle.zone.proofs.Simulation.{sim}
+use Rattle.zone.proofs.Agreement.{Fits, Equal}
+use Rattle.zone.proofs.Matching.{Matches}
 
 -- the zone fits its buffer
 pub record Bounded (z : Zone) : Type 0 where

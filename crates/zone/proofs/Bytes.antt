@@ -1,15 +1,14 @@
 -- The bytes of a zone. The masters are derived: a live one from its block's place, a free one from the chain.
-use mathlib.Core.Path.{_≡_, refl}
-use mathlib.Core.Bool.{Bool, true, false, cond}
+use mathlib.Core.Bool.{cond}
 use mathlib.Core.Option.{Option, none, some, Option·getD}
-use mathlib.Core.List.{List, [], _∷_, _++_, map}
-use Prim.Native.Nat.{ℕ, zero, suc, _+_, _-_, _*_, _/_, _%_, _^_}
-use lib.ListN.{length, take, drop, replicate}
-use lib.Dec.{leb, ltb, eqb}
-use Rattle.zone.specs.Bays.{Bays, last, more, orElse, sumS}
-use Rattle.zone.specs.Bay.{is, Item, itemSize, Cell, free, held, baySize, items}
+use mathlib.Core.List.{List, [], _∷_, _++_}
+use Prim.Native.Nat.{ℕ, zero, suc, _+_, _-_, _/_, _%_, _^_}
+use lib.ListN.{replicate}
+use lib.Dec.{eqb}
+use Rattle.zone.specs.Bays.{Bays, last, more, orElse}
+use Rattle.zone.specs.Bay.{is, Item, itemSize, Cell, free, held, baySize}
 use Rattle.block_type.specs.Limits.{relocHeader}
-use Rattle.zone.specs.OnBays.{Fixed, fsize, State, handlesFrom}
+use Rattle.zone.specs.OnBays.{Fixed, fsize, handlesFrom}
 use Rattle.zone.proofs.Handles.{Zone}
 use Rattle.block_type.specs.Limits.{firstBlock}
 

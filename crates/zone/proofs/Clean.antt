@@ -1,26 +1,26 @@
 -- What holds of every block's data: bytes, and no more than a header can say. Kept by each call that is fed with bytes.
-use mathlib.Core.Path.{_≡_, refl, ap, ap₂, sym, _∙_, subst}
+use mathlib.Core.Path.{_≡_, subst}
 use mathlib.Core.Bool.{Bool, true, false, cond}
-use mathlib.Core.Option.{Option, none, some}
-use mathlib.Core.List.{List, [], _∷_, _++_, map, List·Permᴰ, List·Permᴰ·nil, List·Permᴰ·cons, List·Permᴰ·swap, List·Permᴰ·trans, Permᴰ·symm, append-nil}
-use Prim.Native.Nat.{ℕ, zero, suc, _+_, _-_, _*_, _/_, _%_, _≤_, _<_}
+use mathlib.Core.Option.{Option}
+use mathlib.Core.List.{List, [], _∷_, _++_, map, List·Permᴰ, List·Permᴰ·nil, List·Permᴰ·cons, List·Permᴰ·swap, List·Permᴰ·trans, Permᴰ·symm}
+use Prim.Native.Nat.{ℕ, zero, suc, _+_, _-_, _%_, _≤_, _<_}
 use native.Mathlib.Omega.{arith}
-use lib.ListN.{length, getD, set, take, drop, replicate, length-replicate}
+use lib.ListN.{length, set, take, drop, replicate, length-replicate}
 use lib.Dec.{leb, eqb}
 use borrow.Author.Tests.{leb-true}
 use Rattle.bigendian.specs.BigEndian.{Bytes}
-use Rattle.zone.specs.Bays.{Bays, last, more, over, orElse, onLow, onHigh, glue, onJoin, mapS, onFixed, onLast, lastS, findS}
+use Rattle.zone.specs.Bays.{Bays, last, more, onLow, onHigh, onJoin, mapS, onFixed, onLast, lastS, findS}
 use Rattle.zone.specs.Bay.{is, Item, itemSize, get, remove, alter, Cell, baySum, items, gap, joinBays, compactBay, put, takeHigh, release, edit, sized, resized, reshape}
 use Rattle.zone.proofs.BayLaws.{Each, nothing, just, each-cond, each-over, put-keeps, cut-less, tidy-items, items-weld, items-gap, release-items, edit-items}
 use Rattle.zone.proofs.Sums.{each-orElse, each-weaken}
 use Rattle.zone.proofs.Resize.{length-sized}
 use Rattle.zone.proofs.Own.{own-shaped}
 use Rattle.block_type.specs.Limits.{relocLimit, fixedLimit, fixedHeader, up4}
-use Rattle.zone.specs.OnBays.{Fixed, fsize, pointer, alterFixed, newItem, newFixed, placeLow, placeHigh, joinAt, lookup, own, resizeIn}
+use Rattle.zone.specs.OnBays.{Fixed, fsize, pointer, alterFixed, newItem, newFixed, lookup, own}
 use Rattle.zone.proofs.BayKinds.{zoneBays}
 use Rattle.zone.proofs.Sound.{Block}
 use Rattle.zone.proofs.Walk.{Closed, any}
-use lib.Seq.{sets, length-sets}
+use lib.Seq.{sets}
 use Rattle.zone.proofs.Handles.{Zone}
 
 -- ---- of every bay and every fixed block

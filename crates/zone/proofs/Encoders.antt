@@ -1,20 +1,20 @@
 -- The two encoders are one: the bytes that the theorem's laws speak of are those of the codec.
-use mathlib.Core.Path.{_≡_, refl, ap, ap₂, sym, _∙_, subst}
+use mathlib.Core.Path.{_≡_, refl, ap, ap₂, sym, _∙_}
 use mathlib.Core.Bool.{Bool, true, false, cond}
 use mathlib.Core.Option.{Option, none, some, Option·getD}
 use mathlib.Core.List.{List, [], _∷_, _++_, map, append-assoc, append-nil}
-use Prim.Native.Nat.{ℕ, zero, suc, _+_, _-_, _*_, _/_, _%_, _^_, _≤_, _<_}
+use Prim.Native.Nat.{ℕ, zero, suc, _+_, _-_, _*_, _/_, _%_, _^_, _≤_}
 use native.Mathlib.Omega.{arith}
 use native.Mathlib.Nat.{add-zero, add-assoc}
-use lib.ListN.{length, replicate}
+use lib.ListN.{replicate}
 use lib.Dec.{eqb}
 use Rattle.bigendian.specs.BigEndian.{toBE}
 use Rattle.format.proofs.Count.{occurs, offsets}
 use Rattle.structure.specs.Structure as Shape
-use Rattle.structure.specs.Structure.{Structure, Block, free, fixed, reloc, count, start, len, encodeBlock, placeOf, headOf, value, words, join, encode}
-use Rattle.zone.specs.Bays.{Bays, last, more, orElse, sumS}
+use Rattle.structure.specs.Structure.{Block, fixed, count, len, encodeBlock, placeOf, headOf, value, words, join, encode}
+use Rattle.zone.specs.Bays.{Bays, last, more, orElse}
 use Rattle.zone.specs.Bay as Bay
-use Rattle.zone.specs.Bay.{Item, is, itemSize, Cell, free as gapCell, held, baySize, items}
+use Rattle.zone.specs.Bay.{itemSize, Cell, free as gapCell, held, baySize, items}
 use Rattle.zone.proofs.BayLaws.{Each, nothing, just}
 use Rattle.zone.proofs.Sums.{each-weaken, each-orElse}
 use Rattle.zone.specs.OnBays.{Fixed, fsize, handlesFrom}

@@ -1,14 +1,13 @@
 -- Grouping and flattening undo each other.
-use mathlib.Core.Path.{_≡_, refl, ap, ap₂, sym, _∙_}
+use mathlib.Core.Path.{_≡_, refl, ap, sym, _∙_}
 use mathlib.Core.List.{List, [], _∷_, _++_, append-nil}
-use Prim.Native.Nat.{ℕ, zero, suc, _+_}
-use native.Mathlib.Omega.{arith}
+use Prim.Native.Nat.{ℕ, _+_}
 use native.Mathlib.Nat.{add-zero, add-assoc}
 use lib.ListN.{length}
 use Rattle.structure.specs.Structure.{Block, free, fixed, reloc}
 use Rattle.zone.specs.Bays.{Bays, last, more}
-use Rattle.zone.specs.Bay.{Item, itemSize, Cell, free as gapCell, held, baySize}
-use Rattle.zone.specs.OnBays.{Fixed, fsize}
+use Rattle.zone.specs.Bay.{itemSize, Cell, free as gapCell, held, baySize}
+use Rattle.zone.specs.OnBays.{Fixed}
 use Rattle.zone.proofs.Places.{Tiled, tile-last, tile-more}
 use Rattle.zone.specs.Group.{inFront, group, flatBay, flatten}
 

@@ -1,11 +1,11 @@
 -- From a line of blocks to bays: what holds of a valid structure, grouped.
-use mathlib.Core.Path.{_≡_, refl, ap, ap₂, sym, _∙_, subst}
-use mathlib.Core.Bool.{Bool, true, false, cond, false≢true}
-use mathlib.Core.List.{List, [], _∷_, _++_, Permᴰ·refl}
-use Prim.Native.Nat.{ℕ, zero, suc, _+_, _-_, _*_, _/_, _%_, _≤_, _<_}
+use mathlib.Core.Path.{_≡_, refl, ap, sym, _∙_}
+use mathlib.Core.Bool.{Bool, true, false, false≢true}
+use mathlib.Core.List.{List, [], _∷_, Permᴰ·refl}
+use Prim.Native.Nat.{ℕ, _+_, _-_, _≤_}
 use native.Mathlib.Omega.{arith}
 use lib.ListN.{length}
-use Rattle.format.proofs.Count.{occurs, offsets}
+use Rattle.format.proofs.Count.{occurs}
 use Rattle.structure.specs.Structure.{Structure, Block, free, fixed, reloc, sizes, count, start, len}
 use Rattle.structure.specs.Valid.{handlesOf, Tiled, Valid}
 use Rattle.zone.specs.Bays.{Bays, last, more, AllS}
@@ -14,20 +14,19 @@ use Rattle.zone.specs.Bay.{Item, itemSize, Cell, free as gapCell, held, 
 use Rattle.zone.proofs.Sound as Sound
 use Rattle.zone.proofs.Sound.{Sound, s-nil, s-end, s-free, s-held}
 use Rattle.zone.specs.OnBays as OnBays
-use Rattle.zone.specs.OnBays.{Fixed, fsize, Out, step}
+use Rattle.zone.specs.OnBays.{Fixed, step}
 use Rattle.calls.specs.Calls.{Call}
 use Rattle.zone.proofs.BayKinds.{Room, room, zoneBays, ledgerBays}
 use Rattle.zone.proofs.Simulation.{sim, step-same, same-next}
 use Rattle.zone.proofs.Agreement.{Fits, Equal, link, agree}
-use Rattle.zone.proofs.Matching.{Matches}
-use Rattle.zone.proofs.Handles.{Owns, live, masters, owns-closed, single}
+use Rattle.zone.proofs.Handles.{Owns, owns-closed, single}
 use Rattle.zone.proofs.Places as Places
 use Rattle.zone.proofs.Places.{tile-last, tile-more, Placed, placed-closed}
 use Rattle.zone.proofs.Walk.{left, step-closed, step-kept, Fed}
-use Rattle.zone.proofs.Clean.{Every, e-last, e-more, Items, i-nil, i-cons, ItemOk, FixedOk, BayOk, Data, Clean, Feeds, clean-closed}
+use Rattle.zone.proofs.Clean.{Every, e-last, e-more, i-nil, i-cons, ItemOk, FixedOk, BayOk, Clean, Feeds, clean-closed}
 use Rattle.zone.proofs.Bounds.{Bounded, bounded-closed, Long, long-closed, sound-of}
-use Rattle.zone.specs.Group.{inFront, group, flatBay, flatten}
-use Rattle.zone.proofs.GroupLaws.{flatten-group, group-flatten}
+use Rattle.zone.specs.Group.{inFront, group}
+use Rattle.zone.proofs.GroupLaws.{flatten-group}
 use Rattle.zone.specs.OnBytes.{Zone, inBays, inLine}
 use Rattle.zone.proofs.Keep.{Whole, live-strip, occurs-same, masters-same}
 

@@ -1,25 +1,19 @@
 -- Every master is either a live block's or in the chain, and once: kept by each call.
-use mathlib.Core.Path.{_≡_, refl, ap, ap₂, sym, _∙_, subst}
-use mathlib.Core.Bool.{Bool, true, false, cond, _&&_}
+use mathlib.Core.Path.{_≡_, refl, ap, sym, _∙_}
+use mathlib.Core.Bool.{Bool, true, false, cond}
 use mathlib.Core.Option.{Option, none, some}
 use mathlib.Core.List.{List, [], _∷_, _++_, map, append-nil}
-use Prim.Native.Nat.{ℕ, zero, suc, _+_, _-_, _*_, _/_, _%_, _≤_, _<_, max, min}
+use Prim.Native.Nat.{ℕ, zero, suc, _+_, _-_, _≤_, _<_}
 use native.Mathlib.Omega.{arith}
-use lib.ListN.{length}
-use lib.Seq.{sets}
-use lib.Dec.{leb, ltb, eqb}
-use borrow.Author.Tests.{leb-true, eqb-true, eqb-false, eq-eqb, ne-eqb}
-use Rattle.zone.specs.Bays.{Bays, last, more, over, onLow, onHigh, onJoin, mapS, onFixed, onLast, findS, findF, sumS, maxS, lastS, AllS}
-use Rattle.zone.specs.Bay.{is, Item, itemSize, remove, alter, get, count, Cell, free, held, baySum, items, gap, joinBays, compactBay, put, takeHigh, release, edit, reshape, sized, resized}
-use Rattle.zone.proofs.BayLaws.{Each, nothing, just, each-cond, put-keeps, Keeps, Less, cut-less, tidy-items, items-weld, items-gap, release-items, edit-items, perm-count, cond-ap}
+use lib.Dec.{eqb}
+use borrow.Author.Tests.{leb-true, eqb-true, eqb-false, ne-eqb}
+use Rattle.zone.specs.Bays.{Bays, last, more, onLow, mapS, sumS, lastS, AllS}
+use Rattle.zone.specs.Bay.{is, Item, itemSize, remove, alter, get, count, Cell, baySum, items, gap, joinBays, compactBay, takeHigh, release, edit, reshape, sized, resized}
+use Rattle.zone.proofs.BayLaws.{Each, nothing, just, each-cond, put-keeps, cut-less, tidy-items, items-weld, items-gap, release-items, edit-items, perm-count}
 use Rattle.zone.proofs.Sums.{each-weaken, each-and, each-orElse, find-each, onLow-sum, onHigh-sum, onJoin-sum, mapS-sum, mapS-zero, onFixed-sum, onLast-sum, sum-parts, find-sum}
 use Rattle.zone.proofs.Walk.{Closed, Whatever}
 use Rattle.zone.proofs.Own.{own-shaped}
-use Rattle.zone.proofs.Resize.{Shaped}
-use Rattle.zone.specs.OnBays.{alterFixed, Fixed, fsize, pointer, BayKind, State, Out, refuse, done, orRefuse, onTop, withBays, lookup, own, reaches, newItem, newFixed, placeLow, placeHigh, joinAt, allocate, allocateFixed, freeHandle, freePointer, sizeOf, compactAll, enlargeBy, shrinkBy, step, initial, run, after, handlesFrom}
-use Rattle.block_type.specs.Limits.{up4, fixedHeader}
-use Rattle.calls.specs.Calls.{Answer, Call, allocate-relocatable, allocate-fixed, free-handle, free-pointer, read, write, size, compact, sums, enlarge, shrink, answers, refusal}
-use Rattle.zone.specs.OnBays.{sumAll}
+use Rattle.zone.specs.OnBays.{alterFixed, Fixed, fsize, State, lookup, own, reaches, newItem, placeLow, placeHigh, joinAt, handlesFrom}
 use Rattle.zone.proofs.BayKinds.{zoneBays}
 
 abbrev pub Zone : Type 0

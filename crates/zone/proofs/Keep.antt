@@ -1,33 +1,30 @@
 -- The structures of the codec and those of the calls: what holds of the one holds of the other.
-use mathlib.Core.Path.{_≡_, refl, ap, ap₂, sym, _∙_, subst}
+use mathlib.Core.Path.{_≡_, refl, ap, sym, _∙_}
 use mathlib.Core.Bool.{Bool, true, false, cond}
-use mathlib.Core.Option.{Option, none, some, Option·getD}
-use mathlib.Core.List.{List, [], _∷_, _++_, map}
-use Prim.Native.Nat.{ℕ, zero, suc, _+_, _-_, _*_, _/_, _%_, _≤_, _<_}
+use mathlib.Core.List.{List, [], _∷_, _++_}
+use Prim.Native.Nat.{ℕ, zero, suc, _+_, _-_, _*_, _≤_, _<_}
 use native.Mathlib.Omega.{arith}
-use native.Mathlib.Nat.{add-zero, add-assoc}
+use native.Mathlib.Nat.{add-zero}
 use lib.ListN.{length, length-append}
-use lib.Dec.{eqb, leb}
-use borrow.Author.Tests.{eqb-true, eqb-false, eq-eqb, ne-eqb}
-use Rattle.bigendian.specs.BigEndian.{Bytes}
-use Rattle.format.proofs.Count.{one, occurs, offsets, All, sumOver, sum-occurs, one-same, one-other, one-comm, length-offsets, occurs-append}
+use lib.Dec.{eqb}
+use Rattle.format.proofs.Count.{occurs, offsets, All, sumOver, sum-occurs, one-same, length-offsets, occurs-append}
 use Rattle.structure.proofs.Round.{offset-le}
-use Rattle.structure.specs.Structure.{Structure, Block, free, fixed, reloc, sizes, relocCount, count, start, len}
+use Rattle.structure.specs.Structure.{Block, free, fixed, reloc, sizes, relocCount, count, start, len}
 use Rattle.structure.specs.Valid.{handlesOf, Tiled, Valid}
-use Rattle.zone.specs.Bays.{Bays, last, more, sumS, AllS}
+use Rattle.zone.specs.Bays.{Bays, last, more, AllS}
 use Rattle.zone.specs.Bay as Bay
-use Rattle.zone.specs.Bay.{Item, is, itemSize, Cell, free as gapCell, held, baySize, items}
+use Rattle.zone.specs.Bay.{Cell, free as gapCell, held, baySize, items}
 use Rattle.zone.proofs.Sound as Sound
 use Rattle.zone.proofs.Sound.{Sound, s-nil, s-end, s-free, s-held}
-use Rattle.zone.specs.OnBays.{Fixed, fsize, handlesFrom}
+use Rattle.zone.specs.OnBays.{Fixed, handlesFrom}
 use Rattle.zone.proofs.Handles as Handles
 use Rattle.zone.proofs.Handles.{Owns, live, masters}
 use Rattle.zone.proofs.Places as Places
 use Rattle.zone.proofs.Places.{tile-last, tile-more, Placed}
-use Rattle.zone.proofs.Clean.{Every, e-last, e-more, Items, i-nil, i-cons, ItemOk, FixedOk, BayOk, Data, Clean}
+use Rattle.zone.proofs.Clean.{Every, e-last, e-more, i-cons, FixedOk, BayOk, Clean}
 use Rattle.zone.proofs.Bounds.{Bounded}
 use Rattle.zone.specs.Group.{group, flatBay, flatten}
-use Rattle.zone.proofs.GroupLaws.{flatten-group, group-flatten}
+use Rattle.zone.proofs.GroupLaws.{group-flatten}
 use Rattle.zone.specs.OnBytes.{Zone, inBays, inLine}
 
 -- ---- sizes

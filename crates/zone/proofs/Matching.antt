@@ -1,29 +1,28 @@
 -- When a zone and a ledger match, what follows for the zone's bytes, and that they match after an accepted initialization.
-use mathlib.Core.Path.{_≡_, refl, ap, ap₂, sym, _∙_, subst}
-use mathlib.Core.List.{List, [], _∷_}
+use mathlib.Core.Path.{_≡_, ap}
+use mathlib.Core.List.{List, []}
 use Prim.Native.Nat.{ℕ, _+_, _-_, _*_, _%_, _≤_, _<_}
-use mathlib.Core.Option.{Option, none, some}
+use mathlib.Core.Option.{Option}
 use lib.ListN.{length}
 use lib.Dec.{eqb}
 use native.Mathlib.Omega.{arith}
 use Rattle.zone.specs.Bays.{Bays, last, more, findF, AllS}
 use Rattle.zone.proofs.BaysLaws.{like-last, Both, absent, present, all-like, findF-like}
-use Rattle.zone.specs.Bay.{Item, Cell, items, gap, count}
+use Rattle.zone.specs.Bay.{Item, Cell, gap}
 use Rattle.zone.proofs.BayLaws.{items-gap, bsize-gap, Each, nothing, just, each-cond}
 use Rattle.zone.proofs.Sums.{each-weaken}
 use Rattle.zone.proofs.Sound.{Sound}
 use borrow.Author.Tests.{eqb-true}
-use mathlib.Core.Bool.{Bool, true, false}
-use Rattle.calls.specs.Calls.{Target, Call, Answer}
-use Rattle.zone.specs.OnBays.{Fixed, pointer, lookup, State, Out, step, initial, run, after, handlesFrom}
+use mathlib.Core.Bool.{Bool, true}
+use Rattle.calls.specs.Calls.{Target}
+use Rattle.zone.specs.OnBays.{Fixed, pointer, lookup, State, initial}
 use Rattle.zone.proofs.BayKinds.{Room, zoneBays, ledgerBays}
-use Rattle.zone.proofs.Simulation.{Sim, sim, Agreed, g-nil, g-cons, step-same, lookup-same, same-answer, same-next}
-use Rattle.zone.proofs.Agreement.{Fits, Equal, Single, link, agree, fresh-fits}
-use Rattle.zone.proofs.Handles.{Zone, Owns, single, owns-closed}
-use Rattle.zone.proofs.Places.{Placed, tile-last, placed-closed}
+use Rattle.zone.proofs.Simulation.{Sim, sim, lookup-same}
+use Rattle.zone.proofs.Agreement.{Fits, Equal, link, agree, fresh-fits}
+use Rattle.zone.proofs.Handles.{Zone, Owns, single}
+use Rattle.zone.proofs.Places.{Placed, tile-last}
 use Rattle.zone.proofs.Stands.{Stands, AllF, weaken-both, handle-stands, master-stands, pointers-stand, zone-length}
 use Rattle.zone.proofs.Bytes.{big, masterOf, zoneBytes}
-use Rattle.zone.proofs.Walk.{left, step-kept}
 
 abbrev pub Matches : Zone → State Room → Type 0
 Matches z l = Sim zoneBays ledgerBays link agree z l

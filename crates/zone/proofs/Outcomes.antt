@@ -1,11 +1,11 @@
 -- What calls leave, in their own terms: laws of the definitions beside the equations.
-use mathlib.Core.Path.{_≡_, ap₂, sym, _∙_}
+use mathlib.Core.Path.{_≡_, ap₂}
 use mathlib.Core.List.{List, []}
-use Prim.Native.Nat.{ℕ, _+_}
+use Prim.Native.Nat.{ℕ}
 use native.Mathlib.Omega.{arith}
 use Rattle.calls.specs.Calls.{compact}
 use Rattle.zone.specs.Bays.{Bays, last, more, AllS, mapS}
-use Rattle.zone.specs.Bay.{Item, Cell, total, items, baySize, baySum, gap, packed, compactBay}
+use Rattle.zone.specs.Bay.{Item, Cell, total, baySum, gap, packed, compactBay}
 use Rattle.zone.specs.OnBays.{Fixed, step}
 use Rattle.zone.specs.OnBytes.{Zone}
 use Rattle.zone.proofs.BayKinds.{zoneBays}

@@ -1,19 +1,18 @@
 -- The blocks tile the zone: a fixed block's place is where it stands, and the last bay ends at the zone's length. Kept by each call.
-use mathlib.Core.Path.{_≡_, refl, ap, ap₂, sym, _∙_, subst}
-use mathlib.Core.Bool.{Bool, true, false, cond}
-use mathlib.Core.Option.{Option, none, some}
-use mathlib.Core.List.{List, [], _∷_, _++_, map}
-use Prim.Native.Nat.{ℕ, zero, suc, _+_, _-_, _*_, _/_, _%_, _≤_, _<_}
+use mathlib.Core.Path.{_≡_, refl, ap, sym, _∙_}
+use mathlib.Core.Bool.{Bool, true}
+use mathlib.Core.List.{List, []}
+use Prim.Native.Nat.{ℕ, _+_, _-_, _*_, _≤_}
 use native.Mathlib.Omega.{arith}
 use lib.ListN.{length, length-replicate}
-use lib.Dec.{leb, ltb, eqb}
+use lib.Dec.{leb, eqb}
 use borrow.Author.Tests.{leb-true}
-use Rattle.zone.specs.Bays.{Bays, last, more, over, onLow, onHigh, glue, onJoin, mapS, onFixed, onLast, lastS}
-use Rattle.zone.specs.Bay.{Item, itemSize, Cell, baySize, baySum, items, gap, joinBays, compactBay, put, takeHigh, release, edit, reshape, resized}
+use Rattle.zone.specs.Bays.{Bays, last, more, onLow, mapS, onFixed, onLast, lastS}
+use Rattle.zone.specs.Bay.{Item, itemSize, Cell, baySize, baySum, gap, joinBays, compactBay, put, takeHigh, release, edit, reshape, resized}
 use Rattle.zone.proofs.BayLaws.{Each, nothing, just, each-cond, each-over, put-keeps, cut-less, tidy-size, bsize-weld, bsize-gap, release-size, edit-size, cond-one}
 use Rattle.zone.proofs.Sums.{each-orElse, each-weaken}
 use Rattle.zone.proofs.Sound.{Block}
-use Rattle.zone.specs.OnBays.{alterFixed, pointer, Fixed, fsize, State, reaches, newItem, newFixed, placeLow, placeHigh, joinAt, lookup, own, resizeIn}
+use Rattle.zone.specs.OnBays.{alterFixed, pointer, Fixed, fsize, reaches, newItem, newFixed, placeLow, placeHigh, joinAt, lookup, own}
 use Rattle.block_type.specs.Limits.{fixedHeader}
 use Rattle.zone.proofs.Own.{own-shaped}
 use Rattle.zone.proofs.BayKinds.{zoneBays}

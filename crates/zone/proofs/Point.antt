@@ -1,39 +1,30 @@
 -- One point of a list of calls: the buffer, the zone that it holds, and the ledger. A call goes from point to point.
-use mathlib.Core.Path.{_≡_, refl, ap, sym, _∙_}
+use mathlib.Core.Path.{_≡_, refl, ap}
 use mathlib.Core.Bool.{Bool, true, false, cond}
 use mathlib.Core.List.{List, [], _∷_, _++_, Permᴰ·refl}
-use mathlib.Core.Option.{Option, none, some}
-use Prim.Native.Nat.{ℕ, zero, suc, _+_, _≤_}
+use Prim.Native.Nat.{ℕ, suc, _+_, _≤_}
 use native.Mathlib.Omega.{arith}
-use lib.ListN.{length, take, drop}
+use lib.ListN.{take, drop}
 use lib.Dec.{eqb}
 use Rattle.calls.specs.Calls.{Call, Answer}
 use Rattle.ledger.specs.Ledger as Text
 use Rattle.ledger.specs.Ledger.{Entry, Line, Ledger}
-use Rattle.ledger.specs.Space.{Spot, fixedSpots}
 use Rattle.ledger.proofs.Space.{countIn, liveIn}
 use Rattle.zone.specs.Bays as Bays
-use Rattle.zone.specs.Bays.{Bays, AllS, over, sumS}
-use Rattle.zone.specs.Bay.{Item, Cell, items, count}
-use Rattle.zone.specs.OnBays.{State, Fixed, Out, step}
-use Rattle.zone.specs.OnBytes.{Zone, callBytes, outcome, inLine}
+use Rattle.zone.specs.Bays.{Bays, AllS, sumS}
+use Rattle.zone.specs.Bay.{Cell, items, count}
+use Rattle.zone.specs.OnBays.{State, Fixed}
+use Rattle.zone.specs.OnBytes.{Zone}
 use Rattle.zone.specs.Promise.{Alike}
-use Rattle.zone.specs.Claim.{Where, nowhere, here, Stands}
-use Rattle.zone.proofs.BayKinds.{Room, room, zoneBays, ledgerBays}
-use Rattle.zone.proofs.BayLaws.{Each, nothing, just, perm-count}
+use Rattle.zone.proofs.BayKinds.{Room}
+use Rattle.zone.proofs.BayLaws.{perm-count}
 use Rattle.zone.proofs.BaysLaws.{Like, like-last, like-more, sumS-like}
-use Rattle.zone.proofs.Walk.{Fed}
-use Rattle.zone.proofs.Clean.{Feeds}
 use Rattle.zone.proofs.Handles.{live, single, occurs-once}
-use Rattle.zone.proofs.Simulation.{sim, AnswerLike, equal, shown, viewed, listed, step-same, same-answer, same-next}
-use Rattle.zone.proofs.Agreement.{Fits, Equal, link, agree}
+use Rattle.zone.proofs.Simulation.{sim, AnswerLike, equal, shown, viewed, listed}
+use Rattle.zone.proofs.Agreement.{Fits, Equal}
 use Rattle.zone.proofs.Matching.{Matches, Equally}
 use Rattle.zone.proofs.Keep.{Whole}
-use Rattle.zone.proofs.Grouped.{whole-step, same-buffer}
-use Rattle.zone.proofs.Run.{Stored, call-is, stored-after, stored-well}
-use Rattle.zone.proofs.InBuffer.{length-read, live-read, fixed-read}
-use Rattle.zone.proofs.FixedWalk.{spotsS, fixed-walk}
-use Rattle.zone.proofs.Refusals.{step-other, number-other}
+use Rattle.zone.proofs.Run.{Stored}
 use Rattle.zone.proofs.AsState.{asItem, asBays, asState, Once}
 
 -- m is the number of masters

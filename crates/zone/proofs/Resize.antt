@@ -1,16 +1,15 @@
 -- Resizing inside a bay.
-use mathlib.Core.Path.{_≡_, refl, ap, ap₂, sym, _∙_, subst}
-use mathlib.Core.Bool.{Bool, true, false, cond, true≢false, false≢true}
-use mathlib.Core.Option.{Option, none, some, Option·getD}
+use mathlib.Core.Path.{_≡_, refl, ap, sym, _∙_}
+use mathlib.Core.Bool.{Bool, true, false, cond, false≢true}
+use mathlib.Core.Option.{Option, none, some}
 use mathlib.Core.List.{List, [], _∷_, _++_, map, append-nil}
-use Prim.Native.Nat.{ℕ, zero, suc, _+_, _-_, _*_, _/_, _%_, _≤_, _<_, min}
+use Prim.Native.Nat.{ℕ, suc, _+_, _-_, _%_, _≤_, _<_}
 use native.Mathlib.Omega.{arith}
-use lib.ListN.{length, take, replicate, length-append, length-take, length-replicate}
-use lib.Dec.{leb, ltb, eqb}
+use lib.ListN.{length, length-append, length-take, length-replicate}
+use lib.Dec.{leb}
 use borrow.Author.Tests.{leb-true, leb-false}
 use Rattle.zone.specs.Bays.{over}
 use Rattle.zone.specs.Bay.{is, Item, itemSize, total, alter, get, count, Cell, free, held, baySize, baySum, items, gap, packed, sized, resized, growInto, inPlace, growHere, reshape, roomFor}
-use Rattle.block_type.specs.Limits.{relocHeader}
 use Rattle.zone.proofs.BayLaws.{bsize-split, bsize-gap, items-gap, bsize-packed, items-packed, Each, nothing, just, each-over, each-cond, each-cond′, each-getD}
 use Rattle.zone.proofs.Sums.{each-weaken}
 use Rattle.zone.proofs.Sound.{Block, Sound, s-nil, s-end, s-free, s-held, Sizes, z-nil, z-cons, items-sizes, packed-sound, gap-sound, sum-by4}

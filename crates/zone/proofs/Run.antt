@@ -1,29 +1,24 @@
 -- A call on the bytes of a buffer is the call on the bays that they hold.
 use mathlib.Core.Path.{_≡_, refl, ap, ap₂, sym, _∙_, subst}
-use mathlib.Core.Bool.{Bool, true, false, cond}
-use mathlib.Core.List.{List, [], _∷_, _++_}
-use Prim.Native.Nat.{ℕ, _+_, _-_, _*_, _%_, _≤_, _<_, max}
+use mathlib.Core.Bool.{true, cond}
+use mathlib.Core.List.{List, _++_}
+use Prim.Native.Nat.{ℕ, _+_, _-_, max}
 use native.Mathlib.Omega.{arith}
-use lib.ListN.{length, take, drop, replicate, length-append, length-replicate, length-drop}
+use lib.ListN.{length, drop, replicate, length-append, length-replicate, length-drop}
 use lib.Seq.{drop-at}
 use Rattle.bigendian.specs.BigEndian.{Bytes}
 use Rattle.format.specs.WellFormed.{wellFormed, lengthField}
 use Rattle.structure.specs.Structure.{Structure, len, encode, decode}
-use Rattle.structure.specs.Valid.{Valid}
 use Rattle.structure.proofs.Round.{well-formed, decode-encode, length-is}
 use Rattle.structure.proofs.Sound.{valid}
 use Rattle.structure.proofs.Table.{encode-decode}
 use Rattle.zone.specs.OnBays as OnBays
-use Rattle.calls.specs.Calls.{Call, Answer}
-use Rattle.zone.specs.OnBays.{Out, step, run, after}
-use Rattle.zone.proofs.BayKinds.{Room, zoneBays, ledgerBays}
+use Rattle.calls.specs.Calls.{Call}
+use Rattle.zone.specs.OnBays.{step}
+use Rattle.zone.proofs.BayKinds.{zoneBays}
 use Rattle.zone.proofs.Walk.{Fed}
 use Rattle.zone.proofs.Clean.{Feeds}
-use Rattle.zone.proofs.Handles.{single}
-use Rattle.zone.proofs.Simulation.{AnswerLike, Agreed, g-nil, g-cons, step-same, same-answer, same-next}
-use Rattle.zone.proofs.Agreement.{link, agree}
-use Rattle.zone.proofs.Matching.{Matches, Equally}
-use Rattle.zone.specs.OnBytes.{Zone, inBays, inLine, Result, replacing, outcome, callBytes, illFormed, runBytes, afterBytes}
+use Rattle.zone.specs.OnBytes.{Zone, inBays, inLine, replacing, outcome, callBytes, illFormed}
 use Rattle.zone.proofs.Keep.{Whole, valid-line, len-line, bays-line}
 use Rattle.zone.proofs.Grouped.{line-bays, whole-bays, whole-step, same-buffer}
 

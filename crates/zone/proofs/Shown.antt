@@ -12,7 +12,7 @@ use Rattle.bigendian.specs.BigEndian.{Bytes}
 use Rattle.calls.specs.Calls.{Call, Answer}
 use Rattle.ledger.specs.Ledger.{run, initial}
 use Rattle.zone.specs.OnBytes.{callBytes, initBytes, runBytes, afterBytes}
-use Rattle.zone.specs.Promise.{Promise, InitPromise}
+use Rattle.zone.specs.Promise.{Promise}
 use Rattle.zone.specs.Claim.{History, stop, then, brought, WritesBytes, no-call, a-call, Claim}
 use Rattle.zone.specs.ReelB.{calls, numbers}
 use Rattle.zone.proofs.Theorem.{the-list}

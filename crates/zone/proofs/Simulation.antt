@@ -1,23 +1,23 @@
 -- For any two kinds of bays that agree, every list of calls gives the same answers.
-use mathlib.Core.Path.{_≡_, refl, ap, ap₂, sym, _∙_, subst}
+use mathlib.Core.Path.{_≡_, refl, ap, ap₂, _∙_}
 use mathlib.Core.Bool.{Bool, true, false, cond, _&&_, true≢false, false≢true}
-use mathlib.Core.Option.{Option, none, some}
+use mathlib.Core.Option.{Option}
 use mathlib.Core.List.{List, [], _∷_, _++_, map, List·Permᴰ}
-use Prim.Native.Nat.{ℕ, zero, suc, _+_, _-_, _*_, _/_, _%_, _≤_, max, min}
+use Prim.Native.Nat.{ℕ, _+_, _-_, _*_, _/_, _%_, _≤_, min}
 use native.Mathlib.Omega.{arith}
 use lib.ListN.{length, take, drop, length-replicate}
 use lib.Seq.{sets, length-sets}
-use lib.Dec.{leb, ltb, eqb}
+use lib.Dec.{leb, eqb}
 use borrow.Author.Tests.{leb-true, eqb-true}
-use Rattle.zone.specs.Bays.{Bays, last, more, over, onLow, onHigh, onJoin, mapS, onFixed, onLast, findS, findF, sumS, maxS, lastS, AllS}
-use Rattle.zone.proofs.BaysLaws.{Both, absent, present, over-both, orElse-both, onFixed-like, findF-like, concatS-like, Like, like-last, like-more, onLow-like, onHigh-like, onJoin-like, mapS-like, onLast-like, lastS-like, sumS-like, maxS-like, findS-like}
+use Rattle.zone.specs.Bays.{Bays, findS, sumS, lastS, AllS}
+use Rattle.zone.proofs.BaysLaws.{Both, absent, present, over-both, orElse-both, onFixed-like, findF-like, concatS-like, Like, onLow-like, onHigh-like, onJoin-like, mapS-like, onLast-like, lastS-like, sumS-like, maxS-like, findS-like}
 use Rattle.zone.specs.Bay.{Item, itemSize, get, resized}
 use Rattle.block_type.specs.Limits.{relocHeader}
 use Rattle.zone.proofs.Resize.{resized-block}
 use Rattle.zone.proofs.Sound.{Block}
 use Rattle.block_type.specs.Limits.{relocLimit, fixedLimit, up4, fixedHeader}
-use Rattle.zone.specs.OnBays.{Fixed, fsize, pointer, BayKind, State, Out, refuse, done, orRefuse, onTop, withBays, lookup, own, placeLow, resizeIn, resizeItem, reaches, newItem, newFixed, allocate, allocateFixed, freeHandle, freePointer, card, alterFixed, orGive, content, rewrite, readBlock, writeBlock, viewBlock, rosterInto, liveCount, cards, sizeOf, compactAll, enlargeBy, shrinkBy, step, initial, run, after}
-use Rattle.calls.specs.Calls.{Answer, Call, allocate-relocatable, allocate-fixed, free-handle, free-pointer, read, write, size, compact, sums, enlarge, shrink, answers, refusal, resize, Target, by-handle, by-pointer, Card, shows, view, roster, check, length-of}
+use Rattle.zone.specs.OnBays.{Fixed, fsize, pointer, BayKind, State, Out, orRefuse, own, placeLow, resizeIn, resizeItem, reaches, newItem, newFixed, allocate, allocateFixed, freeHandle, freePointer, card, alterFixed, orGive, content, rewrite, readBlock, writeBlock, viewBlock, rosterInto, sizeOf, compactAll, enlargeBy, shrinkBy, step}
+use Rattle.calls.specs.Calls.{Answer, Call, allocate-relocatable, allocate-fixed, free-handle, free-pointer, read, write, size, compact, sums, enlarge, shrink, answers, resize, Target, by-handle, by-pointer, Card, shows, view, roster, check, length-of}
 use Rattle.zone.specs.OnBays.{sumAll}
 
 -- the sizes that calls ask for

@@ -1,16 +1,13 @@
 -- A sound bay: sizes are multiples of 4 and not 0, and no two free blocks are neighbours. Each change of a bay keeps it.
-use mathlib.Core.Path.{_≡_, refl, ap, ap₂, sym, _∙_, subst}
+use mathlib.Core.Path.{_≡_, refl}
 use mathlib.Core.Bool.{Bool, true, false, cond}
-use mathlib.Core.Option.{Option, none, some, Option·getD}
-use mathlib.Core.List.{List, [], _∷_, _++_, map}
-use Prim.Native.Nat.{ℕ, zero, suc, _+_, _-_, _*_, _/_, _%_, _≤_, _<_}
+use mathlib.Core.List.{List, [], _∷_}
+use Prim.Native.Nat.{ℕ, zero, suc, _+_, _-_, _%_, _≤_, _<_}
 use native.Mathlib.Omega.{arith}
 use lib.ListN.{length}
-use lib.Dec.{leb, ltb, eqb}
+use lib.Dec.{leb}
 use borrow.Author.Tests.{leb-true}
-use Rattle.zone.specs.Bays.{over}
-use Rattle.zone.specs.Bay.{is, Item, itemSize, total, remove, alter, Cell, free, held, baySize, baySum, items, merge, gap, packed, joinBays, compactBay, fit, put, trim, takeHigh, release, edit}
-use Rattle.block_type.specs.Limits.{relocHeader}
+use Rattle.zone.specs.Bay.{is, Item, itemSize, alter, Cell, free, held, baySum, items, gap, packed, joinBays, compactBay, fit, put, trim, takeHigh, release, edit}
 use Rattle.zone.proofs.BayLaws.{Each, nothing, just, each-over, each-cond, each-getD, alter-size}
 
 pub record Block (n : ℕ) : Type 0 where

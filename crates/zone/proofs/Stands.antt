@@ -1,20 +1,18 @@
 -- Where bytes stand in the zone: each live handle's from the offset in its master, each fixed block's from its pointer.
-use mathlib.Core.Path.{_≡_, refl, ap, ap₂, sym, _∙_, subst}
-use mathlib.Core.Bool.{Bool, true, false, cond}
-use mathlib.Core.Option.{Option, none, some, Option·getD}
-use mathlib.Core.List.{List, [], _∷_, _++_, map, append-assoc, append-nil}
-use Prim.Native.Nat.{ℕ, zero, suc, _+_, _-_, _*_, _/_, _%_, _≤_, _<_}
+use mathlib.Core.Path.{_≡_, refl, ap, ap₂, sym, _∙_}
+use mathlib.Core.Option.{Option, Option·getD}
+use mathlib.Core.List.{List, [], _∷_, _++_, append-assoc, append-nil}
+use Prim.Native.Nat.{ℕ, zero, suc, _+_, _-_, _*_, _/_, _<_}
 use native.Mathlib.Omega.{arith}
 use native.Mathlib.Nat.{add-assoc}
-use lib.ListN.{length, replicate, length-append, length-replicate, take, drop}
+use lib.ListN.{length, length-append, length-replicate, take, drop}
 use lib.Seq.{take-at, drop-at}
-use lib.Dec.{leb, ltb, eqb}
-use Rattle.zone.specs.Bays.{Bays, last, more, orElse, findS, AllS}
+use Rattle.zone.specs.Bays.{Bays, last, more, findS, AllS}
 use Rattle.zone.proofs.BaysLaws.{Both, absent, present, cond-both, orElse-both}
 use Rattle.zone.proofs.BayLaws.{Each, nothing, just}
-use Rattle.zone.specs.Bay.{is, Item, itemSize, get, Cell, free, held, baySize, items}
+use Rattle.zone.specs.Bay.{is, Item, itemSize, get, Cell, held, baySize, items}
 use Rattle.zone.proofs.Sound.{Block, Sound, s-nil, s-end, s-free, s-held}
-use Rattle.zone.specs.OnBays.{Fixed, fsize, pointer, State, handlesFrom}
+use Rattle.zone.specs.OnBays.{Fixed, fsize, pointer, handlesFrom}
 use Rattle.block_type.specs.Limits.{fixedHeader}
 use Rattle.zone.proofs.Handles.{Zone}
 use Rattle.zone.proofs.Places.{Tiled, tile-last, tile-more, Placed}

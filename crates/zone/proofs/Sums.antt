@@ -1,10 +1,10 @@
 -- What each function of Bays does to a sum over the bays. `Each` and the laws of options stand here too.
-use mathlib.Core.Path.{_≡_, refl, ap, ap₂, sym, _∙_, subst}
-use mathlib.Core.Bool.{Bool, true, false, cond}
-use mathlib.Core.Option.{Option, none, some}
-use Prim.Native.Nat.{ℕ, zero, suc, _+_, _≤_, max}
+use mathlib.Core.Path.{_≡_, refl, ap, ap₂}
+use mathlib.Core.Bool.{Bool, true}
+use mathlib.Core.Option.{Option}
+use Prim.Native.Nat.{ℕ, _+_, _≤_}
 use native.Mathlib.Omega.{arith}
-use Rattle.zone.specs.Bays.{Bays, last, more, over, orElse, onLow, onHigh, glue, onJoin, mapS, onFixed, onLast, findS, findF, sumS, maxS, lastS, AllS}
+use Rattle.zone.specs.Bays.{Bays, last, more, orElse, onLow, onHigh, glue, onJoin, mapS, onFixed, onLast, findS, sumS, lastS, AllS}
 use Rattle.zone.proofs.BayLaws.{Each, nothing, just, each-over, each-cond}
 
 pub each-orElse : {A : Type 0} {P : A → Type 0} {a b : Option A} → Each P a → Each P b → Each P (orElse a b)

@@ -1,9 +1,9 @@
 -- Demand 3 is proved: the claim holds of every list of calls from an accepted initialization.
 use mathlib.Core.Path.{_≡_, refl, ap, ap₂, sym, _∙_, subst}
 use mathlib.Core.Bool.{Bool, true, false, cond, _&&_}
-use mathlib.Core.List.{List, [], _∷_, _++_, append-assoc, List·Permᴰ, List·Permᴰ·trans}
+use mathlib.Core.List.{List, [], _∷_, _++_, append-assoc, List·Permᴰ·trans}
 use mathlib.Core.Option.{Option, none, some}
-use Prim.Native.Nat.{ℕ, zero, suc, _+_, _-_, _*_, _%_, _≤_}
+use Prim.Native.Nat.{ℕ, _+_, _-_, _%_}
 use native.Mathlib.Omega.{arith}
 use lib.ListN.{length, drop, length-append, length-drop}
 use lib.Seq.{drop-at}
@@ -16,20 +16,20 @@ use Rattle.structure.specs.Structure.{encode}
 use Rattle.structure.proofs.Round.{length-is}
 use Rattle.calls.specs.Calls.{Call, allocate-relocatable, allocate-fixed, free-handle, free-pointer, read, write, view, size, roster, check, length-of, resize, compact, sums, enlarge, shrink, Answer, answers, refusal}
 use Rattle.ledger.specs.Ledger as Text
-use Rattle.ledger.specs.Ledger.{Entry, Ledger, Line, entryOf, fixedOf}
+use Rattle.ledger.specs.Ledger.{Ledger, Line, entryOf, fixedOf}
 use Rattle.ledger.specs.Space.{Spot, spot, fixedSpots, baySums, callOf}
 use Rattle.ledger.proofs.Space.{space}
 use Rattle.ledger.specs.Still.{Has}
 use Rattle.ledger.proofs.Still.{stays-put}
-use Rattle.zone.specs.Bays.{Bays, AllS, findF, over}
-use Rattle.zone.specs.Bay.{Item, Cell, baySum, total, gap}
+use Rattle.zone.specs.Bays.{Bays, over}
+use Rattle.zone.specs.Bay.{Item, Cell, baySum, gap}
 use Rattle.zone.specs.OnBays as OnBays
-use Rattle.zone.specs.OnBays.{State, Fixed, pointer, lookup, step, initial}
+use Rattle.zone.specs.OnBays.{State, Fixed, step, initial}
 use Rattle.zone.specs.OnBytes.{Zone, inLine, Result, accepts, initBytes, callBytes, afterBytes}
-use Rattle.zone.specs.Promise.{Alike, Promise, InitPromise}
-use Rattle.zone.specs.Claim.{History, stop, then, brought, WritesBytes, no-call, a-call, AllAlike, none-left, one-more, Never, never-nil, never-cons, Where, nowhere, here, Stands, fixedIn, Claim, TheList}
+use Rattle.zone.specs.Promise.{Alike}
+use Rattle.zone.specs.Claim.{History, stop, then, brought, WritesBytes, no-call, a-call, AllAlike, none-left, one-more, Never, never-nil, never-cons, Where, nowhere, here, Stands, Claim, TheList}
 use Rattle.zone.proofs.BayKinds.{Room, zoneBays, ledgerBays}
-use Rattle.zone.proofs.BayLaws.{Each, nothing, just, items-gap, bsize-split, perm-total}
+use Rattle.zone.proofs.BayLaws.{Each, just, items-gap, bsize-split, perm-total}
 use Rattle.zone.proofs.BaysLaws.{Like, like-last, like-more}
 use Rattle.zone.proofs.Walk.{Fed}
 use Rattle.zone.proofs.Clean.{Feeds, fed-write, e-last, i-nil}

@@ -1,21 +1,20 @@
 -- A refused call gives 0 for each value and leaves every byte of both buffers.
-use mathlib.Core.Path.{_≡_, refl, ap, sym, _∙_}
+use mathlib.Core.Path.{_≡_, refl}
 use mathlib.Core.Bool.{Bool, true, false, cond, _&&_}
 use mathlib.Core.List.{List, [], _∷_}
 use mathlib.Core.Option.{Option, none, some}
 use Prim.Native.Nat.{ℕ, _+_, _*_, _/_, _%_, min}
 use lib.ListN.{length}
 use lib.Dec.{eqb, leb}
-use Rattle.bigendian.specs.BigEndian.{Bytes}
 use Rattle.block_type.specs.Limits.{relocLimit, fixedLimit, up4, fixedNeed, longestZone, recordSize}
 use Rattle.format.specs.WellFormed.{wellFormed}
 use Rattle.structure.specs.Structure.{decode}
-use Rattle.calls.specs.Calls.{Call, allocate-relocatable, allocate-fixed, free-handle, free-pointer, read, write, view, size, roster, check, length-of, resize, compact, sums, enlarge, shrink, Answer, shows, absentNumber}
+use Rattle.calls.specs.Calls.{Call, allocate-relocatable, allocate-fixed, free-handle, free-pointer, read, write, view, size, roster, check, length-of, resize, compact, sums, enlarge, shrink, Answer, shows}
 use Rattle.zone.specs.Bays.{lastS}
 use Rattle.zone.specs.Bay.{Cell}
 use Rattle.zone.specs.OnBays as OnBays
 use Rattle.zone.specs.OnBays.{Out, step, lookup}
-use Rattle.zone.specs.OnBytes.{Zone, inBays, outcome, Result, callBytes, illFormed, accepts, initBytes}
+use Rattle.zone.specs.OnBytes.{Zone, inBays, outcome, Result, illFormed, accepts, initBytes}
 use Rattle.zone.specs.Refused.{lent, Unchanged, RefusedUnchanged, RefusedInit}
 use Rattle.zone.proofs.BayKinds.{zoneBays}
 use Rattle.zone.proofs.Run.{same-bytes}

@@ -1,20 +1,20 @@
 -- A property of states that every call keeps: the walk through the calls is made once, for any property.
-use mathlib.Core.Path.{_≡_, refl, ap, ap₂, sym, _∙_, subst}
+use mathlib.Core.Path.{_≡_, refl}
 use mathlib.Core.Bool.{Bool, true, false, cond, _&&_, false≢true}
 use mathlib.Core.Option.{Option, none, some}
 use mathlib.Core.List.{List, [], _∷_}
-use Prim.Native.Nat.{ℕ, zero, suc, _+_, _-_, _*_, _/_, _%_, _≤_, _<_, max, min}
+use Prim.Native.Nat.{ℕ, _+_, _-_, _*_, _/_, _%_, _≤_, min}
 use native.Mathlib.Omega.{arith}
 use lib.ListN.{length, take}
 use lib.Seq.{sets, length-sets}
-use lib.Dec.{leb, ltb, eqb}
-use borrow.Author.Tests.{leb-true, eqb-true, eqb-false}
-use Rattle.zone.specs.Bays.{Bays, last, more, mapS, onFixed, onLast, lastS}
-use Rattle.zone.specs.Bay.{Item, itemSize}
+use lib.Dec.{leb, eqb}
+use borrow.Author.Tests.{leb-true, eqb-true}
+use Rattle.zone.specs.Bays.{Bays, mapS, onFixed, onLast, lastS}
+use Rattle.zone.specs.Bay.{Item}
 use Rattle.zone.proofs.BayLaws.{Each, nothing, just}
 use Rattle.zone.proofs.Sound.{Block}
 use Rattle.block_type.specs.Limits.{relocLimit, fixedLimit, up4, fixedHeader}
-use Rattle.zone.specs.OnBays.{Fixed, fsize, pointer, BayKind, State, Out, refuse, done, orRefuse, onTop, withBays, orGive, alterFixed, content, rewrite, liveCount, lookup, newItem, newFixed, placeLow, placeHigh, joinAt, resizeIn, step}
+use Rattle.zone.specs.OnBays.{Fixed, BayKind, State, Out, orRefuse, onTop, withBays, orGive, alterFixed, content, rewrite, liveCount, lookup, newItem, placeLow, placeHigh, joinAt, resizeIn, step}
 use Rattle.calls.specs.Calls.{Answer, Call, allocate-relocatable, allocate-fixed, free-handle, free-pointer, read, write, size, compact, sums, enlarge, shrink, Target, by-handle, by-pointer, view, roster, check, length-of, resize}
 
 -- what an outcome leaves: a DATA type, so that a proof of it shows its arguments

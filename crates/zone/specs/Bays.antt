@@ -1,9 +1,9 @@
 -- Document 01: "A bay is the stretch between two neighbouring fixed blocks, or between such a block and bkFst or L, or with no
 -- fixed block all from bkFst to L; it may be empty." Bays and fixed blocks in address order: a bay, then any number of times a
 -- fixed block and a bay. B is what is kept of a bay, F of a fixed block.
-use mathlib.Core.Bool.{Bool, true, false, cond}
+use mathlib.Core.Bool.{Bool, cond}
 use mathlib.Core.Option.{Option, none, some}
-use mathlib.Core.List.{List, [], _∷_, _++_}
+use mathlib.Core.List.{List, _++_}
 use Prim.Native.Nat.{ℕ, _+_, max}
 
 pub data Bays (B F : Type 0) : Type 0 where

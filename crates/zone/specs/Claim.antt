@@ -4,14 +4,14 @@ use mathlib.Core.Path.{_≡_}
 use mathlib.Core.Bool.{true, cond}
 use mathlib.Core.List.{List, [], _∷_, _++_}
 use mathlib.Core.Option.{Option, none, some}
-use Prim.Native.Nat.{ℕ, _+_, _<_}
+use Prim.Native.Nat.{ℕ, _+_}
 use lib.ListN.{length, drop}
 use lib.Dec.{eqb}
 use Rattle.bigendian.specs.BigEndian.{Bytes, slice}
 use Rattle.block_type.specs.Limits.{freeCode, fixedCode}
 use Rattle.format.specs.WellFormed.{lengthField, firstField, typeOf, sizeOf, splitBlocks, masterAt, zoneOf, wellFormed}
 use Rattle.calls.specs.Calls.{Call, allocate-relocatable, allocate-fixed, free-handle, free-pointer, resize, size, read, write, view, compact, sums, check, length-of, enlarge, shrink, roster, Answer}
-use Rattle.ledger.specs.Ledger.{Ledger, Entry, Fixed, Line, entryOf, fixedOf, run, after, initial}
+use Rattle.ledger.specs.Ledger.{Ledger, Entry, Fixed, entryOf, fixedOf, run, after, initial}
 use Rattle.ledger.specs.Still.{Has, NotFreed}
 use Rattle.ledger.specs.Space.{Spot, spot, fixedSpots, baySums, Request, callOf, earlier, fits}
 use Rattle.zone.specs.OnBytes.{callBytes, afterBytes}

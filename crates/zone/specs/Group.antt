@@ -5,7 +5,7 @@ use lib.ListN.{length}
 use Rattle.block_type.specs.Limits.{fixedHeader, relocHeader}
 use Rattle.structure.specs.Structure.{Block, free, fixed, reloc}
 use Rattle.zone.specs.Bays.{Bays, last, more}
-use Rattle.zone.specs.Bay.{Item, Cell, free as gapCell, held}
+use Rattle.zone.specs.Bay.{Cell, free as gapCell, held}
 use Rattle.zone.specs.OnBays.{Fixed}
 
 -- a block in front of the first bay

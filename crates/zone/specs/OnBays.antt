@@ -1,6 +1,6 @@
 -- Document 01, 'Bays and the calls': what each call answers and does, once for every kind of bay, so that what a list of calls
 -- answers can be shown of two kinds together.
-use mathlib.Core.Bool.{Bool, true, false, cond, _&&_}
+use mathlib.Core.Bool.{Bool, false, cond, _&&_}
 use mathlib.Core.Option.{Option, none, some}
 use mathlib.Core.List.{List, [], _∷_, _++_, map}
 use Prim.Native.Nat.{ℕ, zero, suc, _+_, _-_, _*_, _/_, _%_, min}

@@ -1,8 +1,8 @@
 -- What each of the ledger's calls, and initialize, does to the bytes of a buffer, for any buffer and any numbers: the bytes are
 -- read as a structure, its blocks are grouped into bays, the call is done there, and the bytes are written again.
-use mathlib.Core.Bool.{Bool, true, false, cond, _&&_}
+use mathlib.Core.Bool.{Bool, cond, _&&_}
 use mathlib.Core.List.{List, [], _∷_, _++_}
-use Prim.Native.Nat.{ℕ, _+_, _-_, _*_, _%_, max}
+use Prim.Native.Nat.{ℕ, _+_, _-_, _%_, max}
 use lib.ListN.{length, drop, replicate}
 use lib.Dec.{eqb, leb}
 use Rattle.block_type.specs.Limits.{firstBlock, longestZone, mostMasters}

@@ -3,7 +3,7 @@
 use mathlib.Core.List.{List, [], _∷_}
 use Prim.Native.Nat.{ℕ}
 use lib.ListN.{replicate}
-use Rattle.calls.specs.Calls.{Call, by-handle, by-pointer, allocate-relocatable, allocate-fixed, free-handle, free-pointer, resize, read, write, view, compact, sums, check, length-of, enlarge, shrink, roster}
+use Rattle.calls.specs.Calls.{Call, by-handle, allocate-relocatable, allocate-fixed, free-handle, free-pointer, resize, read, write, view, compact, sums, check, length-of, enlarge, shrink, roster}
 
 abbrev pub calls : List Call
 calls =

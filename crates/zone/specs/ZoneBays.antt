@@ -1,6 +1,5 @@
 -- The bays of a zone: their blocks in address order, and what each call does to them.
 use mathlib.Core.List.{List, []}
-use Prim.Native.Nat.{ℕ}
 use Rattle.zone.specs.Bay.{Cell, baySum, items, gap, joinBays, compactBay, put, takeHigh, release, edit, reshape}
 use Rattle.zone.specs.OnBays.{BayKind}
 

@@ -1,17 +1,15 @@
 -- The laws of the whole test: the header's facts, the body, the two together.
-use mathlib.Core.Path.{_≡_, refl, sym, ap, _∙_}
-use mathlib.Core.List.{List, [], _∷_, _++_}
-use mathlib.Core.Bool.{Bool, true, false, cond, not, _&&_}
-use Prim.Native.Nat.{ℕ, zero, suc, _+_, _*_, _-_, _/_, _%_, _<_, _≤_}
+use mathlib.Core.Path.{_≡_, sym, _∙_}
+use mathlib.Core.List.{List}
+use mathlib.Core.Bool.{Bool, true, false, not}
+use Prim.Native.Nat.{ℕ, _-_, _<_, _≤_}
 use native.Mathlib.Omega.{arith}
-use lib.Dec.{eqb, leb}
-use borrow.Author.Tests.{eq-eqb, leb-true, eqb-true, le-leb, lt-leb, not-true, not-false}
-use lib.ListN.{length, getD, take, drop, length-take}
-use Rattle.bigendian.specs.BigEndian.{fromBE, slice}
-use Rattle.format.proofs.Bool.{and-left, and-right, is-false, passed}
+use borrow.Author.Tests.{leb-true, le-leb, not-true, not-false}
+use lib.ListN.{length, take, drop}
+use Rattle.format.proofs.Bool.{and-left, and-right, is-false}
 use Rattle.format.proofs.Header.{Fields, header-facts}
 use Rattle.zone_check.specs.Body.{Body}
-use Rattle.format.specs.WellFormed.{headerOk, lengthField, firstField, mastersField, chainField, splitBlocks, relocs, zoneOf, wellFormed, countOf}
+use Rattle.format.specs.WellFormed.{headerOk, lengthField, firstField, mastersField, chainField, splitBlocks, relocs, wellFormed, countOf}
 use Rattle.format.proofs.OneWalk.{one-walk}
 use Rattle.format.specs.OneWalk.{links, blocksOk, bodyOk}
 

@@ -1,10 +1,10 @@
 // Whether a zone is well-formed.
 ghost use mathlib.Core.Path.{_≡_};
-ghost use mathlib.Core.Bool.{true, false, cond};
+ghost use mathlib.Core.Bool.{true, false};
 ghost use Prim.Native.Nat.{_+_, _-_, _*_, _%_, _<_, _≤_};
-ghost use lib.ListN.{length, take, drop};
-ghost use Rattle.format.specs.WellFormed.{headerOk, typeOf, sizeOf, handleOf, isFree, isReloc, splitBlocks, isMaster, relocs, wellFormed, countOf};
-ghost use Rattle.format.specs.OneWalk.{links, freeRule, relocRule, blockOk, blocksOk};
+ghost use lib.ListN.{length, drop};
+ghost use Rattle.format.specs.WellFormed.{headerOk, splitBlocks, relocs, wellFormed, countOf};
+ghost use Rattle.format.specs.OneWalk.{links, blocksOk};
 ghost use Rattle.format.specs.Steps.{Fields};
 ghost use Rattle.zone_check.specs.Body.{Body};
 

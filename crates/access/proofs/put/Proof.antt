@@ -1,4 +1,3 @@
-use native.Mathlib.Omega.{arith}
 use Rattle.access.proofs.PutLaws.{put-fits, put-word, put-law}
 use borrow.Author.Needs.{needs}
 use Rattle.access.proofs.put.Statement.{statement}

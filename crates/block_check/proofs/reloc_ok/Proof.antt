@@ -1,5 +1,4 @@
 use Rattle.block_check.proofs.Leaves.{reloc-rule, reloc-rule-no, master-fits}
-use native.Mathlib.Omega.{arith}
 use borrow.Author.Needs.{needs}
 use Rattle.block_check.proofs.reloc_ok.Statement.{statement}
 use Rattle.block_check.proofs.reloc_ok.Tie as tie

@@ -1,6 +1,3 @@
-use mathlib.Core.Path.{_≡_, refl}
-use native.Mathlib.Omega.{arith}
-use lib.ListN.{length, take, drop, length-take}
 use Rattle.compact_bay.proofs.Part.{compact-done}
 use borrow.Author.Needs.{needs}
 use Rattle.compact_bay.proofs.compact_part.Statement.{statement}

@@ -1,10 +1,4 @@
-use mathlib.Core.Path.{_≡_, refl}
-use mathlib.Core.List.{_++_}
-use mathlib.Core.Bool.{true}
-use Prim.Native.Nat.{_+_, _-_, _%_, _≤_}
-use native.Mathlib.Omega.{arith}
-use lib.ListN.{length, take, drop, length-take}
-use Rattle.row.specs.Row.{Row, blocksOf, bytesOf}
+use Prim.Native.Nat.{_-_}
 use Rattle.compact_bay.proofs.Part.{finish-some, finish-none}
 use borrow.Author.Needs.{needs}
 use Rattle.compact_bay.proofs.finish.Statement.{statement}

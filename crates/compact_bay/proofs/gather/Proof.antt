@@ -1,13 +1,12 @@
 use mathlib.Core.Path.{_≡_, refl, _∙_}
 use borrow.Author.Needs.{needs}
 use mathlib.Core.List.{_++_}
-use mathlib.Core.Bool.{true}
 use Prim.Native.Nat.{_+_, _-_, _%_, _≤_}
 use native.Mathlib.Omega.{arith}
-use lib.ListN.{length, take, drop, length-take}
+use lib.ListN.{length, take, drop}
 use Rattle.row.specs.Row.{Row, blocksOf, bytesOf}
 use Rattle.find_bay.specs.Spots.{used, freeTotal}
-use Rattle.compact_bay.proofs.Part.{gather-done, front-step}
+use Rattle.compact_bay.proofs.Part.{gather-done}
 use Rattle.compact_bay.proofs.gather.Statement.{statement}
 use Rattle.compact_bay.proofs.gather.Tie as tie
 

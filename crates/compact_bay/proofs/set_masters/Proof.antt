@@ -1,11 +1,9 @@
 use borrow.Author.Needs.{needs}
 use mathlib.Core.Path.{_≡_, refl}
-use mathlib.Core.List.{_++_}
-use mathlib.Core.Bool.{true}
-use Prim.Native.Nat.{_+_, _-_, _%_, _≤_}
+use Prim.Native.Nat.{_-_, _≤_}
 use native.Mathlib.Omega.{arith}
-use lib.ListN.{length, take, drop, length-take}
-use Rattle.row.specs.Row.{Row, blocksOf, bytesOf}
+use lib.ListN.{length, take, drop}
+use Rattle.row.specs.Row.{Row, blocksOf}
 use Rattle.compact_bay.specs.Tidy.{IsLow, setAll}
 use Rattle.compact_bay.proofs.Pass.{masters-done, masters-step}
 use Rattle.compact_bay.proofs.set_masters.Statement.{statement}

@@ -1,6 +1,5 @@
-use mathlib.Core.Path.{_≡_, refl}
 use native.Mathlib.Omega.{arith}
-use lib.ListN.{length, take, drop, length-take}
+use lib.ListN.{length-take}
 use Rattle.compact_bay.proofs.Pass.{put-in, turned-other, turned-reloc}
 use borrow.Author.Needs.{needs}
 use Rattle.compact_bay.proofs.turn.Statement.{statement}

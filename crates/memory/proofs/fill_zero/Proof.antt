@@ -1,9 +1,9 @@
 use mathlib.Core.Path.{_≡_}
-use Prim.Native.Nat.{_+_, _*_, _-_, _≤_}
+use Prim.Native.Nat.{_-_, _≤_}
 use borrow.Author.Needs.{needs}
 use native.Mathlib.Omega.{arith}
 use lib.ListN.{length, replicate, length-set}
-use Rattle.bigendian.specs.BigEndian.{slice, overwrite}
+use Rattle.bigendian.specs.BigEndian.{overwrite}
 use Rattle.memory.proofs.Writes.{fill-step, fill-done}
 use Rattle.memory.proofs.fill_zero.Statement.{statement}
 use Rattle.memory.proofs.fill_zero.Tie as tie

@@ -1,5 +1,4 @@
 use Rattle.nafelode_c.proofs.Laws.{named-handle, named-pointer}
-use borrow.Author.Needs.{needs}
 use Rattle.nafelode_c.proofs.block_of.Statement.{statement}
 use Rattle.nafelode_c.proofs.block_of.Tie as tie
 
