@@ -29,7 +29,7 @@ module _ (z : List ℕ) (i : IsZone z) (h : ℕ) where
   abbrev n : ℕ
   n = occurs h (handles (splitBlocks (drop (firstField z) z)))
 
-  by-count : place ≡ cond (eqb n 0) 0 (masterAt z h)
+  pub by-count : place ≡ cond (eqb n 0) 0 (masterAt z h)
   unfolding decodeZone placeIn
   by-count =
       ap (λ (o : ℕ). placeOf h o (map decodeBlock (splitBlocks (drop (firstField z) z)))) (start-is z w)

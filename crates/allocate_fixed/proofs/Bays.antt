@@ -14,7 +14,7 @@ use Rattle.format.specs.WellFormed.{wellFormed, lengthField}
 use Rattle.structure.specs.Structure.{Structure, Block, fixed, start, len, encode, decode}
 use Rattle.calls.specs.Calls.{told, refusal, allocate-fixed}
 use Rattle.find_bay.specs.Spots.{put, Choice, none as noSpot, some as theSpot, bays}
-use Rattle.zone.specs.Bays.{Bays}
+use Rattle.zone.specs.PickBays.{Bays}
 use Rattle.zone.specs.Bay.{Cell, takeHigh}
 use Rattle.zone.specs.OnBays.{Fixed, Out, pointer, newFixed, reaches, orRefuse, done, refuse, withBays, placeHigh, step}
 use Rattle.zone.specs.ZoneBays.{zoneBays}

@@ -14,7 +14,7 @@ use Rattle.block_type.specs.Limits.{fixedHeader, fixedLimit, fixedNeed}
 use Rattle.format.specs.WellFormed.{wellFormed}
 use Rattle.structure.specs.Structure.{decode}
 use Rattle.calls.specs.Calls.{by-pointer, Answer, answers, shows, Call, allocate-fixed, size, view}
-use Rattle.zone.specs.Bays.{Bays, last, more, over, findF}
+use Rattle.zone.specs.PickBays.{Bays, last, more, over, findF}
 use Rattle.zone.specs.Bay.{Cell, baySize, baySum, takeHigh}
 use Rattle.zone.specs.OnBays.{Fixed, pointer, newFixed, orGive, done, refuse, says, withBays, placeHigh, step}
 use Rattle.zone.specs.ZoneBays.{zoneBays}

@@ -14,7 +14,7 @@ use Rattle.format.specs.WellFormed.{wellFormed, lengthField}
 use Rattle.structure.specs.Structure.{Structure, Block, start, headOf, encode, decode}
 use Rattle.calls.specs.Calls.{told, refusal, allocate-relocatable}
 use Rattle.find_bay.specs.Spots.{put, Choice, none as noSpot, some as theSpot, firstFit, bays, settle}
-use Rattle.zone.specs.Bays.{Bays}
+use Rattle.zone.specs.PickBays.{Bays}
 use Rattle.zone.specs.Bay as Bay
 use Rattle.zone.specs.Bay.{Item, itemSize, Cell}
 use Rattle.zone.specs.OnBays.{Fixed, Out, newItem, reaches, onTop, orRefuse, done, refuse, placeLow, step}

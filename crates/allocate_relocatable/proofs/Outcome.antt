@@ -14,8 +14,9 @@ use Rattle.block_type.specs.Limits.{relocLimit, up4}
 use Rattle.format.specs.WellFormed.{wellFormed}
 use Rattle.structure.specs.Structure.{decode}
 use Rattle.calls.specs.Calls.{by-handle, Answer, answers, shows, Call, allocate-relocatable, size, view}
-use Rattle.zone.specs.Bays.{Bays, last, more, over, orElse, findS}
-use Rattle.zone.specs.Bay.{Item, itemSize, is, get, count, Cell, items, baySum, put}
+use Rattle.zone.specs.PickBays.{Bays, last, more, over, orElse, findS}
+use Rattle.zone.specs.Bay.{Item, itemSize, is, get, Cell, items, baySum, put}
+use Rattle.zone.specs.Counted.{count}
 use Rattle.zone.specs.OnBays.{Fixed, newItem, orGive, done, refuse, says, placeLow, step}
 use Rattle.zone.specs.ZoneBays.{zoneBays}
 use Rattle.zone.specs.OnBytes.{Zone, inBays, Result, callBytes}

@@ -10,8 +10,9 @@ use Rattle.format.proofs.Count.{occurs}
 use Rattle.structure.specs.Structure.{Block, free, reloc}
 use Rattle.structure.specs.Valid.{handlesOf}
 use Rattle.release.specs.Release as Release
-use Rattle.zone.specs.Bays.{over}
-use Rattle.zone.specs.Bay.{Item, is, count, Cell, free as gapCell, held, items, inPlace, growHere}
+use Rattle.zone.specs.PickBays.{over}
+use Rattle.zone.specs.Bay.{Item, is, Cell, free as gapCell, held, items, inPlace, growHere}
+use Rattle.zone.specs.Counted.{count}
 use Rattle.bay_spots.proofs.Spots.{blocksIn}
 
 -- where the block of handle h stands: pre before it, the cells rest behind it

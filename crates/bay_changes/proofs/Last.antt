@@ -4,7 +4,7 @@ use mathlib.Core.Bool.{Bool, true}
 use mathlib.Core.List.{List, [], _∷_, _++_, append-assoc}
 use Rattle.structure.specs.Structure.{Block, fixed}
 use Rattle.find_bay.specs.Spots.{Spot, spot, bays, Choice, some as theSpot}
-use Rattle.zone.specs.Bays.{Bays, last, more, onLast, lastS}
+use Rattle.zone.specs.PickBays.{Bays, last, more, onLast, lastS}
 use Rattle.zone.specs.Bay.{Cell}
 use Rattle.zone.specs.OnBays.{Fixed}
 use Rattle.zone.specs.Group.{flatBay, flatten}

@@ -11,7 +11,8 @@ use borrow.Author.Tests.{eqb-true}
 use Rattle.format.proofs.Count.{occurs}
 use Rattle.structure.specs.Valid.{handlesOf}
 use Rattle.access.specs.Edit.{dataOf}
-use Rattle.zone.specs.Bay.{is, get, count, Cell, free as gapCell, held, baySum, items, roomFor}
+use Rattle.zone.specs.Bay.{is, get, Cell, free as gapCell, held, baySum, items}
+use Rattle.zone.specs.Counted.{count, roomFor}
 use Rattle.zone.specs.OnBays.{own}
 use Rattle.zone.specs.ZoneBays.{zoneBays}
 use Rattle.bay_spots.proofs.Spots.{blocksIn, sum-flat}

@@ -10,7 +10,7 @@ use lib.Dec.{leb}
 use Rattle.structure.specs.Structure.{Block, fixed, sizes}
 use Rattle.find_bay.specs.Spots.{freeTotal, Spot, put, bays}
 use Rattle.find_bay.proofs.Numbers.{sizes-append}
-use Rattle.zone.specs.Bays.{Bays, last, more, onHigh, AllS}
+use Rattle.zone.specs.PickBays.{Bays, last, more, onHigh, AllS}
 use Rattle.zone.specs.Bay.{Cell}
 use Rattle.zone.specs.OnBays.{Fixed, fsize, reaches, newFixed, placeHigh}
 use Rattle.zone.specs.ZoneBays.{zoneBays}

@@ -7,7 +7,7 @@ use Prim.Native.Nat.{ℕ}
 use lib.Dec.{leb}
 use Rattle.structure.specs.Structure.{Block, fixed}
 use Rattle.find_bay.specs.Spots.{freeTotal, Spot, put, bays, firstFit}
-use Rattle.zone.specs.Bays.{Bays, last, more, onLow, AllS}
+use Rattle.zone.specs.PickBays.{Bays, last, more, onLow, AllS}
 use Rattle.zone.specs.Bay.{Cell}
 use Rattle.zone.specs.OnBays.{Fixed, reaches}
 use Rattle.zone.specs.ZoneBays.{zoneBays}

@@ -10,7 +10,7 @@ use borrow.Author.Tests.{ne-eqb}
 use lib.ListN.{length}
 use Rattle.structure.specs.Structure.{Block, free, fixed, reloc, sizes}
 use Rattle.find_bay.specs.Spots.{freeTotal, Spot, spot, baysFrom, bays, Choice, none as noSpot, some as theSpot, firstFit, used, gapOf}
-use Rattle.zone.specs.Bays.{Bays, last, more, over, orElse}
+use Rattle.zone.specs.PickBays.{Bays, last, more, over, orElse}
 use Rattle.zone.specs.Bay.{Cell, free as gapCell, held, baySize, baySum, items, gap, packed}
 use Rattle.zone.specs.OnBays.{Fixed}
 use Rattle.zone.specs.Group.{flatBay, flatten}

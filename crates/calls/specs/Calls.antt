@@ -80,3 +80,46 @@ lists n cs bs = record { number = 0; value = n; second = 0; bytes = bs; records 
 abbrev pub absentNumber : Target → ℕ
 absentNumber (by-handle h) = 6
 absentNumber (by-pointer p) = 7
+
+-- ---- what a call is lent beside the zone
+
+pub data Beside : Type 0 where
+  -- nothing
+  alone : Beside
+  -- a second buffer, as it is given
+  lends : List ℕ → Beside
+  -- nothing, and it hands back a part of the zone
+  part : Beside
+
+abbrev pub beside : Call → Beside
+beside (allocate-relocatable c) = alone
+beside (allocate-fixed c) = alone
+beside (free-handle h) = alone
+beside (free-pointer p) = alone
+beside (resize h c) = alone
+beside (size t) = alone
+beside (read t i n second) = lends second
+beside (write t i n second) = lends second
+beside (view t i n) = part
+beside compact = alone
+beside sums = alone
+beside check = alone
+beside length-of = alone
+beside (enlarge k) = alone
+beside (shrink k) = alone
+beside (roster second) = lends second
+
+abbrev pub secondOf : Beside → List ℕ
+secondOf alone = []
+secondOf (lends second) = second
+secondOf part = []
+
+-- "A view .. carries no number"
+abbrev pub numberTold : ℕ → Beside → ℕ
+numberTold n alone = n
+numberTold n (lends second) = n
+numberTold n part = 0
+
+-- A CALL REFUSED with number n: 0 for each value, and the second buffer as it was (a view shows nothing)
+abbrev pub refused : Call → ℕ → Answer
+refused c n = record { number = numberTold n (beside c); value = 0; second = 0; bytes = secondOf (beside c); records = [] }

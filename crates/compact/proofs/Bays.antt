@@ -12,7 +12,7 @@ use lib.ListN.{length}
 use Rattle.structure.specs.Structure.{Block, free, fixed, reloc, sizes}
 use Rattle.find_bay.specs.Spots.{freeSize, freeTotal, used, gapOf, squeeze}
 use Rattle.find_bay.proofs.Numbers.{free-append}
-use Rattle.zone.specs.Bays.{Bays, last, more, maxS}
+use Rattle.zone.specs.PickBays.{Bays, last, more, maxS}
 use Rattle.zone.specs.Bay.{Item, Cell, free as gapCell, held, baySum}
 use Rattle.zone.specs.OnBays.{Fixed}
 use Rattle.zone.specs.Group.{inFront, group}

@@ -8,7 +8,7 @@ use Rattle.bigendian.specs.BigEndian.{Bytes}
 use Rattle.format.specs.WellFormed.{wellFormed}
 use Rattle.structure.specs.Structure.{start, decode}
 use Rattle.calls.specs.Calls.{compact}
-use Rattle.zone.specs.Bays.{Bays, last, more, mapS, AllS}
+use Rattle.zone.specs.PickBays.{Bays, last, more, mapS, AllS}
 use Rattle.zone.specs.Bay.{Item, Cell, items, baySum, gap, packed, compactBay}
 use Rattle.zone.specs.OnBays.{Fixed}
 use Rattle.zone.specs.Group.{group}

@@ -31,7 +31,7 @@ use Rattle.release.proofs.Hole.{swap, free-hole}
 use Rattle.release.proofs.Reach.{tiles-are}
 use Rattle.surgery.proofs.Sound.{valid-sound}
 use Rattle.calls.specs.Calls.{told, refusal, enlarge}
-use Rattle.zone.specs.Bays.{onLast}
+use Rattle.zone.specs.PickBays.{onLast}
 use Rattle.zone.specs.Bay.{Cell, gap, joinBays}
 use Rattle.zone.specs.OnBays.{done, refuse, step}
 use Rattle.zone.specs.ZoneBays.{zoneBays}

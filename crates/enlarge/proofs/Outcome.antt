@@ -11,7 +11,7 @@ use Rattle.structure.specs.Structure.{decode}
 use Rattle.access.specs.Edit.{is-zone}
 use Rattle.walk.specs.Walker.{blocksAt, lowOf}
 use Rattle.calls.specs.Calls.{Call, Answer, answers, enlarge, length-of, sums}
-use Rattle.zone.specs.Bays.{Bays, last, more, onLast, sumS}
+use Rattle.zone.specs.PickBays.{Bays, last, more, onLast, sumS}
 use Rattle.zone.specs.Bay.{Cell, free as gapCell, held, baySum, gap, joinBays}
 use Rattle.zone.specs.OnBays.{Fixed, step, done, refuse}
 use Rattle.zone.specs.ZoneBays.{zoneBays}

@@ -16,7 +16,7 @@ use Rattle.structure.proofs.Sound.{valid}
 use Rattle.access.specs.Edit.{placeIn}
 use Rattle.release.specs.Release.{freed}
 use Rattle.calls.specs.Calls.{told, refusal, free-handle}
-use Rattle.zone.specs.Bays.{Bays, last, more, mapS, findS}
+use Rattle.zone.specs.PickBays.{Bays, last, more, mapS, findS}
 use Rattle.zone.specs.Bay as Bay
 use Rattle.zone.specs.Bay.{Item, is, itemSize, get, Cell, free as gapCell, held, baySize, items}
 use Rattle.zone.specs.OnBays.{Fixed, fsize, orRefuse, done, lookup}

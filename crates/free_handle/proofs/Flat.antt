@@ -10,7 +10,7 @@ use Rattle.format.proofs.Count.{occurs}
 use Rattle.structure.specs.Structure.{Block, free, fixed, reloc}
 use Rattle.structure.specs.Valid.{handlesOf, Tiled}
 use Rattle.release.specs.Release.{gap, release}
-use Rattle.zone.specs.Bays.{Bays, last, more, mapS}
+use Rattle.zone.specs.PickBays.{Bays, last, more, mapS}
 use Rattle.zone.specs.Bay as Bay
 use Rattle.zone.specs.Bay.{Item, itemSize, Cell, free as gapCell, held}
 use Rattle.zone.specs.OnBays.{Fixed}

@@ -12,8 +12,9 @@ use Rattle.block_type.specs.Limits.{relocHeader, relocLimit}
 use Rattle.format.specs.WellFormed.{wellFormed}
 use Rattle.structure.specs.Structure.{decode}
 use Rattle.calls.specs.Calls.{by-handle, Call, Answer, refusal, allocate-relocatable, free-handle, size, sums}
-use Rattle.zone.specs.Bays.{Bays, last, more, over, mapS, orElse, findS, sumS}
-use Rattle.zone.specs.Bay.{Item, is, get, count, remove, Cell, baySum, items, release}
+use Rattle.zone.specs.PickBays.{Bays, last, more, over, mapS, orElse, findS, sumS}
+use Rattle.zone.specs.Bay.{Item, is, get, Cell, baySum, items, release}
+use Rattle.zone.specs.Counted.{count, remove}
 use Rattle.zone.specs.OnBays.{Fixed, newItem, Out, step, orRefuse, orGive, refuse, done, lookup, placeLow}
 use Rattle.zone.specs.ZoneBays.{zoneBays}
 use Rattle.zone.specs.OnBytes.{Zone, inBays, Result, callBytes}
@@ -21,7 +22,7 @@ use Rattle.zone.proofs.BayLaws.{Each, nothing, just, release-items}
 use Rattle.zone.proofs.Sums.{find-sum}
 use Rattle.zone.proofs.Handles.{live, get-count}
 use Rattle.zone.proofs.NoBay.{taken, sum-released}
-use Rattle.zone.proofs.FirstCause.{once}
+use Rattle.zone.proofs.Tied.{once}
 use Rattle.call_laws.proofs.Outcome.{call-ill, call-of, after-call}
 
 -- what does not count is not there

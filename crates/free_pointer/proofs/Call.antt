@@ -24,7 +24,7 @@ use Rattle.release.proofs.Freed.{sizes-append}
 use Rattle.surgery.proofs.Sound.{valid-sound}
 use Rattle.surgery.proofs.Plain.{plain}
 use Rattle.calls.specs.Calls.{told, refusal, by-pointer, free-pointer}
-use Rattle.zone.specs.Bays.{Bays, last, more, over, findF, onJoin}
+use Rattle.zone.specs.PickBays.{Bays, last, more, over, findF, onJoin}
 use Rattle.zone.specs.Bay.{Cell}
 use Rattle.zone.specs.OnBays.{Fixed, orRefuse, done, withBays, joinAt}
 use Rattle.zone.specs.ZoneBays.{zoneBays}

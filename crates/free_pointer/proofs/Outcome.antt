@@ -13,7 +13,7 @@ use Rattle.block_type.specs.Limits.{fixedHeader}
 use Rattle.format.specs.WellFormed.{wellFormed}
 use Rattle.structure.specs.Structure.{decode}
 use Rattle.calls.specs.Calls.{by-pointer, Call, Answer, refusal, free-pointer, size, sums}
-use Rattle.zone.specs.Bays.{Bays, last, more, over, glue, findF, sumS}
+use Rattle.zone.specs.PickBays.{Bays, last, more, over, glue, findF, sumS}
 use Rattle.zone.specs.Bay.{Cell, free as gapCell, held, baySum, gap, joinBays}
 use Rattle.zone.specs.OnBays.{Fixed, fsize, pointer, Out, joinAt, step, orRefuse, orGive, refuse, done, withBays}
 use Rattle.zone.specs.ZoneBays.{zoneBays}

@@ -11,7 +11,7 @@ use borrow.Author.Tests.{eq-eqb, ne-eqb}
 use Rattle.structure.specs.Structure.{Block, free, fixed, reloc}
 use Rattle.structure.specs.Valid.{Tiled}
 use Rattle.release.specs.Release.{gap}
-use Rattle.zone.specs.Bays.{Bays, last, more, over, glue}
+use Rattle.zone.specs.PickBays.{Bays, last, more, over, glue}
 use Rattle.zone.specs.Bay as Bay
 use Rattle.zone.specs.Bay.{Item, Cell, free as gapCell, held, joinBays}
 use Rattle.zone.specs.OnBays.{Fixed, pointer, fsize, joinAt}

@@ -13,7 +13,7 @@ use Rattle.access.specs.Edit.{IsZone}
 use Rattle.walk.specs.Walker.{blocksAt, lowOf}
 use Rattle.release.specs.Release.{Between}
 use Rattle.calls.specs.Calls.{by-pointer}
-use Rattle.zone.specs.Bays.{over}
+use Rattle.zone.specs.PickBays.{over}
 use Rattle.zone.specs.OnBays.{joinAt}
 use Rattle.zone.specs.ZoneBays.{zoneBays}
 use Rattle.zone.specs.Group.{group, flatten}

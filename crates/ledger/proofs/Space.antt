@@ -1,6 +1,6 @@
 -- "No space" comes exactly when no bay's sum reaches what is needed of that bay.
 use mathlib.Core.Path.{_≡_, refl, ap, ap₂, sym, _∙_}
-use mathlib.Core.Bool.{Bool, true, false, cond, _||_}
+use mathlib.Core.Bool.{Bool, true, false, cond, _||_, not}
 use mathlib.Core.Option.{Option, none, some}
 use mathlib.Core.List.{List, [], _∷_}
 use Prim.Native.Nat.{ℕ, suc, _+_, _-_, _≤_}
@@ -9,8 +9,27 @@ use lib.ListN.{length}
 use lib.Dec.{leb, eqb}
 use borrow.Author.Tests.{leb-false, lt-leb}
 use Rattle.block_type.specs.Limits.{relocHeader, relocLimit, fixedLimit, up4, relocNeed, fixedNeed}
-use Rattle.ledger.specs.Ledger.{Entry, Bay, Fixed, Line, last, more, Ledger, Lodged, Step, taken, sumOf, find, entryOf, orElse, before, lowest, reaches, without, onEntries, lodgedAfter, highest, roomIn, ownReaches, orRefuse, allocate, allocateFixed, resizeEntry, step}
-use Rattle.ledger.specs.Space.{Request, relocatable, fixed, resized, callOf, resizeNeed, needOf, fits, noHandle, notLive, earlier}
+use Rattle.calls.specs.Table.{cause, first, beforeNoBay, isEmpty, isNone, noBay, noBayToResize}
+use Rattle.ledger.specs.Ledger.{facts, over}
+use Rattle.ledger.specs.Nested.{Entry, Bay, Fixed, Line, last, more, Ledger, Lodged, Step, taken, sumOf, find, entryOf, orElse, before, lowest, reaches, without, onEntries, lodgedAfter, highest, roomIn, ownReaches, orRefuse, allocate, allocateFixed, resizeEntry, step}
+use Rattle.ledger.specs.Space.{Request, relocatable, fixed, resized, callOf, resizeNeed, needOf, fits, earlier}
+
+-- ---- what refuses it earlier in the order than "no space"; 0 for nothing
+
+-- 4 where there is no handle
+abbrev noHandle : List ℕ → ℕ
+noHandle [] = 4
+noHandle (h ∷ hs) = 0
+
+-- 6 where the handle is not live, else 3 where c is above the limit
+abbrev notLive : ℕ → Option Entry → ℕ
+notLive c none = 6
+notLive c (some e) = cond (leb c relocLimit) 0 3
+
+abbrev sooner : Request → Ledger → ℕ
+sooner (relocatable c) l = cond (leb c relocLimit) (noHandle (l .stack)) 3
+sooner (fixed c) l = cond (leb c fixedLimit) 0 3
+sooner (resized h c) l = notLive c (entryOf h (l .line))
 
 -- how many entries have the handle, in a bay and in all
 abbrev pub countIn : ℕ → List Entry → ℕ
@@ -87,11 +106,11 @@ highest-shown n end (more b x l) =
 -- ---- a resize: what a bay holds without the handle
 
 -- what the handle's entry takes of the bay
-abbrev held : Option Entry → ℕ
+abbrev pub held : Option Entry → ℕ
 held none = 0
 held (some e) = relocHeader + length (e .bytes)
 
-taken-absent : (h : ℕ) (es : List Entry) → countIn h es ≤ 0 → taken (without h es) ≡ taken es
+pub taken-absent : (h : ℕ) (es : List Entry) → countIn h es ≤ 0 → taken (without h es) ≡ taken es
 taken-absent h [] n = refl
 taken-absent h (e ∷ es) n = go (eqb h (e .handle)) (λ k. taken-absent h es k) n
   where
@@ -101,7 +120,7 @@ taken-absent h (e ∷ es) n = go (eqb h (e .handle)) (λ k. taken-absent h es k)
     go false f n = ap ((relocHeader + length (e .bytes)) +_) (f n)
 
 -- where the handle stands at most once, one entry goes
-taken-without : (h : ℕ) (es : List Entry) → countIn h es ≤ 1 → taken (without h es) + held (find h es) ≡ taken es
+pub taken-without : (h : ℕ) (es : List Entry) → countIn h es ≤ 1 → taken (without h es) + held (find h es) ≡ taken es
 taken-without h [] n = refl
 taken-without h (e ∷ es) n = go (eqb h (e .handle)) (λ k. taken-without h es k) n
   where
@@ -149,24 +168,49 @@ resize-number h c e l n p q =
     rw (q, p, fits-resize h c (l .line) n)
     (number-shown 5 _ _ (λ k. refl) (or-else-shown (lowest-shown (ownReaches h (up4 c)) _ (l .line)) (lowest-shown (reaches (relocHeader + up4 c)) _ (onEntries (without h) (l .line)))))
 
--- an allocation or a resize that nothing earlier refuses, where no handle is live twice
-pub space : (q : Request) (l : Ledger) → ((h : ℕ) → liveIn h (l .line) ≤ 1) → earlier q l ≡ 0 → (step (callOf q) l) .answer .number ≡ cond (fits q (l .line)) 0 5
-space (relocatable c) l o e = go (leb c relocLimit) (l .stack) refl refl e
+-- where nothing earlier refuses it, and no handle is live twice
+space-nested : (q : Request) (l : Ledger) → ((h : ℕ) → liveIn h (l .line) ≤ 1) → sooner q l ≡ 0 → (step (callOf q) l) .answer .number ≡ cond (fits q (l .line)) 0 5
+space-nested (relocatable c) l o e = go (leb c relocLimit) (l .stack) refl refl e
   where
     go : (t : Bool) (s : List ℕ) → leb c relocLimit ≡ t → l .stack ≡ s → cond t (noHandle s) 3 ≡ 0
         → (allocate c l) .answer .number ≡ cond (fits (relocatable c) (l .line)) 0 5
     go true (h ∷ hs) p q e = allocate-number c h hs l p q
     go true [] p q e = absurd (omega arith)
     go false s p q e = absurd (omega arith)
-space (fixed c) l o e = go (leb c fixedLimit) refl e
+space-nested (fixed c) l o e = go (leb c fixedLimit) refl e
   where
     go : (t : Bool) → leb c fixedLimit ≡ t → _≡_ {A = ℕ} (cond t 0 3) 0 → (allocateFixed c l) .answer .number ≡ cond (fits (fixed c) (l .line)) 0 5
     go true p e = fixed-number c l p
     go false p e = absurd (omega arith)
-space (resized h c) l o e = go (entryOf h (l .line)) (leb c relocLimit) refl refl e
+space-nested (resized h c) l o e = go (entryOf h (l .line)) (leb c relocLimit) refl refl e
   where
     go : (f : Option Entry) (t : Bool) → entryOf h (l .line) ≡ f → leb c relocLimit ≡ t → notLive c f ≡ 0
         → (resizeEntry h c l) .answer .number ≡ cond (fits (resized h c) (l .line)) 0 5
     go none t q p e = absurd (omega arith)
     go (some f) true q p e = resize-number h c f l (o h) p q
     go (some f) false q p e = absurd (omega (arith, rw p at e))
+
+-- nothing earlier in the table's order
+nothing-sooner : (q : Request) (l : Ledger) → earlier q l ≡ 0 → sooner q l ≡ 0
+nothing-sooner (relocatable c) l e = go (leb c relocLimit) (l .stack) e
+  where
+    go : (t : Bool) (hs : List ℕ) → first beforeNoBay (cause 1 false ∷ cause 3 (not t) ∷ cause 4 (isEmpty hs) ∷ noBay (relocNeed c) (facts l) ∷ []) ≡ 0 → cond t (noHandle hs) 3 ≡ 0
+    go true (h ∷ hs) e = refl
+    go true [] e = absurd (omega (arith, e))
+    go false hs e = absurd (omega (arith, e))
+nothing-sooner (fixed c) l e = go (leb c fixedLimit) e
+  where
+    go : (t : Bool) → first beforeNoBay (cause 1 false ∷ cause 3 (not t) ∷ noBay (fixedNeed c) (facts l) ∷ []) ≡ 0 → _≡_ {A = ℕ} (cond t 0 3) 0
+    go true e = refl
+    go false e = absurd (omega (arith, e))
+nothing-sooner (resized h c) l e = go (entryOf h (l .line)) (leb c relocLimit) refl (noBayToResize h (up4 c) (facts l) .holds) e
+  where
+    go : (o : Option Entry) (t : Bool) → leb c relocLimit ≡ t → (v : Bool)
+        → first beforeNoBay (cause 1 false ∷ cause 3 (not t) ∷ cause 5 v ∷ cause 6 (isNone (over length (over (λ (e : Entry). e .bytes) o))) ∷ []) ≡ 0 → notLive c o ≡ 0
+    go none t p v e = absurd (omega (arith, e))
+    go (some x) true p v e = rw p
+    go (some x) false p v e = absurd (omega (arith, e))
+
+-- an allocation or a resize that nothing earlier refuses, where no handle is live twice
+pub space : (q : Request) (l : Ledger) → ((h : ℕ) → liveIn h (l .line) ≤ 1) → earlier q l ≡ 0 → (step (callOf q) l) .answer .number ≡ cond (fits q (l .line)) 0 5
+space q l o e = space-nested q l o (nothing-sooner q l e)

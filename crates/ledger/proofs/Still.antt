@@ -10,9 +10,13 @@ use lib.Dec.{leb, eqb}
 use borrow.Author.Tests.{eqb-true}
 use Rattle.block_type.specs.Limits.{fixedHeader, relocHeader, relocLimit, fixedLimit, up4, fixedNeed, relocNeed, longestZone, recordSize}
 use Rattle.calls.specs.Calls.{Target, by-handle, by-pointer, Call, allocate-relocatable, allocate-fixed, free-handle, free-pointer, resize, size, read, write, view, compact, sums, check, length-of, enlarge, shrink, roster, Answer}
-use Rattle.ledger.specs.Ledger.{Entry, Bay, Fixed, Line, last, more, Ledger, Lodged, Step, pointerOf, fixedSize, entryOf, bytesOf, liveCount, orElse, before, lowest, reaches, without, onEntries, change, changeFixed, changeBytes, onLast, lodgedAfter, split, highest, joinFirst, strike, ownReaches, orRefuse, orGive, onTop, step}
+use Rattle.ledger.specs.Nested.{Entry, Bay, Fixed, Line, last, more, Ledger, Lodged, Step, pointerOf, fixedSize, entryOf, bytesOf, liveCount, orElse, before, lowest, reaches, without, onEntries, change, changeFixed, changeBytes, onLast, lodgedAfter, split, highest, joinFirst, strike, ownReaches, orRefuse, orGive, onTop, step, after}
 use Rattle.ledger.specs.Space.{Spot, spot, fixedSpots}
-use Rattle.ledger.specs.Still.{Has, first, later, a-call, StaysPut}
+use Rattle.ledger.specs.Still.{Has, first, later, a-call, NotFreed}
+
+-- of any ledger: a fixed block keeps its place and its size
+abbrev pub StaysPut : Type 0
+StaysPut = (cs : List Call) (l : Ledger) (x : Spot) → NotFreed x cs → Has x (fixedSpots (l .line)) → Has x (fixedSpots (after cs l .line))
 
 -- ---- what leaves the fixed blocks as they are
 

@@ -1,14 +1,15 @@
 -- Document 01, 'The ledger'. It is fed the calls alone. It holds no place of a relocatable block and never reads a zone.
--- From elsewhere it has the calls, their answers, and document 01's numbers, and nothing else.
-use mathlib.Core.Bool.{Bool, false, cond, _&&_}
-use mathlib.Core.Option.{Option, none, some}
+-- From elsewhere it has the calls, their answers, the table of refused calls, and document 01's numbers, and nothing else.
+use mathlib.Core.Bool.{Bool, true, cond}
+use mathlib.Core.Option.{Option, none, some, Option·getD}
 use mathlib.Core.List.{List, [], _∷_, _++_, map}
-use Prim.Native.Nat.{ℕ, zero, suc, _+_, _-_, _*_, _/_, _%_, max, min}
+use Prim.Native.Nat.{ℕ, zero, suc, _+_, _-_, _*_, _/_, max, min}
 use lib.ListN.{length, take, drop, replicate}
 use lib.Seq.{sets}
 use lib.Dec.{leb, eqb}
-use Rattle.block_type.specs.Limits.{fixedHeader, relocHeader, fixedLimit, relocLimit, up4, fixedNeed, relocNeed, zoneHeader, masterSize, firstBlock, longestZone, recordSize}
-use Rattle.calls.specs.Calls.{Target, by-handle, by-pointer, Call, allocate-relocatable, allocate-fixed, free-handle, free-pointer, resize, size, read, write, view, compact, sums, check, length-of, enlarge, shrink, roster, Card, Answer, answers, answersTwo, refusal, shows, lists, absentNumber}
+use Rattle.block_type.specs.Limits.{fixedHeader, relocHeader, up4, fixedNeed, relocNeed, zoneHeader, masterSize, firstBlock, recordSize}
+use Rattle.calls.specs.Calls.{Target, by-handle, by-pointer, Call, allocate-relocatable, allocate-fixed, free-handle, free-pointer, resize, size, read, write, view, compact, sums, check, length-of, enlarge, shrink, roster, Card, Answer, answers, answersTwo, shows, lists, refused}
+use Rattle.calls.specs.Table.{Facts, refusalOf, isNone}
 
 -- ---- "State: L; the buffer's length; free handles as a stack; in address order, bays (capacity, live handles with their bytes)
 -- and fixed blocks (place, size, bytes)"
@@ -67,6 +68,11 @@ largest (more b x l) = max (sumOf b) (largest l)
 
 -- ---- looking up
 
+-- f of what is there
+abbrev pub over : {A B : Type 0} → (A → B) → Option A → Option B
+over f none = none
+over f (some a) = some (f a)
+
 abbrev pub orElse : {A : Type 0} → Option A → Option A → Option A
 orElse none o = o
 orElse (some a) o = some a
@@ -84,18 +90,15 @@ abbrev pub fixedOf : ℕ → Line → Option Fixed
 fixedOf p (last b) = none
 fixedOf p (more b x l) = cond (eqb p (pointerOf x)) (some x) (fixedOf p l)
 
-abbrev pub entryBytes : Option Entry → Option (List ℕ)
-entryBytes none = none
-entryBytes (some e) = some (e .bytes)
-
-abbrev pub fixedBytes : Option Fixed → Option (List ℕ)
-fixedBytes none = none
-fixedBytes (some x) = some (x .bytes)
-
 -- the bytes of the block that a stretch names
 abbrev pub bytesOf : Target → Line → Option (List ℕ)
-bytesOf (by-handle h) l = entryBytes (entryOf h l)
-bytesOf (by-pointer p) l = fixedBytes (fixedOf p l)
+bytesOf (by-handle h) l = over (λ (e : Entry). e .bytes) (entryOf h l)
+bytesOf (by-pointer p) l = over (λ (x : Fixed). x .bytes) (fixedOf p l)
+
+-- the sum of the bay that has the handle
+abbrev pub ownSum : ℕ → Line → ℕ
+ownSum h (last b) = cond (isNone (find h (b .entries))) 0 (sumOf b)
+ownSum h (more b x l) = cond (isNone (find h (b .entries))) (ownSum h l) (sumOf b)
 
 abbrev pub liveCount : Line → ℕ
 liveCount (last b) = length (b .entries)
@@ -111,18 +114,14 @@ cards (more b x l) = map card (b .entries) ++ cards l
 
 -- ---- changing bays
 
-abbrev pub before : Bay → Fixed → Option Line → Option Line
-before b x none = none
-before b x (some l) = some (more b x l)
-
--- the lowest bay that passes the test, changed by f
-abbrev pub lowest : (Bay → Bool) → (Bay → Bay) → Line → Option Line
-lowest ok f (last b) = cond (ok b) (some (last (f b))) none
-lowest ok f (more b x l) = cond (ok b) (some (more (f b) x l)) (before b x (lowest ok f l))
-
 -- "the sum reaches the need"
 abbrev pub reaches : ℕ → Bay → Bool
 reaches n b = leb n (sumOf b)
+
+-- the lowest bay whose sum reaches n, changed by f (the last one, where no other's does)
+abbrev pub lowest : ℕ → (Bay → Bay) → Line → Line
+lowest n f (last b) = last (f b)
+lowest n f (more b x l) = cond (reaches n b) (more (f b) x l) (more b x (lowest n f l))
 
 abbrev pub enter : Entry → Bay → Bay
 enter e b = bay (b .capacity) (e ∷ b .entries)
@@ -169,24 +168,14 @@ zeros n = replicate n 0
 abbrev pub newFixed : ℕ → ℕ → Fixed
 newFixed n end = record { place = end - n; bytes = zeros (n - fixedHeader) }
 
-pub record Lodged : Type 0 where
-  pub block : Fixed
-  pub line : Line
-
-abbrev pub lodgedAfter : Bay → Fixed → Option Lodged → Option Lodged
-lodgedAfter b x none = none
-lodgedAfter b x (some r) = some (record { block = r .block; line = more b x (r .line) })
-
--- a fixed block of n bytes at the end of bay b, "with an empty bay after it, and the bay's capacity falls by that size"; rest is
--- what follows the empty bay
-abbrev pub split : ℕ → ℕ → Bay → (Bay → Line) → Lodged
-split n end b rest = record { block = newFixed n end; line = more (bay (b .capacity - n) (b .entries)) (newFixed n end) (rest (bay 0 [])) }
-
--- the highest bay whose sum reaches n; end is where the line ends
-abbrev pub highest : ℕ → ℕ → Line → Option Lodged
-highest n end (last b) = cond (reaches n b) (some (split n end b (λ e. last e))) none
+-- in the highest bay whose sum reaches n, "with an empty bay after it, and the bay's capacity falls by that size"; end is where the line
+-- ends
+abbrev pub highest : ℕ → ℕ → Line → Fixed × Line
+highest n end (last b) = (newFixed n end, more (bay (b .capacity - n) (b .entries)) (newFixed n end) (last (bay 0 [])))
 highest n end (more b x l) =
-    orElse (lodgedAfter b x (highest n end l)) (cond (reaches n b) (some (split n (x .place) b (λ e. more e x l))) none)
+    cond (leb n (largest l))
+    (highest n end l .0, more b x (highest n end l .1))
+    (newFixed n (x .place), more (bay (b .capacity - n) (b .entries)) (newFixed n (x .place)) (more (bay 0 []) x l))
 
 -- "freeing it joins both bays and adds its size"
 abbrev pub joined : Bay → Fixed → Bay → Bay
@@ -196,9 +185,9 @@ abbrev pub joinFirst : Bay → Fixed → Line → Line
 joinFirst b x (last c) = last (joined b x c)
 joinFirst b x (more c y l) = more (joined b x c) y l
 
-abbrev pub strike : ℕ → Line → Option Line
-strike p (last b) = none
-strike p (more b x l) = cond (eqb p (pointerOf x)) (some (joinFirst b x l)) (before b x (strike p l))
+abbrev pub strike : ℕ → Line → Line
+strike p (last b) = last b
+strike p (more b x l) = cond (eqb p (pointerOf x)) (joinFirst b x l) (more b x (strike p l))
 
 -- ---- resize: "new data size a = up4(c), old b"
 
@@ -206,22 +195,15 @@ strike p (more b x l) = cond (eqb p (pointerOf x)) (some (joinFirst b x l)) (bef
 abbrev pub sized : ℕ → List ℕ → List ℕ
 sized a l = take a l ++ zeros (a - length l)
 
--- "of its own bay a − b, or 0 for a ≤ b"; e is the entry where the bay has the handle
-abbrev pub roomIn : ℕ → Bay → Option Entry → Bool
-roomIn a b none = false
-roomIn a b (some e) = leb (a - length (e .bytes)) (sumOf b)
+-- "resize changes or moves one entry": in its own bay if that reaches "a − b, or 0 for a ≤ b", else in the lowest bay whose sum reaches
+-- 4 + a; d are its bytes
+abbrev pub resizeIn : ℕ → ℕ → List ℕ → Line → Line
+resizeIn h a d l =
+    cond (leb (a - length d) (ownSum h l))
+    (onEntries (map (change h (sized a))) l)
+    (lowest (relocHeader + a) (enter (record { handle = h; bytes = sized a d })) (onEntries (without h) l))
 
-abbrev pub ownReaches : ℕ → ℕ → Bay → Bool
-ownReaches h a b = roomIn a b (find h (b .entries))
-
--- in its own bay if that has room, else in the lowest bay whose sum reaches 4 + a, and the old place is freed
-abbrev pub resizeIn : ℕ → ℕ → Entry → Line → Option Line
-resizeIn h a e l =
-    orElse
-    (lowest (ownReaches h a) (λ b. bay (b .capacity) (map (change h (sized a)) (b .entries))) l)
-    (lowest (reaches (relocHeader + a)) (enter (record { handle = e .handle; bytes = sized a (e .bytes) })) (onEntries (without h) l))
-
--- ---- a step: the answer and the ledger after the call. "A refused call leaves the state."
+-- ---- the work of each call that nothing refuses: the answer, and the ledger after the call
 
 pub record Step : Type 0 where
   pub answer : Answer
@@ -230,98 +212,44 @@ pub record Step : Type 0 where
 abbrev pub says : Answer → Ledger → Step
 says a l = record { answer = a; next = l }
 
-abbrev pub refuse : ℕ → Ledger → Step
-refuse n l = says (refusal n) l
-
 abbrev pub done : ℕ → Ledger → Step
 done v l = says (answers v) l
 
 abbrev pub withLine : Line → Ledger → Ledger
 withLine k l = record { buf = l .buf; len = l .len; stack = l .stack; line = k }
 
--- the refusal n where there is nothing
-abbrev pub orRefuse : {X : Type 0} → ℕ → Ledger → Option X → (X → Step) → Step
-orRefuse n l none k = refuse n l
-orRefuse n l (some x) k = k x
+abbrev pub top : List ℕ → ℕ
+top [] = 0
+top (h ∷ hs) = h
 
--- the outcome d where there is nothing
-abbrev pub orGive : {X : Type 0} → Step → Option X → (X → Step) → Step
-orGive d none k = d
-orGive d (some x) k = k x
+abbrev pub rest : List ℕ → List ℕ
+rest [] = []
+rest (h ∷ hs) = hs
 
--- "a relocatable one takes the handle on top of the stack"; 4 where there is none
-abbrev pub onTop : Ledger → List ℕ → (ℕ → List ℕ → Step) → Step
-onTop l [] k = refuse 4 l
-onTop l (h ∷ hs) k = k h hs
-
+-- "a relocatable one takes the handle on top of the stack"
 abbrev pub allocate : ℕ → Ledger → Step
 allocate c l =
-    cond (leb c relocLimit)
-    (onTop l (l .stack) (λ h hs.
-    orRefuse 5 l (lowest (reaches (relocNeed c)) (enter (record { handle = h; bytes = zeros (relocNeed c - relocHeader) })) (l .line)) (λ k.
-    done h (record { buf = l .buf; len = l .len; stack = hs; line = k }))))
-    (refuse 3 l)
+    done (top (l .stack)) (record {
+      buf = l .buf;
+      len = l .len;
+      stack = rest (l .stack);
+      line = lowest (relocNeed c) (enter (record { handle = top (l .stack); bytes = zeros (relocNeed c - relocHeader) })) (l .line);
+    })
 
 abbrev pub allocateFixed : ℕ → Ledger → Step
-allocateFixed c l =
-    cond (leb c fixedLimit)
-    (orRefuse 5 l (highest (fixedNeed c) (l .len) (l .line)) (λ r. done (pointerOf (r .block)) (withLine (r .line) l)))
-    (refuse 3 l)
+allocateFixed c l = done (pointerOf (highest (fixedNeed c) (l .len) (l .line) .0)) (withLine (highest (fixedNeed c) (l .len) (l .line) .1) l)
 
 -- "freeing a handle puts it back there"
 abbrev pub freeHandle : ℕ → Ledger → Step
-freeHandle h l =
-    orRefuse 6 l (entryOf h (l .line)) (λ e.
-    done 0 (record { buf = l .buf; len = l .len; stack = h ∷ l .stack; line = onEntries (without h) (l .line) }))
+freeHandle h l = done 0 (record { buf = l .buf; len = l .len; stack = h ∷ l .stack; line = onEntries (without h) (l .line) })
 
-abbrev pub freePointer : ℕ → Ledger → Step
-freePointer p l = orRefuse 7 l (strike p (l .line)) (λ k. done 0 (withLine k l))
-
--- "resize changes or moves one entry"
-abbrev pub resizeEntry : ℕ → ℕ → Ledger → Step
-resizeEntry h c l =
-    orRefuse 6 l (entryOf h (l .line)) (λ e.
-    cond (leb c relocLimit) (orRefuse 5 l (resizeIn h (up4 c) e (l .line)) (λ k. done 0 (withLine k l))) (refuse 3 l))
-
--- 6 or 7, then 8 where offset + count is above the data size, then 10 where the second buffer is too short
-abbrev pub readBytes : Target → ℕ → ℕ → List ℕ → Ledger → Step
-readBytes t i n second l =
-    orGive (says (shows (absentNumber t) second) l) (bytesOf t (l .line)) (λ v.
-    cond (leb (i + n) (length v))
-    (cond (leb n (length second)) (says (shows 0 (take n (drop i v) ++ drop n second)) l) (says (shows 10 second) l))
-    (says (shows 8 second) l))
-
--- "write replaces bytes"
-abbrev pub writeBytes : Target → ℕ → ℕ → List ℕ → Ledger → Step
-writeBytes t i n second l =
-    orGive (says (shows (absentNumber t) second) l) (bytesOf t (l .line)) (λ v.
-    cond (leb (i + n) (length v))
-    (cond (leb n (length second))
-    (says (shows 0 second) (withLine (changeBytes t (λ w. sets w i (take n second)) (l .line)) l))
-    (says (shows 10 second) l))
-    (says (shows 8 second) l))
-
--- "of length 0 when refused; it carries no number"
-abbrev pub viewBytes : Target → ℕ → ℕ → Ledger → Step
-viewBytes t i n l =
-    orGive (says (shows 0 []) l) (bytesOf t (l .line)) (λ v.
-    cond (leb (i + n) (length v)) (says (shows 0 (take n (drop i v))) l) (says (shows 0 []) l))
-
-abbrev pub sizeOfBlock : Target → Ledger → Step
-sizeOfBlock t l = orGive (refuse (absentNumber t) l) (bytesOf t (l .line)) (λ v. done (length v) l)
-
-abbrev pub rosterInto : List ℕ → Ledger → Step
-rosterInto second l =
-    cond (leb (recordSize * liveCount (l .line)) (length second))
-    (says (lists (liveCount (l .line)) (cards (l .line)) (drop (recordSize * liveCount (l .line)) second)) l)
-    (says (shows 10 second) l)
+-- the bytes of a block that is there
+abbrev pub held : Target → Ledger → List ℕ
+held t l = Option·getD (bytesOf t (l .line)) []
 
 -- "enlarge and shrink change L and the last capacity"
 abbrev pub enlargeBy : ℕ → Ledger → Step
-enlargeBy k l =
-    cond (eqb (k % 4) 0 && leb (l .len + k) (l .buf) && leb (l .len + k) longestZone)
-    (done 0 (record { buf = l .buf; len = l .len + k; stack = l .stack; line = onLast (λ n. n + k) (l .line) }))
-    (refuse 9 l)
+enlargeBy k l = done 0 (record { buf = l .buf; len = l .len + k; stack = l .stack; line = onLast (λ n. n + k) (l .line) })
 
 -- "strips s, the lesser of k rounded down to a multiple of 4 and the last bay's sum"
 abbrev pub stripped : ℕ → Ledger → ℕ
@@ -331,25 +259,47 @@ abbrev pub shrinkBy : ℕ → Ledger → Step
 shrinkBy k l =
     done (stripped k l) (record { buf = l .buf; len = l .len - stripped k l; stack = l .stack; line = onLast (λ n. n - stripped k l) (l .line) })
 
-abbrev pub step : Call → Ledger → Step
-step (allocate-relocatable c) l = allocate c l
-step (allocate-fixed c) l = allocateFixed c l
-step (free-handle h) l = freeHandle h l
-step (free-pointer p) l = freePointer p l
-step (resize h c) l = resizeEntry h c l
-step (size t) l = sizeOfBlock t l
-step (read t i n second) l = readBytes t i n second l
-step (write t i n second) l = writeBytes t i n second l
-step (view t i n) l = viewBytes t i n l
+abbrev pub work : Call → Ledger → Step
+work (allocate-relocatable c) l = allocate c l
+work (allocate-fixed c) l = allocateFixed c l
+work (free-handle h) l = freeHandle h l
+work (free-pointer p) l = done 0 (withLine (strike p (l .line)) l)
+work (resize h c) l = done 0 (withLine (resizeIn h (up4 c) (held (by-handle h) l) (l .line)) l)
+work (size t) l = done (length (held t l)) l
+work (read t i n second) l = says (shows 0 (take n (drop i (held t l)) ++ drop n second)) l
+-- "write replaces bytes"
+work (write t i n second) l = says (shows 0 second) (withLine (changeBytes t (λ w. sets w i (take n second)) (l .line)) l)
+work (view t i n) l = says (shows 0 (take n (drop i (held t l)))) l
 -- "compact changes nothing"; it answers the largest sum
-step compact l = done (largest (l .line)) l
-step sums l = says (answersTwo (total (l .line)) (largest (l .line))) l
+work compact l = done (largest (l .line)) l
+work sums l = says (answersTwo (total (l .line)) (largest (l .line))) l
 -- "check answers yes and the number of live handles"
-step check l = says (answersTwo 1 (liveCount (l .line))) l
-step length-of l = done (l .len) l
-step (enlarge k) l = enlargeBy k l
-step (shrink k) l = shrinkBy k l
-step (roster second) l = rosterInto second l
+work check l = says (answersTwo 1 (liveCount (l .line))) l
+work length-of l = done (l .len) l
+work (enlarge k) l = enlargeBy k l
+work (shrink k) l = shrinkBy k l
+work (roster second) l = says (lists (liveCount (l .line)) (cards (l .line)) (drop (recordSize * liveCount (l .line)) second)) l
+
+-- ---- a step: "Refusals follow the table, by this state and the call; 1 never comes", "A refused call leaves the state"
+
+abbrev pub facts : Ledger → Facts
+facts l = record {
+  well = true;
+  buf = l .buf;
+  len = l .len;
+  free = l .stack;
+  size = λ t. over length (bytesOf t (l .line));
+  largest = largest (l .line);
+  own = λ h. ownSum h (l .line);
+  live = liveCount (l .line);
+}
+
+-- n is the refusal number
+abbrev pub stepWith : ℕ → Call → Ledger → Step
+stepWith n c l = cond (eqb n 0) (work c l) (says (refused c n) l)
+
+abbrev pub step : Call → Ledger → Step
+step c l = stepWith (refusalOf c (facts l)) c l
 
 -- ---- from initialization on
 

@@ -1,3 +1,4 @@
 pub mod Ledger
+pub mod Nested
 pub mod Space
 pub mod Still

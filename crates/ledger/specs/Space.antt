@@ -1,13 +1,14 @@
 -- What a ledger says of space and of places: each bay's sum, which of them reaches what is needed of it, and where fixed blocks are.
-use mathlib.Core.Bool.{Bool, cond, _||_}
+use mathlib.Core.Bool.{Bool, _||_}
 use mathlib.Core.Option.{Option, none, some}
 use mathlib.Core.List.{List, [], _∷_}
 use Prim.Native.Nat.{ℕ, _+_, _-_}
 use lib.ListN.{length}
 use lib.Dec.{leb}
-use Rattle.block_type.specs.Limits.{fixedLimit, relocLimit, up4, fixedNeed, relocNeed, relocHeader}
+use Rattle.block_type.specs.Limits.{up4, fixedNeed, relocNeed, relocHeader}
 use Rattle.calls.specs.Calls.{Call, allocate-relocatable, allocate-fixed, resize}
-use Rattle.ledger.specs.Ledger.{Entry, Bay, Line, last, more, Ledger, sumOf, find, entryOf, fixedSize}
+use Rattle.calls.specs.Table.{first, beforeNoBay, causes}
+use Rattle.ledger.specs.Ledger.{Entry, Bay, Line, last, more, Ledger, sumOf, find, fixedSize, facts}
 
 -- ---- where fixed blocks are
 
@@ -59,19 +60,6 @@ abbrev pub fits : Request → Line → Bool
 fits q (last b) = leb (needOf q b) (sumOf b)
 fits q (more b x l) = leb (needOf q b) (sumOf b) || fits q l
 
--- ---- what refuses it earlier in the order than "no space"; 0 for nothing
-
--- 4 where there is no handle
-abbrev pub noHandle : List ℕ → ℕ
-noHandle [] = 4
-noHandle (h ∷ hs) = 0
-
--- 6 where the handle is not live, else 3 where c is above the limit
-abbrev pub notLive : ℕ → Option Entry → ℕ
-notLive c none = 6
-notLive c (some e) = cond (leb c relocLimit) 0 3
-
+-- what refuses it earlier in the table's order than "no bay as required"; 0 for nothing
 abbrev pub earlier : Request → Ledger → ℕ
-earlier (relocatable c) l = cond (leb c relocLimit) (noHandle (l .stack)) 3
-earlier (fixed c) l = cond (leb c fixedLimit) 0 3
-earlier (resized h c) l = notLive c (entryOf h (l .line))
+earlier q l = first beforeNoBay (causes (callOf q) (facts l))

@@ -4,8 +4,7 @@ use mathlib.Core.List.{List, [], _∷_}
 use Prim.Native.Nat.{_+_}
 use Rattle.block_type.specs.Limits.{fixedHeader}
 use Rattle.calls.specs.Calls.{Call, free-pointer}
-use Rattle.ledger.specs.Ledger.{Ledger, after}
-use Rattle.ledger.specs.Space.{Spot, fixedSpots}
+use Rattle.ledger.specs.Space.{Spot}
 
 -- x is one of the spots
 pub data Has (x : Spot) : List Spot → Type 0 where
@@ -16,7 +15,3 @@ pub data Has (x : Spot) : List Spot → Type 0 where
 pub data NotFreed (x : Spot) : List Call → Type 0 where
   no-call : NotFreed x []
   a-call : {c : Call} {cs : List Call} → (c ≡ free-pointer (x .place + fixedHeader) → ⊥) → NotFreed x cs → NotFreed x (c ∷ cs)
-
--- of any ledger: a fixed block keeps its place and its size
-abbrev pub StaysPut : Type 0
-StaysPut = (cs : List Call) (l : Ledger) (x : Spot) → NotFreed x cs → Has x (fixedSpots (l .line)) → Has x (fixedSpots (after cs l .line))

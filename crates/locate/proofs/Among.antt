@@ -13,7 +13,7 @@ use Rattle.structure.specs.Structure.{Block, free, fixed, reloc, size}
 use Rattle.access.specs.Edit as Edit
 use Rattle.row.specs.Row.{kindB}
 use Rattle.calls.specs.Calls.{Target, by-handle, by-pointer}
-use Rattle.zone.specs.Bays.{Bays, last, more, over, orElse, findS, findF}
+use Rattle.zone.specs.PickBays.{Bays, last, more, over, orElse, findS, findF}
 use Rattle.zone.specs.Bay.{Item, get, items, Cell, free as gapCell, held}
 use Rattle.zone.specs.OnBays.{Fixed, pointer, content}
 use Rattle.zone.specs.ZoneBays.{zoneBays}

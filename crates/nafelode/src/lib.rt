@@ -8,7 +8,7 @@ ghost use Rattle.calls.specs.Calls.{allocate-relocatable, allocate-fixed, free-
 ghost use Rattle.calls.specs.Calls.{told, shows, answersTwo, summed};
 ghost use Rattle.zone.specs.Promise.{Promise, InitPromise};
 ghost use Rattle.locate.specs.Named.{targetOf};
-ghost use Rattle.stretch.specs.Stretch.{viewStart, viewLength};
+ghost use Rattle.zone.specs.View.{viewStart, viewLength};
 ghost use Rattle.zone.specs.Roster.{rosterAnswer};
 pub use calls::Told;
 pub use census::Counts;

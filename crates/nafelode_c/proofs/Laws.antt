@@ -14,6 +14,8 @@ use Rattle.calls.specs.Calls.{Target, by-handle, by-pointer, Answer, size, read
 use Rattle.zone.specs.Promise.{Promise}
 use Rattle.locate.proofs.Data.{target-fits}
 use Rattle.tell.proofs.Opened.{fields-of}
+use Rattle.zone.specs.View as View
+use Rattle.nafelode.proofs.ViewPlace.{start-tied, length-tied}
 use Rattle.stretch.specs.Stretch.{viewStart, viewLength, Planned, refused, granted}
 use Rattle.stretch.proofs.Laws.{accepted, planned-order, planned-fits, view-start, view-length}
 use Rattle.stretch.proofs.Outcomes.{view-there}
@@ -64,17 +66,23 @@ module _ (s : List ℕ) (t : Target) (i n number start end : ℕ) (p : Planned s
   length-word = record { fits = omega (arith, small) }
 
   module _ (u : Target) (e : t ≡ u) where
-    pub offset-named : start ≡ viewStart u i n s
-    offset-named = let q = ap (λ (x : ℕ × ℕ). x .1) (view-start s t i n number start end 0 0 p) in rw (← e) (omega (arith, q))
+    offset-walked : start ≡ viewStart u i n s
+    offset-walked = let q = ap (λ (x : ℕ × ℕ). x .1) (view-start s t i n number start end 0 0 p) in rw (← e) (omega (arith, q))
 
-    pub length-named : end - start ≡ viewLength u i n s
-    length-named =
+    length-walked : end - start ≡ viewLength u i n s
+    length-walked =
         let q = view-length s t i n number start end p in
         rw (← e) (omega (arith, q, length-take (end - start) (drop start s), length-drop start s, planned-fits s t i n n number start end p))
 
+    pub offset-named : Bytes s → start ≡ View.viewStart u i n s
+    offset-named y = offset-walked ∙ start-tied u i n s y
+
+    pub length-named : Bytes s → end - start ≡ View.viewLength u i n s
+    length-named y = length-walked ∙ length-tied u i n s y
+
     -- the part is what the view shows
     pub view-named : Bytes s → Promise (view u i n) s (shows 0 (slice s start (end - start))) s
-    view-named y = view-promised u s i n (slice s start (end - start)) y (ap₂ (slice s) offset-named length-named ∙ view-there u i n s y)
+    view-named y = view-promised u s i n (slice s start (end - start)) y (ap₂ (slice s) offset-walked length-walked ∙ view-there u i n s y)
 
   pub view-in-zone : start + (end - start) ≤ lengthField s
   view-in-zone = omega (arith, in-zone, view-ordered)

@@ -14,7 +14,8 @@ use Rattle.structure.specs.Structure.{Block, free, fixed, reloc, size, sizes, s
 use Rattle.structure.proofs.Sound.{valid}
 use Rattle.walk.specs.Walker.{freeTotal}
 use Rattle.calls.specs.Calls.{sums, check, answersTwo, summed}
-use Rattle.zone.specs.OnBytes.{callBytes}
+use Rattle.zone.specs.OnBytes.{Result, callBytes}
+use Rattle.zone.proofs.Tied.{call-same}
 use Rattle.zone.specs.Promise.{Promise}
 use Rattle.zone.specs.Walker.{Described, Walked, codeOf, describe, walked, walkStart, walkStep}
 use Rattle.tell.proofs.Opened.{fields-of}
@@ -40,13 +41,13 @@ total-small s y = go (wellFormed s) refl
 module _ (s : List ℕ) (y : Bytes s) where
   module _ (n total largest : ℕ) (p : Promise sums s (summed n total largest) s) where
     pub total-word : Fits w32 total
-    total-word = record { fits = omega (arith, p .answer .value, total-small s y) }
+    total-word = record { fits = omega (arith, p .answer .value, ap (λ (r : Result). r .answer .value) (call-same sums s y), total-small s y) }
 
     pub largest-word : Fits w32 largest
-    largest-word = record { fits = omega (arith, p .answer .second, largest-total s, total-small s y) }
+    largest-word = record { fits = omega (arith, p .answer .second, ap (λ (r : Result). r .answer .second) (call-same sums s y), largest-total s, total-small s y) }
 
   pub count-word : (b n : ℕ) → Promise check s (answersTwo b n) s → Fits w32 n
-  count-word b n p = record { fits = omega (arith, p .answer .second, check-few s y) }
+  count-word b n p = record { fits = omega (arith, p .answer .second, ap (λ (r : Result). r .answer .second) (call-same check s y), check-few s y) }
 
 -- ---- the walker
 

@@ -11,7 +11,7 @@ ghost use Rattle.zone.specs.Promise.{Promise, InitPromise};
 ghost use Rattle.zone.specs.Census.{counted, census};
 ghost use Rattle.zone.specs.Walker.{walked, walkStart, walkStep};
 ghost use Rattle.locate.specs.Named.{targetOf};
-ghost use Rattle.stretch.specs.Stretch.{viewStart, viewLength};
+ghost use Rattle.zone.specs.View.{viewStart, viewLength};
 ghost use Rattle.zone.specs.Roster.{rosterAnswer};
 ghost use Rattle.nafelode_c.specs.Named.{named};
 use nafelode::Block;

@@ -7,7 +7,8 @@ use lib.Dec.{eqb, ltb}
 use Rattle.bigendian.specs.BigEndian.{fromBE, slice}
 use Rattle.memory.specs.Zeros.{allZero}
 use Rattle.calls.specs.Calls.{Call, by-handle, allocate-relocatable, allocate-fixed, free-handle, free-pointer, resize, read, write, compact, enlarge, shrink}
-use Rattle.zone.specs.OnBytes.{Result, callBytes, initBytes}
+use Rattle.zone.specs.Call as Zone
+use Rattle.zone.specs.Call.{Result}
 
 -- ---- what a record asks
 
@@ -69,9 +70,9 @@ unfoldable pub withByte : Result → Ran
 withByte r = ran (line (r .answer .number) (getD (r .answer .bytes) 0 0)) (r .bytes)
 
 unfoldable pub act : Action → List ℕ → Ran
-act (initialize n m) bs = withValue (initBytes n m bs)
-act (call c) bs = withValue (callBytes c bs)
-act (read-byte h i) bs = withByte (callBytes (read (by-handle h) i 1 (0 ∷ [])) bs)
+act (initialize n m) bs = withValue (Zone.initialize n m bs)
+act (call c) bs = withValue (Zone.call c bs)
+act (read-byte h i) bs = withByte (Zone.call (read (by-handle h) i 1 (0 ∷ [])) bs)
 act nothing bs = ran skip bs
 
 abbrev pub runRecord : List ℕ → List ℕ → Ran

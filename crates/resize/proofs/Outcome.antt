@@ -14,8 +14,9 @@ use Rattle.block_type.specs.Limits.{relocLimit, up4}
 use Rattle.format.specs.WellFormed.{wellFormed}
 use Rattle.structure.specs.Structure.{decode}
 use Rattle.calls.specs.Calls.{by-handle, Answer, answers, shows, Call, resize, size, view}
-use Rattle.zone.specs.Bays.{Bays, last, more, onLow, over, orElse, findS, mapS}
-use Rattle.zone.specs.Bay.{Item, is, get, count, alter, remove, Cell, items, baySum, release, sized, resized, reshape, roomFor}
+use Rattle.zone.specs.PickBays.{Bays, last, more, onLow, over, orElse, findS, mapS}
+use Rattle.zone.specs.Bay.{Item, is, get, alter, Cell, items, baySum, release, sized, resized, reshape}
+use Rattle.zone.specs.Counted.{count, remove, roomFor}
 use Rattle.zone.specs.OnBays.{Fixed, orRefuse, orGive, done, refuse, says, own, lookup, placeLow, resizeIn, withBays, step}
 use Rattle.zone.specs.ZoneBays.{zoneBays}
 use Rattle.zone.specs.OnBytes.{Zone, inBays, Result, callBytes}

@@ -20,7 +20,7 @@ use Rattle.find_bay.specs.Spots.{freeTotal, Spot, put, Choice, none as noSpot, 
 use Rattle.release.specs.Release.{release}
 use Rattle.surgery.proofs.Spots.{bay-is}
 use Rattle.calls.specs.Calls.{told, refusal, resize}
-use Rattle.zone.specs.Bays.{Bays, onLow, mapS, orElse}
+use Rattle.zone.specs.PickBays.{Bays, onLow, mapS, orElse}
 use Rattle.zone.specs.Bay as Bay
 use Rattle.zone.specs.Bay.{Item, itemSize, Cell, sized, resized}
 use Rattle.zone.specs.OnBays.{Fixed, own, reaches, placeLow, orRefuse, done, withBays, step}

@@ -17,8 +17,8 @@ use Rattle.structure.specs.Valid.{handlesOf}
 use Rattle.access.specs.Edit.{dataOf, edit}
 use Rattle.find_bay.specs.Spots.{freeTotal, Spot, spot, put, holes, Choice, none as noSpot, some as theSpot, firstFit, used, gapOf, carve, orElse, settle}
 use Rattle.surgery.proofs.Spots.{hole-is}
-use Rattle.zone.specs.Bays as Bays
-use Rattle.zone.specs.Bays.{Bays, last, more, findS, mapS, AllS}
+use Rattle.zone.specs.PickBays as Bays
+use Rattle.zone.specs.PickBays.{Bays, last, more, findS, mapS, AllS}
 use Rattle.zone.specs.Bay as Bay
 use Rattle.zone.specs.Bay.{Item, itemSize, get, Cell, free as gapCell, held, baySum, items, gap, packed, fit, sized}
 use Rattle.zone.specs.OnBays.{Fixed}

@@ -22,7 +22,7 @@ use Rattle.release.proofs.Find.{leadOf, Mid, mid-of}
 use Rattle.surgery.proofs.Sound.{handle-once, tiled-left, tiled-right}
 use Rattle.surgery.proofs.Spots.{IsBay}
 use Rattle.calls.specs.Calls.{told, refusal, resize}
-use Rattle.zone.specs.Bays.{Bays, onLow, over, orElse, mapS}
+use Rattle.zone.specs.PickBays.{Bays, onLow, over, orElse, mapS}
 use Rattle.zone.specs.Bay as Bay
 use Rattle.zone.specs.Bay.{Item, Cell, growHere, sized}
 use Rattle.zone.specs.OnBays.{Fixed, Out, own, lookup, placeLow, resizeIn, orRefuse, done, refuse, withBays}

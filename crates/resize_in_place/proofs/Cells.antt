@@ -17,7 +17,7 @@ use Rattle.find_bay.specs.Spots.{gapOf, freeTotal}
 use Rattle.compact_bay.proofs.Squeeze.{handles-append}
 use Rattle.release.proofs.Find.{leadOf}
 use Rattle.surgery.proofs.Sound.{firstFree}
-use Rattle.zone.specs.Bays.{Bays, last, more, over, onLow}
+use Rattle.zone.specs.PickBays.{Bays, last, more, over, onLow}
 use Rattle.zone.specs.Bay.{Item, Cell, free as gapCell, held, gap, sized, resized, growInto, inPlace}
 use Rattle.zone.specs.OnBays.{Fixed, own}
 use Rattle.zone.specs.ZoneBays.{zoneBays}

@@ -19,7 +19,7 @@ use Rattle.find_bay.specs.Spots.{Spot, put, Choice, none as noSpot, some as the
 use Rattle.release.proofs.Find.{leadOf}
 use Rattle.surgery.proofs.Sound.{handle-once}
 use Rattle.calls.specs.Calls.{told, resize}
-use Rattle.zone.specs.Bays.{Bays, onLow, over}
+use Rattle.zone.specs.PickBays.{Bays, onLow, over}
 use Rattle.zone.specs.Bay as Bay
 use Rattle.zone.specs.Bay.{Item, Cell, free as gapCell, held, alter, items, baySize, total, gap, packed, sized, resized, growInto, inPlace, growHere}
 use Rattle.zone.specs.OnBays.{Fixed, own}

@@ -10,7 +10,7 @@ use Rattle.format.proofs.Count.{occurs}
 use Rattle.structure.specs.Structure.{Block, free, fixed, reloc}
 use Rattle.structure.specs.Valid.{handlesOf}
 use Rattle.find_bay.specs.Spots.{Spot, baysFrom, bays, Choice, none, some}
-use Rattle.zone.specs.Bays.{Bays, onLow, AllS}
+use Rattle.zone.specs.PickBays.{Bays, onLow, AllS}
 use Rattle.zone.specs.Bay.{Cell}
 use Rattle.zone.specs.OnBays.{Fixed, own}
 use Rattle.zone.specs.ZoneBays.{zoneBays}

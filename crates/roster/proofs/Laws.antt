@@ -24,7 +24,7 @@ use Rattle.access.proofs.Size.{size-none}
 use Rattle.release.proofs.Act.{len-write, write-write}
 use Rattle.calls.specs.Calls.{Card, Answer, roster, shows, lists}
 use Rattle.zone.specs.OnBytes.{callBytes}
-use Rattle.zone.specs.Bays.{Bays}
+use Rattle.zone.specs.PickBays.{Bays}
 use Rattle.zone.specs.Bay.{Cell}
 use Rattle.zone.specs.OnBays.{Fixed}
 use Rattle.zone.specs.Group.{group}

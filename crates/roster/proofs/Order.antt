@@ -18,7 +18,7 @@ use Rattle.structure.proofs.Table.{count-is}
 use Rattle.access.specs.Edit.{dataOf, placeIn, dataIn, IsZone}
 use Rattle.access.proofs.Zone.{whole-of}
 use Rattle.calls.specs.Calls.{Card}
-use Rattle.zone.specs.Bays.{Bays, last, more, concatS}
+use Rattle.zone.specs.PickBays.{Bays, last, more, concatS}
 use Rattle.zone.specs.Bay.{Item, Cell, free as gapCell, held, items}
 use Rattle.zone.specs.OnBays.{Fixed, card}
 use Rattle.zone.specs.Group.{inFront, group}

@@ -21,6 +21,7 @@ use Rattle.zone.specs.OnBytes.{callBytes, inBays}
 use Rattle.zone.specs.Group.{group}
 use Rattle.zone.specs.Roster.{cardsIn}
 use Rattle.zone.specs.Promise.{Promise}
+use Rattle.zone.proofs.Tied.{promise-of}
 use Rattle.tell.proofs.Outcomes.{unchanged}
 use Rattle.tell.proofs.CheckLaws.{liveS}
 use Rattle.roster.specs.Listed.{Rostered, rosterAnswer}
@@ -83,7 +84,7 @@ same-next zone entry = go (hasRoom zone entry) refl
     go false e = rw e
 
 pub roster-promise : (zone entry exit : List ℕ) (n v : ℕ) → Bytes zone → Rostered zone entry n v exit → Promise (roster entry) zone (rosterAnswer n v exit) zone
-roster-promise zone entry exit n v y r = record {
-  answer = record { number = r .number; value = r .value; second = no-second zone entry; bytes = r .later; records = r .records };
-  bytes = sym (unchanged (roster entry) zone y (same-next zone entry));
-}
+roster-promise zone entry exit n v y r =
+    promise-of (roster entry) zone zone (rosterAnswer n v exit) y
+    (record { number = r .number; value = r .value; second = no-second zone entry; bytes = r .later; records = r .records })
+    (sym (unchanged (roster entry) zone y (same-next zone entry)))

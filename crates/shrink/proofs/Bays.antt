@@ -13,7 +13,7 @@ use Rattle.structure.specs.Structure.{Structure, sizes, len, encode, decode}
 use Rattle.calls.specs.Calls.{told, answers, shrink}
 use Rattle.find_bay.specs.Spots.{Spot}
 use Rattle.compact_bay.proofs.Squeeze.{used-sizes}
-use Rattle.zone.specs.Bays.{onLast, lastS}
+use Rattle.zone.specs.PickBays.{onLast, lastS}
 use Rattle.zone.specs.Bay.{Cell, baySum, takeHigh}
 use Rattle.zone.specs.OnBays.{Out, done, step}
 use Rattle.zone.specs.ZoneBays.{zoneBays}

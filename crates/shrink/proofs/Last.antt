@@ -6,7 +6,7 @@ use Prim.Native.Nat.{ℕ}
 use lib.Dec.{leb·zero}
 use Rattle.structure.specs.Structure.{Structure, Block, start}
 use Rattle.find_bay.specs.Spots.{freeTotal, Spot, Choice, none, some, bays}
-use Rattle.zone.specs.Bays.{Bays, onLast, lastS}
+use Rattle.zone.specs.PickBays.{Bays, onLast, lastS}
 use Rattle.zone.specs.Bay.{Cell, baySum, takeHigh}
 use Rattle.zone.specs.OnBays.{Fixed}
 use Rattle.zone.specs.Group.{group, flatten}

@@ -10,7 +10,7 @@ use Rattle.bigendian.specs.BigEndian.{Bytes}
 use Rattle.format.specs.WellFormed.{wellFormed}
 use Rattle.structure.specs.Structure.{decode}
 use Rattle.calls.specs.Calls.{Answer, Call, shrink, sums, length-of}
-use Rattle.zone.specs.Bays.{Bays, last, more, onLast, sumS, lastS}
+use Rattle.zone.specs.PickBays.{Bays, last, more, onLast, sumS, lastS}
 use Rattle.zone.specs.Bay.{Cell, baySum, total, takeHigh}
 use Rattle.zone.specs.OnBays.{Fixed, done, step}
 use Rattle.zone.specs.ZoneBays.{zoneBays}

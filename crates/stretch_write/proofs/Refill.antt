@@ -18,7 +18,7 @@ use Rattle.access.proofs.Store.{write-right, write-left, length-words, length-h
 use Rattle.row.specs.Row.{Sound, bytesOf}
 use Rattle.row.proofs.Laws.{enc-of}
 use Rattle.calls.specs.Calls.{Target, by-handle, by-pointer}
-use Rattle.zone.specs.Bays.{Bays, last, more, mapS, onFixed}
+use Rattle.zone.specs.PickBays.{Bays, last, more, mapS, onFixed}
 use Rattle.zone.specs.Bay as Bay
 use Rattle.zone.specs.Bay.{Item, Cell, free as gapCell, held}
 use Rattle.zone.specs.OnBays.{Fixed, alterFixed, rewrite}

@@ -12,7 +12,7 @@ use Rattle.format.specs.WellFormed.{wellFormed, countOf, splitBlocks, zoneOf, f
 use Rattle.structure.specs.Structure.{Block, free, fixed, reloc, decode, decodeZone, start, relocCount}
 use Rattle.structure.proofs.Table.{Whole, whole, counts-decs}
 use Rattle.structure.proofs.Sound.{valid}
-use Rattle.zone.specs.Bays.{Bays, last, more, sumS}
+use Rattle.zone.specs.PickBays.{Bays, last, more, sumS}
 use Rattle.zone.specs.Bay.{Item, Cell, free as gapCell, held, items}
 use Rattle.zone.specs.OnBays.{Fixed}
 use Rattle.zone.specs.Group.{inFront, group}

@@ -8,11 +8,12 @@ use lib.ListN.{length}
 use Rattle.bigendian.specs.BigEndian.{Bytes}
 use Rattle.format.specs.WellFormed.{wellFormed}
 use Rattle.structure.specs.Structure.{decode, start}
-use Rattle.zone.specs.Bays.{Bays, last, more, sumS, maxS}
+use Rattle.zone.specs.PickBays.{Bays, last, more, sumS, maxS}
 use Rattle.zone.specs.OnBytes.{callBytes, inBays}
 use Rattle.zone.specs.OnBays.{Fixed, step}
 use Rattle.zone.specs.ZoneBays.{zoneBays}
 use Rattle.zone.specs.Promise.{Promise}
+use Rattle.zone.proofs.Tied.{promise-of}
 use Rattle.zone.proofs.Run.{refused, well-whole, well-stored}
 use Rattle.zone.proofs.FixedWalk.{sumsS, free-walk}
 use Rattle.zone.specs.Claim.{freeIn}
@@ -105,14 +106,11 @@ pub check-bytes : (s : List ℕ) → Bytes s → (callBytes check s) .bytes ≡ 
 check-bytes s y = unchanged check s y refl
 
 -- an answer that is the definition's, of a call that changes no byte, is what the call promises
-pub promised : (c : Call) (s : List ℕ) (a : Answer) → a ≡ (callBytes c s) .answer → (callBytes c s) .bytes ≡ s → Promise c s a s
-promised c s a e b = record {
-  answer = record {
-    number = ap (λ (x : Answer). x .number) e;
-    value = ap (λ (x : Answer). x .value) e;
-    second = ap (λ (x : Answer). x .second) e;
-    bytes = ap (λ (x : Answer). x .bytes) e;
-    records = subst (λ (x : Answer). List·Permᴰ (a .records) (x .records)) e (Permᴰ·refl (a .records));
-  };
-  bytes = sym b;
-}
+pub promised : (c : Call) (s : List ℕ) (a : Answer) → Bytes s → a ≡ (callBytes c s) .answer → (callBytes c s) .bytes ≡ s → Promise c s a s
+promised c s a y e b = promise-of c s s a y (record {
+  number = ap (λ (x : Answer). x .number) e;
+  value = ap (λ (x : Answer). x .value) e;
+  second = ap (λ (x : Answer). x .second) e;
+  bytes = ap (λ (x : Answer). x .bytes) e;
+  records = subst (λ (x : Answer). List·Permᴰ (a .records) (x .records)) e (Permᴰ·refl (a .records));
+}) (sym b)

@@ -3,7 +3,8 @@ use mathlib.Core.Path.{_≡_, refl, ap, _∙_}
 use mathlib.Core.List.{List, [], _∷_, _++_, map, List·Permᴰ, List·Permᴰ·nil, List·Permᴰ·cons, List·Permᴰ·trans, Permᴰ·append-left, Permᴰ·append-right, Permᴰ·append-nil}
 use Prim.Native.Nat.{ℕ, _+_, _-_, _%_, _≤_}
 use native.Mathlib.Omega.{arith}
-use Rattle.zone.specs.Bay.{Item, itemSize, total, alter, get, count, Cell, baySize, baySum, items, gap, compactBay, put, takeHigh, edit, sized, resized, reshape, roomFor}
+use Rattle.zone.specs.Bay.{Item, itemSize, total, alter, get, Cell, baySize, baySum, items, gap, compactBay, put, takeHigh, edit, sized, resized, reshape}
+use Rattle.zone.specs.Counted.{count, roomFor}
 use Rattle.zone.proofs.BayLaws.{bsize-split, bsize-gap, items-gap, bsize-weld, items-weld, put-keeps, tidy-size, tidy-items, cut-less, release-size, release-items, edit-size, edit-items, perm-total, perm-map, perm-remove, perm-count, perm-get, perm-length}
 use Rattle.zone.proofs.Places.{alter-fsize}
 use Rattle.zone.proofs.Resize.{reshape-sound}

@@ -9,11 +9,12 @@ use lib.ListN.{length, length-replicate, length-map}
 use lib.Dec.{leb, eqb, eqb·suc-zero}
 use Rattle.block_type.specs.Limits.{relocHeader, relocLimit, fixedLimit, up4, fixedNeed, relocNeed, longestZone, recordSize}
 use Rattle.calls.specs.Calls.{Target, by-handle, by-pointer, Call, allocate-relocatable, allocate-fixed, free-handle, free-pointer, resize, size, read, write, view, compact, sums, check, length-of, enlarge, shrink, roster, Answer}
-use Rattle.ledger.specs.Ledger as Text
-use Rattle.ledger.specs.Ledger.{Entry, Line, Ledger}
-use Rattle.zone.specs.Bays as Bays
-use Rattle.zone.specs.Bays.{Bays, over, AllS, findF, onLow, mapS, onFixed}
-use Rattle.zone.specs.Bay.{Item, is, itemSize, total, remove, alter, get, count, sized, resized, roomFor}
+use Rattle.ledger.specs.Nested as Text
+use Rattle.ledger.specs.Nested.{Entry, Line, Ledger}
+use Rattle.zone.specs.PickBays as Bays
+use Rattle.zone.specs.PickBays.{Bays, over, AllS, findF, onLow, mapS, onFixed}
+use Rattle.zone.specs.Bay.{Item, is, itemSize, total, alter, get, sized, resized}
+use Rattle.zone.specs.Counted.{remove, count, roomFor}
 use Rattle.zone.specs.OnBays as OnBays
 use Rattle.zone.specs.OnBays.{State, Out, Fixed, newItem, pointer, lookup, own, placeLow, placeHigh, joinAt, resizeIn, content, rewrite, alterFixed}
 use Rattle.zone.proofs.BayKinds.{Room, room, ledgerBays}
@@ -103,7 +104,7 @@ live-count-as : (l : Line) → Text.liveCount l ≡ Bays.sumS (λ (b : Room). le
 live-count-as (Text.last b) = live-as b
 live-count-as (Text.more b x l) = ap₂ _+_ (live-as b) (live-count-as l)
 
-cards-as : (l : Line) → Text.cards l ≡ Bays.concatS (λ (b : Room). map OnBays.card (b .entries)) (asBays l)
+pub cards-as : (l : Line) → Text.cards l ≡ Bays.concatS (λ (b : Room). map OnBays.card (b .entries)) (asBays l)
 cards-as (Text.last b) = cards-in b
 cards-as (Text.more b x l) = ap₂ _++_ (cards-in b) (cards-as l)
 
@@ -196,12 +197,12 @@ fixed-as p (Text.more b x l) = cond-ap (over asFixed) (eqb p (Text.pointerOf x))
 bytes-as : (t : Target) (m : ℕ) (l : Ledger) → Text.bytesOf t (l .line) ≡ content ledgerBays t (asBays (l .line))
 bytes-as (by-handle h) m l = entry-bytes (Text.entryOf h (l .line)) ∙ ap (over _) (entry-as h m l)
   where
-    entry-bytes : (o : Option Entry) → Text.entryBytes o ≡ over (λ (e : Item). e .bytes) (over asItem o)
+    entry-bytes : (o : Option Entry) → Text.over (λ (e : Entry). e .bytes) o ≡ over (λ (e : Item). e .bytes) (over asItem o)
     entry-bytes none = refl
     entry-bytes (some e) = refl
 bytes-as (by-pointer p) m l = fixed-bytes (Text.fixedOf p (l .line)) ∙ ap (over _) (fixed-as p (l .line))
   where
-    fixed-bytes : (o : Option Text.Fixed) → Text.fixedBytes o ≡ over (λ (x : Fixed). x .bytes) (over asFixed o)
+    fixed-bytes : (o : Option Text.Fixed) → Text.over (λ (x : Text.Fixed). x .bytes) o ≡ over (λ (x : Fixed). x .bytes) (over asFixed o)
     fixed-bytes none = refl
     fixed-bytes (some x) = refl
 

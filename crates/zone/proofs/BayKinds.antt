@@ -1,7 +1,8 @@
 -- The calls at the ledger's bays: for the proofs only.
 use mathlib.Core.List.{List, [], _∷_, _++_, map}
 use Prim.Native.Nat.{ℕ, _+_, _-_}
-use Rattle.zone.specs.Bay.{Item, total, remove, alter, sized}
+use Rattle.zone.specs.Bay.{Item, total, alter, sized}
+use Rattle.zone.specs.Counted.{remove}
 use Rattle.zone.specs.OnBays.{BayKind}
 pub use Rattle.zone.specs.ZoneBays.{zoneBays}
 

@@ -8,8 +8,9 @@ use native.Mathlib.Omega.{arith}
 use lib.ListN.{length}
 use lib.Dec.{leb}
 use borrow.Author.Tests.{leb-true}
-use Rattle.zone.specs.Bays.{over}
-use Rattle.zone.specs.Bay.{is, Item, itemSize, total, remove, alter, get, count, Cell, free, held, baySize, baySum, items, gap, packed, joinBays, compactBay, fit, put, trim, takeHigh, release, edit}
+use Rattle.zone.specs.PickBays.{over}
+use Rattle.zone.specs.Bay.{is, Item, itemSize, total, alter, get, Cell, free, held, baySize, baySum, items, gap, packed, joinBays, compactBay, fit, put, trim, takeHigh, release, edit}
+use Rattle.zone.specs.Counted.{remove, count}
 use Rattle.block_type.specs.Limits.{relocHeader}
 
 pub bsize-split : (cs : List Cell) → baySize cs ≡ baySum cs + total (items cs)

@@ -3,7 +3,7 @@ use mathlib.Core.Path.{_≡_}
 use Prim.Native.Nat.{ℕ, _-_, _≤_}
 use native.Mathlib.Omega.{arith}
 use lib.ListN.{drop}
-use Rattle.zone.specs.Bays.{AllS}
+use Rattle.zone.specs.PickBays.{AllS}
 use Rattle.zone.proofs.BaysLaws.{all-like}
 use Rattle.zone.proofs.Sums.{each-weaken}
 use Rattle.zone.proofs.Sound.{Sound}

@@ -5,7 +5,7 @@ use mathlib.Core.List.{List, [], _∷_, _++_}
 use Prim.Native.Nat.{ℕ, zero, suc, _+_, _-_, _/_, _%_, _^_}
 use lib.ListN.{replicate}
 use lib.Dec.{eqb}
-use Rattle.zone.specs.Bays.{Bays, last, more, orElse}
+use Rattle.zone.specs.PickBays.{Bays, last, more, orElse}
 use Rattle.zone.specs.Bay.{is, Item, itemSize, Cell, free, held, baySize}
 use Rattle.block_type.specs.Limits.{relocHeader}
 use Rattle.zone.specs.OnBays.{Fixed, fsize, handlesFrom}

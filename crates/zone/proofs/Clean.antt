@@ -9,8 +9,9 @@ use lib.ListN.{length, set, take, drop, replicate, length-replicate}
 use lib.Dec.{leb, eqb}
 use borrow.Author.Tests.{leb-true}
 use Rattle.bigendian.specs.BigEndian.{Bytes}
-use Rattle.zone.specs.Bays.{Bays, last, more, onLow, onHigh, onJoin, mapS, onFixed, onLast, lastS, findS}
-use Rattle.zone.specs.Bay.{is, Item, itemSize, get, remove, alter, Cell, baySum, items, gap, joinBays, compactBay, put, takeHigh, release, edit, sized, resized, reshape}
+use Rattle.zone.specs.PickBays.{Bays, last, more, onLow, onHigh, onJoin, mapS, onFixed, onLast, lastS, findS}
+use Rattle.zone.specs.Bay.{is, Item, itemSize, get, alter, Cell, baySum, items, gap, joinBays, compactBay, put, takeHigh, release, edit, sized, resized, reshape}
+use Rattle.zone.specs.Counted.{remove}
 use Rattle.zone.proofs.BayLaws.{Each, nothing, just, each-cond, each-over, put-keeps, cut-less, tidy-items, items-weld, items-gap, release-items, edit-items}
 use Rattle.zone.proofs.Sums.{each-orElse, each-weaken}
 use Rattle.zone.proofs.Resize.{length-sized}

@@ -12,8 +12,9 @@ use Rattle.bigendian.specs.BigEndian.{toBE}
 use Rattle.format.proofs.Count.{occurs, offsets}
 use Rattle.structure.specs.Structure as Shape
 use Rattle.structure.specs.Structure.{Block, fixed, count, len, encodeBlock, placeOf, headOf, value, words, join, encode}
-use Rattle.zone.specs.Bays.{Bays, last, more, orElse}
+use Rattle.zone.specs.PickBays.{Bays, last, more, orElse}
 use Rattle.zone.specs.Bay as Bay
+use Rattle.zone.specs.Counted as Counted
 use Rattle.zone.specs.Bay.{itemSize, Cell, free as gapCell, held, baySize, items}
 use Rattle.zone.proofs.BayLaws.{Each, nothing, just}
 use Rattle.zone.proofs.Sums.{each-weaken, each-orElse}
@@ -88,13 +89,13 @@ next-none h (k ∷ ks) e = go (eqb h k) (next-none h ks) e
     go true f q = absurd (omega arith)
     go false f q = f q
 
-where-count : (h p : ℕ) (cs : List Cell) → Each (λ (q : ℕ). 1 ≤ Bay.count h (items cs)) (whereIn h p cs)
+where-count : (h p : ℕ) (cs : List Cell) → Each (λ (q : ℕ). 1 ≤ Counted.count h (items cs)) (whereIn h p cs)
 where-count h p [] = nothing
 where-count h p (gapCell n ∷ cs) = where-count h (p + n) cs
 where-count h p (held e ∷ cs) = go (eqb h (e .handle)) (where-count h (p + itemSize e) cs)
   where
-    go : (t : Bool) → Each (λ (q : ℕ). 1 ≤ Bay.count h (items cs)) (whereIn h (p + itemSize e) cs)
-        → Each (λ (q : ℕ). 1 ≤ cond t (suc (Bay.count h (items cs))) (Bay.count h (items cs))) (cond t (some (p + 4)) (whereIn h (p + itemSize e) cs))
+    go : (t : Bool) → Each (λ (q : ℕ). 1 ≤ Counted.count h (items cs)) (whereIn h (p + itemSize e) cs)
+        → Each (λ (q : ℕ). 1 ≤ cond t (suc (Counted.count h (items cs))) (Counted.count h (items cs))) (cond t (some (p + 4)) (whereIn h (p + itemSize e) cs))
     go true k = just (omega arith)
     go false k = k
 

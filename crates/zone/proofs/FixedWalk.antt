@@ -1,14 +1,14 @@
 -- A walk through a zone's bytes meets the fixed blocks of its bays, and no others, and between them each bay's free bytes.
 use mathlib.Core.Path.{_≡_, refl, ap, ap₂, sym, _∙_}
 use mathlib.Core.Bool.{Bool, true, false, cond, _&&_}
-use mathlib.Core.List.{List, [], _∷_, map}
+use mathlib.Core.List.{List, [], _∷_, _++_, map, append-nil}
 use Prim.Native.Nat.{ℕ, _+_, _-_, _*_, _≤_}
 use native.Mathlib.Omega.{arith}
 use native.Mathlib.Nat.{add-zero, zero-add, add-assoc}
-use lib.ListN.{length, drop}
+use lib.ListN.{length, drop, length-drop}
 use lib.Seq.{take-take}
 use lib.Dec.{eqb}
-use Rattle.block_type.specs.Limits.{freeCode, fixedCode}
+use Rattle.block_type.specs.Limits.{freeCode, fixedCode, relocCode, relocHeader}
 use Rattle.format.specs.WellFormed.{headerOk, lengthField, firstField, mastersField, chainField, typeOf, sizeOf, handleOf, isFree, splitBlocks, zoneOf}
 use Rattle.format.specs.OneWalk.{blockOk, blocksOk, bodyOk}
 use Rattle.format.proofs.Bool.{and-left, and-right}
@@ -19,13 +19,14 @@ use Rattle.format.proofs.Live.{body-parts}
 use Rattle.structure.specs.Structure.{Structure, Block, free, fixed, reloc, size, byType, decodeBlock, decodeZone, decode}
 use Rattle.structure.proofs.Table.{by, size-dec}
 use Rattle.structure.proofs.Round.{heads}
+use Rattle.calls.specs.Calls.{Card}
 use Rattle.ledger.specs.Space.{Spot, spot}
-use Rattle.zone.specs.Bays.{Bays, last, more}
-use Rattle.zone.specs.Bay.{Cell, free as gapCell, held, itemSize, baySize, baySum}
-use Rattle.zone.specs.OnBays.{Fixed, fsize}
+use Rattle.zone.specs.PickBays.{Bays, last, more, concatS}
+use Rattle.zone.specs.Bay.{Cell, free as gapCell, held, items, itemSize, baySize, baySum}
+use Rattle.zone.specs.OnBays.{Fixed, fsize, card}
 use Rattle.zone.specs.Group.{flatBay, flatten}
 use Rattle.zone.specs.OnBytes.{Zone, inLine}
-use Rattle.zone.specs.Claim.{fixedMet, freeMet, fixedIn, freeIn}
+use Rattle.zone.specs.Claim.{fixedMet, relocMet, freeMet, fixedIn, relocIn, freeIn}
 use Rattle.zone.proofs.Places.{Tiled, tile-last, tile-more}
 use Rattle.zone.proofs.Keep.{Whole, valid-line, count-line}
 use Rattle.zone.proofs.Run.{Stored, stored-well, stored-decode}
@@ -59,6 +60,13 @@ freeSize (reloc h d) = 0
 abbrev sumsB : ℕ → List Block → List ℕ
 sumsB n [] = n ∷ []
 sumsB n (b ∷ bs) = cond (isFixed b) (n ∷ sumsB 0 bs) (sumsB (n + freeSize b) bs)
+
+-- handle and data size of each relocatable block, in address order
+abbrev cardsB : List Block → List Card
+cardsB [] = []
+cardsB (free n ∷ bs) = cardsB bs
+cardsB (fixed d ∷ bs) = cardsB bs
+cardsB (reloc h d ∷ bs) = record { handle = h; amount = length d } ∷ cardsB bs
 
 -- ---- from bytes to blocks
 
@@ -98,6 +106,20 @@ module _ (z : List ℕ) (first : ℕ) where
       rw (fixed-dec prev at b g₀, free-dec prev at b g₀)
       (ap₂ (cond (eqb (typeOf b) fixedCode)) (ap (n ∷_) (sums-decs (isFree b) (at + length b) 0 bs rest)) (sums-decs (isFree b) (at + length b) (n + cond (eqb (typeOf b) freeCode) (sizeOf b) 0) bs rest))
 
+  card-dec : (prev : Bool) (at : ℕ) (b : List ℕ) (bs : List Block) → blockOk z first prev at b ≡ true
+      → cond (eqb (typeOf b) relocCode) (record { handle = handleOf b; amount = sizeOf b - relocHeader } ∷ cardsB bs) (cardsB bs) ≡ cardsB (decodeBlock b ∷ bs)
+  unfolding decodeBlock
+  card-dec prev at b bs g =
+      by z first prev at b g (λ k. cond (eqb k relocCode) (record { handle = handleOf b; amount = sizeOf b - relocHeader } ∷ cardsB bs) (cardsB bs) ≡ cardsB (byType k (free (sizeOf b)) (fixed (drop 2 b)) (reloc (handleOf b) (drop 4 b)) ∷ bs))
+      (λ e. refl) (λ e. refl) (λ e. ap (λ (n : ℕ). record { handle = handleOf b; amount = n } ∷ cardsB bs) (ap (_- 4) (is-good z first prev at b g .whole) ∙ sym (length-drop 4 b)))
+
+  cards-decs : (prev : Bool) (at : ℕ) (bs : List (List ℕ)) → blocksOk z first prev at bs ≡ true → relocMet bs ≡ cardsB (map decodeBlock bs)
+  unfolding blocksOk relocMet
+  cards-decs prev at [] g = refl
+  cards-decs prev at (b ∷ bs) g =
+      let g₀ = and-left _ (blocksOk z first (isFree b) (at + length b) bs) g in
+      rw (cards-decs (isFree b) (at + length b) bs (and-right (blockOk z first prev at b) _ g)) (card-dec prev at b (map decodeBlock bs) g₀)
+
 -- ---- from blocks to bays
 
 -- the cells of a bay are no fixed blocks
@@ -122,6 +144,15 @@ sums-bay n (held e ∷ cs) r = sums-bay (n + 0) cs r ∙ ap (λ (q : ℕ). sumsB
 sums-strip : (s : Bays (List Cell) Fixed) → sumsB 0 (flatten s) ≡ sumsS baySum s
 sums-strip (last b) = sums-bay 0 b [] ∙ ap (_∷ []) (zero-add (baySum b))
 sums-strip (more b x s) = sums-bay 0 b (fixed (x .bytes) ∷ flatten s) ∙ ap₂ _∷_ (zero-add (baySum b)) (sums-strip s)
+
+cards-bay : (cs : List Cell) (r : List Block) → cardsB (flatBay cs r) ≡ map card (items cs) ++ cardsB r
+cards-bay [] r = refl
+cards-bay (gapCell n ∷ cs) r = cards-bay cs r
+cards-bay (held e ∷ cs) r = ap (card e ∷_) (cards-bay cs r)
+
+cards-strip : (s : Bays (List Cell) Fixed) → cardsB (flatten s) ≡ concatS (λ (b : List Cell). map card (items b)) s
+cards-strip (last b) = cards-bay b [] ∙ append-nil (map card (items b))
+cards-strip (more b x s) = cards-bay b (fixed (x .bytes) ∷ flatten s) ∙ ap (map card (items b) ++_) (cards-strip s)
 
 -- ---- the buffer
 
@@ -161,3 +192,8 @@ pub free-walk : (bs : List ℕ) (z : Zone) → Whole z → Stored bs z → freeI
 free-walk bs z w s =
     let p = body-parts (zoneOf bs) (firstField bs) (mastersField bs) (chainField bs) (and-right (headerOk bs) _ (stored-walk bs z w s)) in
     sums-decs (zoneOf bs) (firstField bs) false (firstField bs) 0 _ (p .walk) ∙ ap (sumsB 0) (blocks-are bs z w s) ∙ sums-strip (z .bays)
+
+pub reloc-walk : (bs : List ℕ) (z : Zone) → Whole z → Stored bs z → relocIn bs ≡ concatS (λ (b : List Cell). map card (items b)) (z .bays)
+reloc-walk bs z w s =
+    let p = body-parts (zoneOf bs) (firstField bs) (mastersField bs) (chainField bs) (and-right (headerOk bs) _ (stored-walk bs z w s)) in
+    cards-decs (zoneOf bs) (firstField bs) false (firstField bs) _ (p .walk) ∙ ap cardsB (blocks-are bs z w s) ∙ cards-strip (z .bays)

@@ -5,7 +5,7 @@ use Prim.Native.Nat.{ℕ, _+_}
 use native.Mathlib.Nat.{add-zero, add-assoc}
 use lib.ListN.{length}
 use Rattle.structure.specs.Structure.{Block, free, fixed, reloc}
-use Rattle.zone.specs.Bays.{Bays, last, more}
+use Rattle.zone.specs.PickBays.{Bays, last, more}
 use Rattle.zone.specs.Bay.{itemSize, Cell, free as gapCell, held, baySize}
 use Rattle.zone.specs.OnBays.{Fixed}
 use Rattle.zone.proofs.Places.{Tiled, tile-last, tile-more}

@@ -7,8 +7,9 @@ use Prim.Native.Nat.{ℕ, zero, suc, _+_, _-_, _≤_, _<_}
 use native.Mathlib.Omega.{arith}
 use lib.Dec.{eqb}
 use borrow.Author.Tests.{leb-true, eqb-true, eqb-false, ne-eqb}
-use Rattle.zone.specs.Bays.{Bays, last, more, onLow, mapS, sumS, lastS, AllS}
-use Rattle.zone.specs.Bay.{is, Item, itemSize, remove, alter, get, count, Cell, baySum, items, gap, joinBays, compactBay, takeHigh, release, edit, reshape, sized, resized}
+use Rattle.zone.specs.PickBays.{Bays, last, more, onLow, mapS, sumS, lastS, AllS}
+use Rattle.zone.specs.Bay.{is, Item, itemSize, alter, get, Cell, baySum, items, gap, joinBays, compactBay, takeHigh, release, edit, reshape, sized, resized}
+use Rattle.zone.specs.Counted.{remove, count}
 use Rattle.zone.proofs.BayLaws.{Each, nothing, just, each-cond, put-keeps, cut-less, tidy-items, items-weld, items-gap, release-items, edit-items, perm-count}
 use Rattle.zone.proofs.Sums.{each-weaken, each-and, each-orElse, find-each, onLow-sum, onHigh-sum, onJoin-sum, mapS-sum, mapS-zero, onFixed-sum, onLast-sum, sum-parts, find-sum}
 use Rattle.zone.proofs.Walk.{Closed, Whatever}

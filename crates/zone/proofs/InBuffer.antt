@@ -10,7 +10,7 @@ use Rattle.format.specs.WellFormed.{lengthField, masterAt}
 use Rattle.structure.specs.Structure.{encode}
 use Rattle.structure.proofs.Round as Round
 use Rattle.structure.proofs.Round.{offset-is}
-use Rattle.zone.specs.Bays.{findF}
+use Rattle.zone.specs.PickBays.{findF}
 use Rattle.zone.specs.Bay.{Item}
 use Rattle.zone.specs.OnBays.{State, Fixed, pointer, lookup}
 use Rattle.zone.specs.OnBytes.{Zone, inLine}

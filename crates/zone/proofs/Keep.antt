@@ -11,8 +11,9 @@ use Rattle.format.proofs.Count.{occurs, offsets, All, sumOver, sum-occurs, one-
 use Rattle.structure.proofs.Round.{offset-le}
 use Rattle.structure.specs.Structure.{Block, free, fixed, reloc, sizes, relocCount, count, start, len}
 use Rattle.structure.specs.Valid.{handlesOf, Tiled, Valid}
-use Rattle.zone.specs.Bays.{Bays, last, more, AllS}
+use Rattle.zone.specs.PickBays.{Bays, last, more, AllS}
 use Rattle.zone.specs.Bay as Bay
+use Rattle.zone.specs.Counted as Counted
 use Rattle.zone.specs.Bay.{Cell, free as gapCell, held, baySize, items}
 use Rattle.zone.proofs.Sound as Sound
 use Rattle.zone.proofs.Sound.{Sound, s-nil, s-end, s-free, s-held}
@@ -59,21 +60,21 @@ offsets-same h (suc n) = ap (h ∷_) (offsets-same (h + 4) n)
 pub masters-same : (m h : ℕ) → masters m h ≡ occurs h (offsets 16 m)
 masters-same m h = occurs-same h (handlesFrom 16 m) ∙ ap (occurs h) (offsets-same 16 m)
 
-live-bay : (h : ℕ) (cs : List Cell) (r : List Block) → occurs h (handlesOf (flatBay cs r)) ≡ Bay.count h (items cs) + occurs h (handlesOf r)
+live-bay : (h : ℕ) (cs : List Cell) (r : List Block) → occurs h (handlesOf (flatBay cs r)) ≡ Counted.count h (items cs) + occurs h (handlesOf r)
 unfolding occurs handlesOf
 live-bay h [] r = omega arith
 live-bay h (gapCell n ∷ cs) r = live-bay h cs r
 live-bay h (held e ∷ cs) r = go (eqb h (e .handle)) (live-bay h cs r)
   where
-    go : (t : Bool) → occurs h (handlesOf (flatBay cs r)) ≡ Bay.count h (items cs) + occurs h (handlesOf r)
-        → cond t 1 0 + occurs h (handlesOf (flatBay cs r)) ≡ cond t (suc (Bay.count h (items cs))) (Bay.count h (items cs)) + occurs h (handlesOf r)
+    go : (t : Bool) → occurs h (handlesOf (flatBay cs r)) ≡ Counted.count h (items cs) + occurs h (handlesOf r)
+        → cond t 1 0 + occurs h (handlesOf (flatBay cs r)) ≡ cond t (suc (Counted.count h (items cs))) (Counted.count h (items cs)) + occurs h (handlesOf r)
     go true e = omega arith
     go false e = omega arith
 
 pub live-strip : (h : ℕ) (s : Bays (List Cell) Fixed) → occurs h (handlesOf (flatten s)) ≡ live h s
 unfolding occurs handlesOf
 live-strip h (last b) = live-bay h b [] ∙ add-zero _
-live-strip h (more b x s) = live-bay h b (fixed (x .bytes) ∷ flatten s) ∙ ap (Bay.count h (items b) +_) (live-strip h s)
+live-strip h (more b x s) = live-bay h b (fixed (x .bytes) ∷ flatten s) ∙ ap (Counted.count h (items b) +_) (live-strip h s)
 
 length-handles : (bs : List Block) → length (handlesOf bs) ≡ relocCount bs
 unfolding handlesOf relocCount

@@ -8,7 +8,6 @@ pub mod Bounds
 pub mod Bytes
 pub mod Clean
 pub mod Encoders
-pub mod FirstCause
 pub mod FixedWalk
 pub mod GroupLaws
 pub mod Grouped
@@ -34,3 +33,4 @@ pub mod Theorem
 pub mod Unchanged
 pub mod Walk
 pub mod Shown
+pub mod Tied

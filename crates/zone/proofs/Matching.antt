@@ -6,7 +6,7 @@ use mathlib.Core.Option.{Option}
 use lib.ListN.{length}
 use lib.Dec.{eqb}
 use native.Mathlib.Omega.{arith}
-use Rattle.zone.specs.Bays.{Bays, last, more, findF, AllS}
+use Rattle.zone.specs.PickBays.{Bays, last, more, findF, AllS}
 use Rattle.zone.proofs.BaysLaws.{like-last, Both, absent, present, all-like, findF-like}
 use Rattle.zone.specs.Bay.{Item, Cell, gap}
 use Rattle.zone.proofs.BayLaws.{items-gap, bsize-gap, Each, nothing, just, each-cond}

@@ -9,14 +9,19 @@ use lib.ListN.{length}
 use lib.Dec.{eqb, leb}
 use borrow.Author.Tests.{leb-true, leb-false, le-leb, lt-leb}
 use Rattle.block_type.specs.Limits.{relocHeader}
-use Rattle.zone.specs.Bays.{Bays, last, more, over, orElse, onLow, onHigh, glue, onJoin, mapS, findS, findF, maxS}
-use Rattle.zone.specs.Bay.{Item, is, itemSize, total, remove, get, count, Cell, baySum, items, put, release, reshape, resized, roomFor}
+use Rattle.zone.specs.PickBays.{Bays, last, more, over, orElse, onLow, onHigh, glue, onJoin, mapS, findS, findF, maxS}
+use Rattle.zone.specs.Bay.{Item, is, itemSize, total, get, Cell, baySum, items, put, release, reshape, resized}
+use Rattle.zone.specs.Counted.{remove, count, roomFor}
 use Rattle.zone.specs.OnBays.{Fixed, own, resizeIn}
 use Rattle.zone.specs.ZoneBays.{zoneBays}
-use Rattle.zone.specs.Causes.{below, isNone, sumIfOwn}
+use Rattle.calls.specs.Table.{below, isNone}
 use Rattle.zone.proofs.BayLaws.{bsize-split, release-size, release-items}
 use Rattle.zone.proofs.Handles.{live}
 use Rattle.zone.proofs.Resize.{length-sized}
+
+-- the sum of the bay that has the handle
+abbrev pub sumIfOwn : ℕ → List Cell → Option ℕ
+sumIfOwn h b = cond (isNone (get h (items b))) none (some (baySum b))
 
 -- ---- whether nothing is there: a DATA type, so that its implicit arguments are found
 
@@ -32,7 +37,7 @@ cond-missing : {A : Type 0} (t : Bool) {u : Bool} (a : A) {o : Option A} → Mis
 cond-missing true a m = there
 cond-missing false a m = m
 
-over-missing : {A B : Type 0} (f : A → B) {t : Bool} {o : Option A} → Missing t o → Missing t (over f o)
+pub over-missing : {A B : Type 0} (f : A → B) {t : Bool} {o : Option A} → Missing t o → Missing t (over f o)
 over-missing f gone = gone
 over-missing f there = there
 
@@ -80,7 +85,7 @@ join-missing g p j (more b x s) = go (p x) (join-missing g p j s)
 -- ---- a handle that stands at most once in a bay
 
 -- how often it stands there, by what is found, and what its block takes
-abbrev often : Option Item → ℕ
+abbrev pub often : Option Item → ℕ
 often none = 0
 often (some e) = 1
 
@@ -88,7 +93,7 @@ abbrev pub taken : Option Item → ℕ
 taken none = 0
 taken (some e) = itemSize e
 
-count-get : (h : ℕ) (es : List Item) → count h es ≤ 1 → count h es ≡ often (get h es)
+pub count-get : (h : ℕ) (es : List Item) → count h es ≤ 1 → count h es ≡ often (get h es)
 count-get h [] n = refl
 count-get h (e ∷ es) n = go (is h e) (λ k. count-get h es k) n
   where
@@ -126,17 +131,17 @@ sum-released h b n = omega (arith, bsize-split b, bsize-split (release h b), rel
 
 module _ (h a : ℕ) where
   -- the block, and the sum of the bay that has it
-  abbrev block : Bays (List Cell) Fixed → Option Item
+  abbrev pub block : Bays (List Cell) Fixed → Option Item
   block s = findS (λ (b : List Cell). get h (items b)) s
 
-  abbrev sumOfOwn : Bays (List Cell) Fixed → ℕ
+  abbrev pub sumOfOwn : Bays (List Cell) Fixed → ℕ
   sumOfOwn s = Option·getD (findS (sumIfOwn h) s) 0
 
-  abbrev ownChanged : Bays (List Cell) Fixed → Option (Bays (List Cell) Fixed)
+  abbrev pub ownChanged : Bays (List Cell) Fixed → Option (Bays (List Cell) Fixed)
   ownChanged s = onLow (own zoneBays h a) (reshape h a) s
 
   -- bays without the handle
-  own-absent : (s : Bays (List Cell) Fixed) → live h s ≡ 0 → Missing true (ownChanged s)
+  pub own-absent : (s : Bays (List Cell) Fixed) → live h s ≡ 0 → Missing true (ownChanged s)
   own-absent (last b) n = rw n gone
   own-absent (more b x s) n = let z : count h (items b) ≡ 0 = omega arith in rw z (over-missing (more b x) (own-absent s (omega arith)))
 
@@ -145,7 +150,7 @@ module _ (h a : ℕ) where
   max-absent (more b x s) n = ap₂ max (sum-absent h b (omega arith)) (max-absent s (omega arith))
 
   -- the own bay is chosen exactly where its sum reaches a − b
-  own-missing : (s : Bays (List Cell) Fixed) → live h s ≤ 1 → Missing (not (roomFor a (sumOfOwn s) (block s))) (ownChanged s)
+  pub own-missing : (s : Bays (List Cell) Fixed) → live h s ≤ 1 → Missing (not (roomFor a (sumOfOwn s) (block s))) (ownChanged s)
   own-missing (last b) n = go (count h (items b)) (get h (items b)) (count-get h (items b) n)
     where
       go : (k : ℕ) (o : Option Item) → k ≡ often o

@@ -4,7 +4,7 @@ use mathlib.Core.List.{List, []}
 use Prim.Native.Nat.{ℕ}
 use native.Mathlib.Omega.{arith}
 use Rattle.calls.specs.Calls.{compact}
-use Rattle.zone.specs.Bays.{Bays, last, more, AllS, mapS}
+use Rattle.zone.specs.PickBays.{Bays, last, more, AllS, mapS}
 use Rattle.zone.specs.Bay.{Item, Cell, total, baySum, gap, packed, compactBay}
 use Rattle.zone.specs.OnBays.{Fixed, step}
 use Rattle.zone.specs.OnBytes.{Zone}

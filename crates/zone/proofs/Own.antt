@@ -6,7 +6,8 @@ use Prim.Native.Nat.{ℕ}
 use native.Mathlib.Omega.{arith}
 use lib.Dec.{eqb}
 use borrow.Author.Tests.{eqb-true}
-use Rattle.zone.specs.Bay.{Cell, baySum, items, count, get, reshape, roomFor}
+use Rattle.zone.specs.Bay.{Cell, baySum, items, get, reshape}
+use Rattle.zone.specs.Counted.{count, roomFor}
 use Rattle.zone.proofs.Resize.{Shaped, reshape-shaped}
 use Rattle.zone.specs.OnBays.{own}
 use Rattle.zone.proofs.BayKinds.{zoneBays}

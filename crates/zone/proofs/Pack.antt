@@ -5,7 +5,7 @@ use Prim.Native.Nat.{ℕ, zero, suc, _+_}
 use native.Mathlib.Nat.{add-zero, add-assoc, zero-add}
 use lib.ListN.{length}
 use Rattle.structure.specs.Structure.{Structure, Block, free, fixed, reloc, start}
-use Rattle.zone.specs.Bays.{Bays, last, more, mapS}
+use Rattle.zone.specs.PickBays.{Bays, last, more, mapS}
 use Rattle.zone.specs.Bay.{Item, Cell, free as gapCell, held, baySum, items, gap, packed, compactBay}
 use Rattle.zone.specs.OnBays.{Fixed, step}
 use Rattle.calls.specs.Calls.{compact}

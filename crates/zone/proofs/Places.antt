@@ -7,7 +7,7 @@ use native.Mathlib.Omega.{arith}
 use lib.ListN.{length, length-replicate}
 use lib.Dec.{leb, eqb}
 use borrow.Author.Tests.{leb-true}
-use Rattle.zone.specs.Bays.{Bays, last, more, onLow, mapS, onFixed, onLast, lastS}
+use Rattle.zone.specs.PickBays.{Bays, last, more, onLow, mapS, onFixed, onLast, lastS}
 use Rattle.zone.specs.Bay.{Item, itemSize, Cell, baySize, baySum, gap, joinBays, compactBay, put, takeHigh, release, edit, reshape, resized}
 use Rattle.zone.proofs.BayLaws.{Each, nothing, just, each-cond, each-over, put-keeps, cut-less, tidy-size, bsize-weld, bsize-gap, release-size, edit-size, cond-one}
 use Rattle.zone.proofs.Sums.{each-orElse, each-weaken}

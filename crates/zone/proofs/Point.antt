@@ -7,12 +7,13 @@ use native.Mathlib.Omega.{arith}
 use lib.ListN.{take, drop}
 use lib.Dec.{eqb}
 use Rattle.calls.specs.Calls.{Call, Answer}
-use Rattle.ledger.specs.Ledger as Text
-use Rattle.ledger.specs.Ledger.{Entry, Line, Ledger}
+use Rattle.ledger.specs.Nested as Text
+use Rattle.ledger.specs.Nested.{Entry, Line, Ledger}
 use Rattle.ledger.proofs.Space.{countIn, liveIn}
-use Rattle.zone.specs.Bays as Bays
-use Rattle.zone.specs.Bays.{Bays, AllS, sumS}
-use Rattle.zone.specs.Bay.{Cell, items, count}
+use Rattle.zone.specs.PickBays as Bays
+use Rattle.zone.specs.PickBays.{Bays, AllS, sumS}
+use Rattle.zone.specs.Bay.{Cell, items}
+use Rattle.zone.specs.Counted.{count}
 use Rattle.zone.specs.OnBays.{State, Fixed}
 use Rattle.zone.specs.OnBytes.{Zone}
 use Rattle.zone.specs.Promise.{Alike}

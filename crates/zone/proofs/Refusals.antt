@@ -9,7 +9,7 @@ use lib.ListN.{length}
 use lib.Dec.{eqb, leb}
 use Rattle.block_type.specs.Limits.{relocLimit, fixedLimit, up4, fixedNeed, longestZone, recordSize}
 use Rattle.calls.specs.Calls.{Target, by-handle, by-pointer, Call, allocate-relocatable, allocate-fixed, free-handle, free-pointer, read, write, view, size, roster, check, length-of, resize, compact, sums, enlarge, shrink, Answer, absentNumber}
-use Rattle.zone.specs.Bays.{lastS}
+use Rattle.zone.specs.PickBays.{lastS}
 use Rattle.zone.specs.OnBays as OnBays
 use Rattle.zone.specs.OnBays.{Out, step, lookup}
 

@@ -9,27 +9,24 @@ use lib.Dec.{ltb}
 use borrow.Author.Tests.{ltb-true}
 use Rattle.format.proofs.Bool.{and-left, and-right}
 use Rattle.bigendian.specs.BigEndian.{Bytes}
-use Rattle.calls.specs.Calls.{Call, Answer}
+use Rattle.calls.specs.Calls.{Call, Answer, beside, secondOf}
 use Rattle.ledger.specs.Ledger.{run, initial}
-use Rattle.zone.specs.OnBytes.{callBytes, initBytes, runBytes, afterBytes}
+use Rattle.zone.specs.Call.{call, initialize}
+use Rattle.zone.specs.RigSheet.{answersOf, bytesAfter}
 use Rattle.zone.specs.Promise.{Promise}
-use Rattle.zone.specs.Claim.{History, stop, then, brought, WritesBytes, no-call, a-call, Claim}
+use Rattle.zone.specs.Claim.{History, stop, then, AllAlike, Claim}
 use Rattle.zone.specs.ReelB.{calls, numbers}
 use Rattle.zone.proofs.Theorem.{the-list}
 
-promise-of : (c : Call) (bs : List ℕ) → Promise c bs ((callBytes c bs) .answer) ((callBytes c bs) .bytes)
+promise-of : (c : Call) (bs : List ℕ) → Promise c bs ((call c bs) .answer) ((call c bs) .bytes)
 promise-of c bs = record { answer = record { number = refl; value = refl; second = refl; bytes = refl; records = Permᴰ·refl _ }; bytes = refl }
-
-pub history-of : (cs : List Call) (bs : List ℕ) → History bs cs (runBytes cs bs) (afterBytes cs bs)
-history-of [] bs = stop
-history-of (c ∷ cs) bs = then (promise-of c bs) (history-of cs ((callBytes c bs) .bytes))
 
 -- any bytes, 72 of them
 abbrev before : List ℕ
 before = replicate 72 9
 
 abbrev fresh : List ℕ
-fresh = (initBytes 64 4 before) .bytes
+fresh = (initialize 64 4 before) .bytes
 
 -- ---- what is written are bytes, by a test that computes
 
@@ -45,19 +42,22 @@ bytes-of (x ∷ xs) e (suc i) = bytes-of xs (and-right (ltb x 256) _ e) i
 
 allBelow : List Call → Bool
 allBelow [] = true
-allBelow (c ∷ cs) = below (brought c) && allBelow cs
+allBelow (c ∷ cs) = below (secondOf (beside c)) && allBelow cs
 
-written-bytes : (cs : List Call) → allBelow cs ≡ true → WritesBytes cs
+history-of : (cs : List Call) (bs : List ℕ) → allBelow cs ≡ true → History bs cs (answersOf cs bs) (bytesAfter cs bs)
 unfolding allBelow
-written-bytes [] e = no-call
-written-bytes (c ∷ cs) e = a-call {c = c} (bytes-of (brought c) (and-left _ _ e)) (written-bytes cs (and-right (below (brought c)) _ e))
+history-of [] bs e = stop
+history-of (c ∷ cs) bs e = then (bytes-of (secondOf (beside c)) (and-left _ _ e)) (promise-of c bs) (history-of cs ((call c bs) .bytes) (and-right (below (secondOf (beside c))) _ e))
 
-written : WritesBytes calls
+reel-b-claim : Claim 72 64 4 fresh
+reel-b-claim = the-list before fresh 64 4 ((initialize 64 4 before) .answer) (record { answer = refl; bytes = refl }) refl
+
+reel-b-history : History fresh calls (answersOf calls fresh) (bytesAfter calls fresh)
 unfolding allBelow below
-written = written-bytes calls refl
+reel-b-history = history-of calls fresh refl
 
-pub reel-b : Claim 72 64 4 fresh calls (runBytes calls fresh) (afterBytes calls fresh)
-reel-b = the-list before fresh (afterBytes calls fresh) 64 4 ((initBytes 64 4 before) .answer) calls (runBytes calls fresh) (record { answer = refl; bytes = refl }) refl written (history-of calls fresh)
+pub reel-b : AllAlike (answersOf calls fresh) (run calls (initial 72 64 4))
+reel-b = reel-b-claim .answers calls (answersOf calls fresh) (bytesAfter calls fresh) reel-b-history
 
 pub ledger-numbers : map (λ (a : Answer). a .number) (run calls (initial 72 64 4)) ≡ numbers
 ledger-numbers = refl

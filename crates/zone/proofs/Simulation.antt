@@ -9,7 +9,7 @@ use lib.ListN.{length, take, drop, length-replicate}
 use lib.Seq.{sets, length-sets}
 use lib.Dec.{leb, eqb}
 use borrow.Author.Tests.{leb-true, eqb-true}
-use Rattle.zone.specs.Bays.{Bays, findS, sumS, lastS, AllS}
+use Rattle.zone.specs.PickBays.{Bays, findS, sumS, lastS, AllS}
 use Rattle.zone.proofs.BaysLaws.{Both, absent, present, over-both, orElse-both, onFixed-like, findF-like, concatS-like, Like, onLow-like, onHigh-like, onJoin-like, mapS-like, onLast-like, lastS-like, sumS-like, maxS-like, findS-like}
 use Rattle.zone.specs.Bay.{Item, itemSize, get, resized}
 use Rattle.block_type.specs.Limits.{relocHeader}

@@ -7,7 +7,7 @@ use native.Mathlib.Omega.{arith}
 use native.Mathlib.Nat.{add-assoc}
 use lib.ListN.{length, length-append, length-replicate, take, drop}
 use lib.Seq.{take-at, drop-at}
-use Rattle.zone.specs.Bays.{Bays, last, more, findS, AllS}
+use Rattle.zone.specs.PickBays.{Bays, last, more, findS, AllS}
 use Rattle.zone.proofs.BaysLaws.{Both, absent, present, cond-both, orElse-both}
 use Rattle.zone.proofs.BayLaws.{Each, nothing, just}
 use Rattle.zone.specs.Bay.{is, Item, itemSize, get, Cell, held, baySize, items}

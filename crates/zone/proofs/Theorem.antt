@@ -1,7 +1,7 @@
 -- Demand 3 is proved: the claim holds of every list of calls from an accepted initialization.
 use mathlib.Core.Path.{_≡_, refl, ap, ap₂, sym, _∙_, subst}
 use mathlib.Core.Bool.{Bool, true, false, cond, _&&_}
-use mathlib.Core.List.{List, [], _∷_, _++_, append-assoc, List·Permᴰ·trans}
+use mathlib.Core.List.{List, [], _∷_, _++_, map, List·Permᴰ, List·Permᴰ·trans}
 use mathlib.Core.Option.{Option, none, some}
 use Prim.Native.Nat.{ℕ, _+_, _-_, _%_}
 use native.Mathlib.Omega.{arith}
@@ -14,23 +14,27 @@ use Rattle.block_type.specs.Limits.{firstBlock, longestZone, mostMasters}
 use Rattle.format.specs.WellFormed.{masterAt}
 use Rattle.structure.specs.Structure.{encode}
 use Rattle.structure.proofs.Round.{length-is}
-use Rattle.calls.specs.Calls.{Call, allocate-relocatable, allocate-fixed, free-handle, free-pointer, read, write, view, size, roster, check, length-of, resize, compact, sums, enlarge, shrink, Answer, answers, refusal}
-use Rattle.ledger.specs.Ledger as Text
-use Rattle.ledger.specs.Ledger.{Ledger, Line, entryOf, fixedOf}
-use Rattle.ledger.specs.Space.{Spot, spot, fixedSpots, baySums, callOf}
+use Rattle.calls.specs.Calls.{Call, allocate-relocatable, allocate-fixed, free-handle, free-pointer, read, write, view, size, roster, check, length-of, resize, compact, sums, enlarge, shrink, Answer, answers, refusal, beside, secondOf}
+use Rattle.ledger.specs.Ledger as Book
+use Rattle.ledger.specs.Nested as Text
+use Rattle.ledger.specs.Nested.{Ledger, Line, entryOf, fixedOf}
+use Rattle.ledger.specs.Space.{Spot, spot, fixedSpots, baySums, Request, relocatable, fixed, resized, callOf}
 use Rattle.ledger.proofs.Space.{space}
-use Rattle.ledger.specs.Still.{Has}
+use Rattle.ledger.specs.Still.{Has, NotFreed, no-call, a-call}
+use Rattle.ledger.proofs.Tied.{step-same as ledger-same}
 use Rattle.ledger.proofs.Still.{stays-put}
-use Rattle.zone.specs.Bays.{Bays, over}
-use Rattle.zone.specs.Bay.{Item, Cell, baySum, gap}
+use Rattle.zone.specs.PickBays.{Bays, over, concatS}
+use Rattle.zone.specs.Bay.{Item, Cell, items, baySum, gap}
 use Rattle.zone.specs.OnBays as OnBays
 use Rattle.zone.specs.OnBays.{State, Fixed, step, initial}
-use Rattle.zone.specs.OnBytes.{Zone, inLine, Result, accepts, initBytes, callBytes, afterBytes}
-use Rattle.zone.specs.Promise.{Alike}
-use Rattle.zone.specs.Claim.{History, stop, then, brought, WritesBytes, no-call, a-call, AllAlike, none-left, one-more, Never, never-nil, never-cons, Where, nowhere, here, Stands, Claim, TheList}
+use Rattle.zone.specs.OnBytes.{Zone, inLine, Result, accepts, initBytes, callBytes}
+use Rattle.zone.specs.Call.{call}
+use Rattle.zone.proofs.Tied.{fair-stored, call-fair, init-same}
+use Rattle.zone.specs.Promise.{Alike, Promise}
+use Rattle.zone.specs.Claim.{History, stop, then, AllAlike, none-left, one-more, Never, never-nil, never-cons, Where, nowhere, here, Stands, Claim, TheList}
 use Rattle.zone.proofs.BayKinds.{Room, zoneBays, ledgerBays}
-use Rattle.zone.proofs.BayLaws.{Each, just, items-gap, bsize-split, perm-total}
-use Rattle.zone.proofs.BaysLaws.{Like, like-last, like-more}
+use Rattle.zone.proofs.BayLaws.{Each, just, items-gap, bsize-split, perm-total, perm-map}
+use Rattle.zone.proofs.BaysLaws.{Like, like-last, like-more, concatS-like}
 use Rattle.zone.proofs.Walk.{Fed}
 use Rattle.zone.proofs.Clean.{Feeds, fed-write, e-last, i-nil}
 use Rattle.zone.proofs.Handles.{single}
@@ -42,9 +46,9 @@ use Rattle.zone.proofs.Keep.{Whole, valid-line, len-line}
 use Rattle.zone.proofs.Grouped.{whole-step, same-buffer}
 use Rattle.zone.proofs.Run.{Stored, call-is, stored-after, stored-well}
 use Rattle.zone.proofs.InBuffer.{length-read, live-read, fixed-read}
-use Rattle.zone.proofs.FixedWalk.{spotsS, sumsS, fixed-walk, free-walk}
+use Rattle.zone.proofs.FixedWalk.{spotsS, sumsS, fixed-walk, reloc-walk, free-walk}
 use Rattle.zone.proofs.Refusals.{step-other, number-other}
-use Rattle.zone.proofs.AsState.{sum-as, asItem, asFixed, asBays, asState, entry-as, fixed-as, text, initial-as}
+use Rattle.zone.proofs.AsState.{sum-as, cards-as, asItem, asFixed, asBays, asState, entry-as, fixed-as, text, initial-as}
 use Rattle.zone.proofs.Point.{Point, alike-of, once, live-once}
 
 -- ---- premises
@@ -74,7 +78,7 @@ is-accepted buf n m e =
       masters-limit = leb-true m mostMasters (and-right (a && b && c && d) _ e);
     }
 
-fed-of : (c : Call) → Bytes (brought c) → Fed Feeds c
+fed-of : (c : Call) → Bytes (secondOf (beside c)) → Fed Feeds c
 fed-of (write t i n buf) y = fed-write i n buf y
 fed-of (allocate-relocatable c) y = tt
 fed-of (allocate-fixed c) y = tt
@@ -131,6 +135,10 @@ sums-as (Text.more b x l) = ap₂ _∷_ (sym (sum-as b)) (sums-as l)
 sums-match : {z : Zone} {l : State Room} → Matches z l → sumsS baySum (z .bays) ≡ sumsS (ledgerBays .sum) (l .bays)
 sums-match (sim k) = sums-like k
 
+-- the same handles and data sizes
+cards-match : {z : Zone} {l : State Room} → Matches z l → List·Permᴰ (concatS (λ (b : List Cell). map OnBays.card (items b)) (z .bays)) (concatS (λ (b : Room). map OnBays.card (b .entries)) (l .bays))
+cards-match (sim k) = concatS-like Fits Equal _ _ (λ b c r. perm-map OnBays.card (r .perm)) k
+
 same-len : {z : Zone} {l : State Room} → Matches z l → z .len ≡ l .len
 same-len (sim k) = refl
 
@@ -139,13 +147,14 @@ same-buf (sim k) = refl
 
 -- ---- one call: from point to point
 
-record Next (m : ℕ) (c : Call) (bs : List ℕ) (z : Zone) (l : Ledger) : Type 0 where
-  pub alike : Alike ((callBytes c bs) .answer) ((Text.step c l) .answer)
-  pub never-1 : (callBytes c bs) .answer .number ≡ 1 → ⊥
-  pub point : Point m ((callBytes c bs) .bytes) ((step zoneBays c z) .next) ((Text.step c l) .next)
+-- a result on bytes and a step of the ledger; u is the zone after the call
+record Next (m : ℕ) (u : Zone) (r : Result) (s : Text.Step) : Type 0 where
+  pub alike : Alike (r .answer) (s .answer)
+  pub never-1 : r .answer .number ≡ 1 → ⊥
+  pub point : Point m (r .bytes) u (s .next)
 
-next : {m : ℕ} (c : Call) (bs : List ℕ) (z : Zone) (l : Ledger) → Fed Feeds c → Point m bs z l → Next m c bs z l
-next {m} c bs z l f p =
+next-nested : {m : ℕ} (c : Call) (bs : List ℕ) (z : Zone) (l : Ledger) → Fed Feeds c → Point m bs z l → Next m ((step zoneBays c z) .next) (callBytes c bs) (Text.step c l)
+next-nested {m} c bs z l f p =
     let w = p .whole in
     let u : Zone = (step zoneBays c z) .next in
     let q = step-same zoneBays ledgerBays link agree c (single z (w .owned)) (p .matches) in
@@ -162,11 +171,19 @@ next {m} c bs z l f p =
       };
     }
 
+-- the same of the definitions that are read
+next : {m : ℕ} (c : Call) (bs : List ℕ) (z : Zone) (l : Ledger) → Fed Feeds c → Point m bs z l → Next m ((step zoneBays c z) .next) (call c bs) (Book.step c l)
+next {m} c bs z l f p =
+    let u : Zone = (step zoneBays c z) .next in
+    subst (λ (r : Result). Next m u r (Book.step c l)) (call-fair c bs (fair-stored bs z (p .whole) (p .stored)))
+    (subst (λ (s : Text.Step). Next m u (callBytes c bs) s) (ledger-same c l (live-once p)) (next-nested c bs z l f p))
+
 -- ---- what stands at a point
 
 stands : {m : ℕ} {bs : List ℕ} {z : Zone} {l : Ledger} → Point m bs z l → Stands bs l
 stands {m} {bs} {z} {l} p = record {
   live = λ h. where-over asItem (λ (e : Item). slice bs (masterAt bs h) (length (e .bytes)) ≡ e .bytes) (entryOf h (l .line)) (rw (entry-as h m l) (live-read bs z (p .whole) (p .stored) (asState m l) (p .matches) h));
+  blocks = rw (reloc-walk bs z (p .whole) (p .stored), cards-as (l .line)) (cards-match (p .matches));
   still = λ q. where-over asFixed (λ (x : Fixed). slice bs q (length (x .bytes)) ≡ x .bytes) (fixedOf q (l .line)) (rw (fixed-as q (l .line)) (fixed-read bs z (p .whole) (p .stored) (asState m l) (p .matches) q));
   places = fixed-walk bs z (p .whole) (p .stored) ∙ spots-match (p .matches) ∙ spots-as (l .line);
   sums = free-walk bs z (p .whole) (p .stored) ∙ sums-match (p .matches) ∙ sums-as (l .line);
@@ -177,63 +194,62 @@ stands {m} {bs} {z} {l} p = record {
 
 -- ---- a list of calls
 
-data Feed : List Call → Type 0 where
-  f-nil : Feed []
-  f-cons : {c : Call} {cs : List Call} → Fed Feeds c → Feed cs → Feed (c ∷ cs)
+-- a point at which the ledger is l
+record Reached (m : ℕ) (bs : List ℕ) (l : Ledger) : Type 0 where
+  zone : Zone
+  point : Point m bs zone l
 
-all-fed : {cs : List Call} → WritesBytes cs → Feed cs
-all-fed no-call = f-nil
-all-fed (a-call {c = c} y o) = f-cons (fed-of c y) (all-fed o)
+-- the point after a call that kept its promise
+onward : {m : ℕ} {bs mid : List ℕ} {l : Ledger} {c : Call} {a : Answer} → Fed Feeds c → Promise c bs a mid → Reached m bs l → Reached m mid ((Book.step c l) .next)
+onward {m} {bs} {mid} {l} {c} f k r = record {
+  zone = (step zoneBays c (r .zone)) .next;
+  point = rw (k .bytes) (next c bs (r .zone) l f (r .point) .point);
+}
 
--- the history starts at bs, which is the point's buffer
-answered : {m : ℕ} {bs end : List ℕ} {cs : List Call} {as′ : List Answer} (b : List ℕ) (z : Zone) (l : Ledger) → bs ≡ b → History bs cs as′ end → Feed cs → Point m b z l
-    → AllAlike as′ (Text.run cs l) × Never 1 as′ × (end ≡ afterBytes cs b)
-answered b z l e stop f p = (none-left, never-nil, e)
-answered {m} {bs} {end} b z l e (then {mid = mid} {c = c} {cs = cs} {a = a} k r) (f-cons f fs) p =
-    let n = next c b z l f p in
-    let ka : Alike a ((callBytes c b) .answer) = subst (λ (x : List ℕ). Alike a ((callBytes c x) .answer)) e (k .answer) in
-    let kb : mid ≡ (callBytes c b) .bytes = k .bytes ∙ ap (λ (x : List ℕ). (callBytes c x) .bytes) e in
-    let q = answered ((callBytes c b) .bytes) ((step zoneBays c z) .next) ((Text.step c l) .next) kb r fs (n .point) in
-    (one-more (alike-trans ka (n .alike)) (q .0), never-cons (λ d. n .never-1 (sym (ka .number) ∙ d)) (q .1), q .2)
+told : {m : ℕ} {bs mid : List ℕ} {l : Ledger} {c : Call} {a : Answer} → Fed Feeds c → Promise c bs a mid → Reached m bs l → Alike a ((Book.step c l) .answer)
+told {bs = bs} {l = l} {c = c} f k r = alike-trans (k .answer) (next c bs (r .zone) l f (r .point) .alike)
 
-reached : {m : ℕ} (cs : List Call) (bs : List ℕ) (z : Zone) (l : Ledger) → Feed cs → Point m bs z l → Point m (afterBytes cs bs) (OnBays.after zoneBays cs z) (Text.after cs l)
-reached [] bs z l f p = p
-reached (c ∷ cs) bs z l (f-cons f fs) p = reached cs ((callBytes c bs) .bytes) ((step zoneBays c z) .next) ((Text.step c l) .next) fs (next c bs z l f p .point)
+reached : {m : ℕ} {bs end : List ℕ} {cs : List Call} {as′ : List Answer} (l : Ledger) → History bs cs as′ end → Reached m bs l → Reached m end (Book.after cs l)
+reached l stop r = r
+reached l (then {c = c} y k h) r = reached ((Book.step c l) .next) h (onward (fed-of c y) k r)
 
-fed-front : (p q : List Call) → Feed (p ++ q) → Feed p
-fed-front [] q f = f-nil
-fed-front (c ∷ p) q (f-cons f fs) = f-cons f (fed-front p q fs)
+answered : {m : ℕ} {bs end : List ℕ} {cs : List Call} {as′ : List Answer} (l : Ledger) → History bs cs as′ end → Reached m bs l → AllAlike as′ (Book.run cs l)
+answered l stop r = none-left
+answered l (then {c = c} y k h) r = one-more (told (fed-of c y) k r) (answered ((Book.step c l) .next) h (onward (fed-of c y) k r))
 
-fed-back : (p q : List Call) → Feed (p ++ q) → Feed q
-fed-back [] q f = f
-fed-back (c ∷ p) q (f-cons f fs) = fed-back p q fs
+never : {m : ℕ} {bs end : List ℕ} {cs : List Call} {as′ : List Answer} (l : Ledger) → History bs cs as′ end → Reached m bs l → Never 1 as′
+never l stop r = never-nil
+never l (then {bs = bs} {c = c} y k h) r =
+    never-cons (λ d. next c bs (r .zone) l (fed-of c y) (r .point) .never-1 (sym (k .answer .number) ∙ d)) (never ((Book.step c l) .next) h (onward (fed-of c y) k r))
 
-after-both : (p q : List Call) (l : Ledger) → Text.after (p ++ q) l ≡ Text.after q (Text.after p l)
-after-both [] q l = refl
-after-both (c ∷ p) q l = after-both p q ((Text.step c l) .next)
+kept : {m : ℕ} {bs end : List ℕ} {cs : List Call} {as′ : List Answer} (l : Ledger) (x : Spot) → History bs cs as′ end → Reached m bs l → NotFreed x cs
+    → Has x (fixedSpots (l .line)) → Has x (fixedSpots (Book.after cs l .line))
+kept l x stop r g h = h
+kept l x (then {c = c} y k hs) r (a-call d g) h =
+    kept ((Book.step c l) .next) x hs (onward (fed-of c y) k r) g
+    (subst (λ (s : Text.Step). Has x (fixedSpots (s .next .line))) (ledger-same c l (live-once (r .point))) (stays-put (c ∷ []) l x (a-call d no-call) h))
 
-head-fed : {c : Call} {cs : List Call} → Feed (c ∷ cs) → Fed Feeds c
-head-fed (f-cons f fs) = f
+request-fed : (r : Request) → Fed Feeds (callOf r)
+request-fed (relocatable c) = tt
+request-fed (fixed c) = tt
+request-fed (resized h c) = tt
 
-claim : {m : ℕ} {b₀ end : List ℕ} {cs : List Call} {as′ : List Answer} (buf n : ℕ) (z : Zone) → Point m b₀ z (Text.initial buf n m) → WritesBytes cs → History b₀ cs as′ end → Claim buf n m b₀ cs as′ end
-claim {m} {b₀} {end} {cs} {as′} buf n z p o r =
-    let f = all-fed o in
-    let l₀ : Ledger = Text.initial buf n m in
-    let a = answered b₀ z l₀ refl r f p in
-    let at : (u v : List Call) → u ++ v ≡ cs → Point m (afterBytes u b₀) (OnBays.after zoneBays u z) (Text.after u l₀) =
-    λ u v e. reached u b₀ z l₀ (fed-front u v (subst Feed (sym e) f)) p in
+claim : {m : ℕ} {b₀ : List ℕ} (buf n : ℕ) → Reached m b₀ (Book.initial buf n m) → Claim buf n m b₀
+claim {m} {b₀} buf n r =
+    let l₀ : Ledger = Book.initial buf n m in
     record {
-      answers = a .0;
-      never-1 = a .1;
-      bytes = a .2;
-      stands = λ u v e. stands (at u v e);
-      unmoved = λ u v w e x g h.
-          let put = stays-put v (Text.after u l₀) x g (subst (Has x) (stands (at u (v ++ w) (sym (append-assoc u v w) ∙ e)) .places) h) in
-          subst (Has x) (ap (λ (l : Ledger). fixedSpots (l .line)) (sym (after-both u v l₀)) ∙ sym (stands (at (u ++ v) w e) .places)) put;
-      space = λ u v q e k.
-          let x = at u (callOf q ∷ v) e in
-          next (callOf q) (afterBytes u b₀) (OnBays.after zoneBays u z) (Text.after u l₀) (head-fed (fed-back u (callOf q ∷ v) (subst Feed (sym e) f))) x .alike .number
-          ∙ space q (Text.after u l₀) (live-once x) k;
+      answers = λ p u mid h. answered l₀ h r;
+      never-1 = λ p u mid h. never l₀ h r;
+      stands = λ p u mid h. stands (reached l₀ h r .point);
+      unmoved = λ p q u v mid end h k x g i.
+          let a : Reached m mid (Book.after p l₀) = reached l₀ h r in
+          let b : Reached m end (Book.after q (Book.after p l₀)) = reached (Book.after p l₀) k a in
+          subst (Has x) (sym (stands (b .point) .places)) (kept (Book.after p l₀) x k a g (subst (Has x) (stands (a .point) .places) i));
+      space = λ p u mid end q a h k e.
+          let b : Reached m mid (Book.after p l₀) = reached l₀ h r in
+          told (request-fed q) k b .number
+          ∙ ap (λ (s : Text.Step). s .answer .number) (sym (ledger-same (callOf q) (Book.after p l₀) (live-once (b .point))))
+          ∙ space q (Book.after p l₀) (live-once (b .point)) e;
     }
 
 -- ---- from initialization on
@@ -272,7 +288,7 @@ init-answer : (n m : ℕ) (bs : List ℕ) → (initBytes n m bs) .answer .number
 init-answer n m bs e = done-accepted (accepts (length bs) n m) _ (record { answer = refusal 2; bytes = bs }) (λ q. omega arith) e
 
 pub the-list : TheList
-the-list bs b₀ end n m a cs as′ i d o r =
-    let t = init-answer n m bs (ap (λ (x : Answer). x .number) (sym (i .answer)) ∙ d) in
-    let e : b₀ ≡ encode (inLine (initial zoneBays (length bs) n m)) ++ drop n bs = i .bytes ∙ rw t in
-    claim (length bs) n (initial zoneBays (length bs) n m) (rw e (initial-point bs n m (is-accepted (length bs) n m t))) o r
+the-list bs b₀ n m a i d =
+    let t = init-answer n m bs (ap (λ (r : Result). r .answer .number) (init-same n m bs) ∙ ap (λ (x : Answer). x .number) (sym (i .answer)) ∙ d) in
+    let e : b₀ ≡ encode (inLine (initial zoneBays (length bs) n m)) ++ drop n bs = i .bytes ∙ ap (λ (r : Result). r .bytes) (sym (init-same n m bs)) ∙ rw t in
+    claim (length bs) n (record { zone = initial zoneBays (length bs) n m; point = rw e (initial-point bs n m (is-accepted (length bs) n m t)) })

@@ -1,108 +1,62 @@
 -- A refused call gives 0 for each value and leaves every byte of both buffers.
 use mathlib.Core.Path.{_≡_, refl}
-use mathlib.Core.Bool.{Bool, true, false, cond, _&&_}
+use mathlib.Core.Bool.{Bool, true, false, cond}
 use mathlib.Core.List.{List, [], _∷_}
-use mathlib.Core.Option.{Option, none, some}
-use Prim.Native.Nat.{ℕ, _+_, _*_, _/_, _%_, min}
+use Prim.Native.Nat.{ℕ, _/_, _*_, min}
 use lib.ListN.{length}
-use lib.Dec.{eqb, leb}
-use Rattle.block_type.specs.Limits.{relocLimit, fixedLimit, up4, fixedNeed, longestZone, recordSize}
+use lib.Dec.{eqb}
 use Rattle.format.specs.WellFormed.{wellFormed}
 use Rattle.structure.specs.Structure.{decode}
-use Rattle.calls.specs.Calls.{Call, allocate-relocatable, allocate-fixed, free-handle, free-pointer, read, write, view, size, roster, check, length-of, resize, compact, sums, enlarge, shrink, Answer, shows}
+use Rattle.calls.specs.Calls.{Call, allocate-relocatable, allocate-fixed, free-handle, free-pointer, read, write, view, size, roster, check, length-of, resize, compact, sums, enlarge, shrink, answers, refusal, refused, beside, secondOf}
+use Rattle.calls.specs.Table.{refusalOf, first, order, badInitialize}
 use Rattle.zone.specs.Bays.{lastS}
-use Rattle.zone.specs.Bay.{Cell}
-use Rattle.zone.specs.OnBays as OnBays
-use Rattle.zone.specs.OnBays.{Out, step, lookup}
-use Rattle.zone.specs.OnBytes.{Zone, inBays, outcome, Result, illFormed, accepts, initBytes}
-use Rattle.zone.specs.Refused.{lent, Unchanged, RefusedUnchanged, RefusedInit}
-use Rattle.zone.proofs.BayKinds.{zoneBays}
-use Rattle.zone.proofs.Run.{same-bytes}
+use Rattle.zone.specs.Bay.{Cell, baySum}
+use Rattle.zone.specs.Zone.{Zone, Out}
+use Rattle.zone.specs.Work.{work, strip}
+use Rattle.zone.specs.Call.{zoneIn, factsOf, Result, result, outcome}
+use Rattle.zone.specs.Refused.{Unchanged, RefusedUnchanged, RefusedInit}
 
--- done, or a refusal that leaves the state s and the second buffer g
-pub data DoneOrKept {B : Type 0} (s : OnBays.State B) (g : List ℕ) : Out B → Type 0 where
-  finished : {a : Answer} {u : OnBays.State B} → a .number ≡ 0 → DoneOrKept s g (record { answer = a; next = u })
-  kept : {n : ℕ} → DoneOrKept s g (record { answer = shows n g; next = s })
+-- work is never refused
+pub strip-number : (n : ℕ) (z : Zone) → (strip n z) .answer .number ≡ 0
+strip-number n z = go (eqb n 0) _ _ refl refl
+  where
+    go : (t : Bool) (a b : Out (List Cell)) → a .answer .number ≡ 0 → b .answer .number ≡ 0 → (cond t a b) .answer .number ≡ 0
+    go true a b p q = p
+    go false a b p q = q
 
-module _ {B : Type 0} {s : OnBays.State B} {g : List ℕ} where
-  on-cond : (t : Bool) {a b : Out B} → DoneOrKept s g a → DoneOrKept s g b → DoneOrKept s g (cond t a b)
-  on-cond true p q = p
-  on-cond false p q = q
-
-  on-give : {X : Type 0} {d : Out B} (o : Option X) {k : X → Out B} → DoneOrKept s g d → ((x : X) → DoneOrKept s g (k x)) → DoneOrKept s g (OnBays.orGive d o k)
-  on-give none p q = p
-  on-give (some x) p q = q x
-
-module _ {B : Type 0} {s : OnBays.State B} where
-  on-found : {X : Type 0} (n : ℕ) (o : Option X) {k : X → Out B} → ((x : X) → DoneOrKept s [] (k x)) → DoneOrKept s [] (OnBays.orRefuse n s o k)
-  on-found n none q = kept
-  on-found n (some x) q = q x
-
-  on-top : (hs : List ℕ) {k : ℕ → List ℕ → Out B} → ((h : ℕ) (ks : List ℕ) → DoneOrKept s [] (k h ks)) → DoneOrKept s [] (OnBays.onTop s hs k)
-  on-top [] q = kept
-  on-top (h ∷ hs) q = q h hs
-
-module _ {B : Type 0} (o : OnBays.BayKind B) where
-  step-kept : (c : Call) (s : OnBays.State B) → DoneOrKept s (lent c) (step o c s)
-  step-kept (allocate-relocatable c) s = on-cond (leb c relocLimit) (on-top (s .chain) (λ h hs. on-found 5 (OnBays.placeLow o (OnBays.newItem h c) (s .bays)) (λ b. finished refl))) kept
-  step-kept (allocate-fixed c) s = on-cond (leb c fixedLimit) (on-found 5 (OnBays.placeHigh o (fixedNeed c) (s .len) (s .bays)) (λ b. finished refl)) kept
-  step-kept (free-handle h) s = on-found 6 (lookup o h s) (λ b. finished refl)
-  step-kept (free-pointer p) s = on-found 7 (OnBays.joinAt o p (s .bays)) (λ b. finished refl)
-  step-kept (read t i n buf) s = on-give (OnBays.content o t (s .bays)) kept (λ v. on-cond (leb (i + n) (length v)) (on-cond (leb n (length buf)) (finished refl) kept) kept)
-  step-kept (write t i n buf) s = on-give (OnBays.content o t (s .bays)) kept (λ v. on-cond (leb (i + n) (length v)) (on-cond (leb n (length buf)) (finished refl) kept) kept)
-  step-kept (view t i n) s = on-give (OnBays.content o t (s .bays)) kept (λ v. on-cond (leb (i + n) (length v)) (finished refl) kept)
-  step-kept (size t) s = on-give (OnBays.content o t (s .bays)) kept (λ v. finished refl)
-  step-kept (roster buf) s = on-cond (leb (recordSize * OnBays.liveCount o s) (length buf)) (finished refl) kept
-  step-kept check s = finished refl
-  step-kept length-of s = finished refl
-  step-kept (resize h c) s = on-found 6 (lookup o h s) (λ e. on-cond (leb c relocLimit) (on-found 5 (OnBays.resizeIn o h (up4 c) e (s .bays)) (λ b. finished refl)) kept)
-  step-kept compact s = finished refl
-  step-kept sums s = finished refl
-  step-kept (enlarge k) s = on-cond (eqb (k % 4) 0 && leb (s .len + k) (s .buf) && leb (s .len + k) longestZone) (finished refl) kept
-  step-kept (shrink k) s = on-cond (eqb (min (k / 4 * 4) (o .sum (lastS (s .bays)))) 0) (finished refl) (finished refl)
-
--- ---- in a buffer
-
-as-given : {n : ℕ} {zone second : List ℕ} → Unchanged zone second (record { answer = shows n second; bytes = zone })
-as-given = record { value = refl; other-value = refl; second-buffer = refl; no-records = refl; zone-buffer = refl }
-
--- the answer of a call on a buffer that is no zone
-ill-kept : (c : Call) (zone : List ℕ) → Unchanged zone (lent c) (record { answer = illFormed c; bytes = zone })
-ill-kept (read t i n buf) zone = as-given
-ill-kept (write t i n buf) zone = as-given
-ill-kept (roster buf) zone = as-given
-ill-kept (view t i n) zone = as-given
-ill-kept check zone = as-given
-ill-kept (allocate-relocatable c) zone = as-given
-ill-kept (allocate-fixed c) zone = as-given
-ill-kept (free-handle h) zone = as-given
-ill-kept (free-pointer p) zone = as-given
-ill-kept (size t) zone = as-given
-ill-kept length-of zone = as-given
-ill-kept (resize h c) zone = as-given
-ill-kept compact zone = as-given
-ill-kept sums zone = as-given
-ill-kept (enlarge k) zone = as-given
-ill-kept (shrink k) zone = as-given
+pub work-number : (c : Call) (z : Zone) → (work c z) .answer .number ≡ 0
+work-number (allocate-relocatable c) z = refl
+work-number (allocate-fixed c) z = refl
+work-number (free-handle h) z = refl
+work-number (free-pointer p) z = refl
+work-number (resize h c) z = refl
+work-number (size t) z = refl
+work-number (read t i n second) z = refl
+work-number (write t i n second) z = refl
+work-number (view t i n) z = refl
+work-number compact z = refl
+work-number sums z = refl
+work-number check z = refl
+work-number length-of z = refl
+work-number (enlarge k) z = refl
+work-number (shrink k) z = strip-number (min (k / 4 * 4) (baySum (lastS (z .bays)))) z
+work-number (roster second) z = refl
 
 pub refused-unchanged : RefusedUnchanged
-refused-unchanged c zone y ne = go (wellFormed zone) refl ne
+refused-unchanged c zone ne = go (eqb (refusalOf c (factsOf (wellFormed zone) (zoneIn zone))) 0) (wellFormed zone) ne
   where
-    z : Zone
-    z = inBays (length zone) (decode zone)
-
-    out : {x : Out (List Cell)} → wellFormed zone ≡ true → DoneOrKept z (lent c) x → (x .answer .number ≡ 0 → ⊥) → Unchanged zone (lent c) (outcome zone (decode zone) x)
-    out w (finished e) ne = absurd (ne e)
-    out w kept ne = record { value = refl; other-value = refl; second-buffer = refl; no-records = refl; zone-buffer = same-bytes zone y w }
-
-    go : (t : Bool) → wellFormed zone ≡ t → ((cond {A = Result} t (outcome zone (decode zone) (step zoneBays c z)) (record { answer = illFormed c; bytes = zone })) .answer .number ≡ 0 → ⊥)
-        → Unchanged zone (lent c) (cond t (outcome zone (decode zone) (step zoneBays c z)) (record { answer = illFormed c; bytes = zone }))
-    go true w ne = out w (step-kept zoneBays c z) ne
-    go false w ne = ill-kept c zone
+    go : (t u : Bool)
+        → ((cond {A = Result} t (cond u (outcome zone (decode zone) (work c (zoneIn zone))) (result (answers 0) zone)) (result (refused c (refusalOf c (factsOf (wellFormed zone) (zoneIn zone)))) zone)) .answer .number ≡ 0 → ⊥)
+        → Unchanged zone (secondOf (beside c)) (cond t (cond u (outcome zone (decode zone) (work c (zoneIn zone))) (result (answers 0) zone)) (result (refused c (refusalOf c (factsOf (wellFormed zone) (zoneIn zone)))) zone))
+    go true true ne = absurd (ne (work-number c (zoneIn zone)))
+    go true false ne = absurd (ne refl)
+    go false u ne = record { value = refl; other-value = refl; second-buffer = refl; no-records = refl; zone-buffer = refl }
 
 pub refused-init : RefusedInit
-refused-init n m zone ne = go (accepts (length zone) n m) refl ne
+refused-init n m zone ne = go (eqb (first order (badInitialize (length zone) n m ∷ [])) 0) _ refl ne
   where
-    go : (t : Bool) → accepts (length zone) n m ≡ t → ((initBytes n m zone) .answer .number ≡ 0 → ⊥) → Unchanged zone [] (initBytes n m zone)
-    go true e ne = absurd (ne (rw e))
-    go false e ne = rw e as-given
+    go : (t : Bool) (r : Result) → r .answer .number ≡ 0
+        → ((cond t r (result (refusal (first order (badInitialize (length zone) n m ∷ []))) zone)) .answer .number ≡ 0 → ⊥)
+        → Unchanged zone [] (cond t r (result (refusal (first order (badInitialize (length zone) n m ∷ []))) zone))
+    go true r q ne = absurd (ne q)
+    go false r q ne = record { value = refl; other-value = refl; second-buffer = refl; no-records = refl; zone-buffer = refl }

@@ -9,7 +9,7 @@ use lib.ListN.{length, take}
 use lib.Seq.{sets, length-sets}
 use lib.Dec.{leb, eqb}
 use borrow.Author.Tests.{leb-true, eqb-true}
-use Rattle.zone.specs.Bays.{Bays, mapS, onFixed, onLast, lastS}
+use Rattle.zone.specs.PickBays.{Bays, mapS, onFixed, onLast, lastS}
 use Rattle.zone.specs.Bay.{Item}
 use Rattle.zone.proofs.BayLaws.{Each, nothing, just}
 use Rattle.zone.proofs.Sound.{Block}

@@ -1,5 +1,5 @@
 -- One bay of a zone: its blocks in address order, and what each call does to it.
-use mathlib.Core.Bool.{Bool, false, cond}
+use mathlib.Core.Bool.{Bool, cond}
 use mathlib.Core.Option.{Option, none, some, Option·getD}
 use mathlib.Core.List.{List, [], _∷_, _++_, map}
 use Prim.Native.Nat.{ℕ, zero, suc, _+_, _-_}
@@ -27,11 +27,6 @@ abbrev pub total : List Item → ℕ
 total [] = 0
 total (e ∷ es) = itemSize e + total es
 
--- the items with another handle
-abbrev pub remove : ℕ → List Item → List Item
-remove h [] = []
-remove h (e ∷ es) = cond (is h e) (remove h es) (e ∷ remove h es)
-
 -- the item with its bytes changed by f, where it has the handle h
 abbrev pub alter : ℕ → (List ℕ → List ℕ) → Item → Item
 alter h f e = cond (is h e) (record { handle = e .handle; bytes = f (e .bytes) }) e
@@ -39,11 +34,6 @@ alter h f e = cond (is h e) (record { handle = e .handle; bytes = f (e .bytes) }
 abbrev pub get : ℕ → List Item → Option Item
 get h [] = none
 get h (e ∷ es) = cond (is h e) (some e) (get h es)
-
--- how many items have the handle
-abbrev pub count : ℕ → List Item → ℕ
-count h [] = 0
-count h (e ∷ es) = cond (is h e) (suc (count h es)) (count h es)
 
 -- ---- a bay's blocks: free ones by their size, relocatable ones by what they hold
 
@@ -162,8 +152,3 @@ reshape h a cs =
     Option·getD
     (growHere h a cs)
     (packed (map (alter h (sized a)) (items cs)) (gap (baySize cs - total (map (alter h (sized a)) (items cs))) []))
-
--- "its own bay's sum reaches a − b"; n is that sum
-abbrev pub roomFor : ℕ → ℕ → Option Item → Bool
-roomFor a n none = false
-roomFor a n (some e) = leb (a - length (e .bytes)) n

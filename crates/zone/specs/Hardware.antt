@@ -7,11 +7,11 @@ use Prim.Native.Nat.{ℕ, _+_}
 use lib.ListN.{length}
 use Rattle.bigendian.specs.BigEndian.{Bytes, overwrite}
 use Rattle.calls.specs.Calls.{by-pointer, Call, write}
-use Rattle.zone.specs.OnBytes.{callBytes}
+use Rattle.zone.specs.Call.{call}
 
 -- the write of all of w to the fixed block of pointer p, from offset i on
 abbrev pub store : ℕ → ℕ → List ℕ → Call
 store p i w = write (by-pointer p) i (length w) w
 
 abbrev pub HardwareWrites : Type 0
-HardwareWrites = (p i : ℕ) (w zone : List ℕ) → Bytes zone → (callBytes (store p i w) zone) .answer .number ≡ 0 → (callBytes (store p i w) zone) .bytes ≡ overwrite zone (p + i) w
+HardwareWrites = (p i : ℕ) (w zone : List ℕ) → Bytes zone → (call (store p i w) zone) .answer .number ≡ 0 → (call (store p i w) zone) .bytes ≡ overwrite zone (p + i) w

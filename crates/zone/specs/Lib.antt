@@ -1,6 +1,10 @@
 pub mod Bay
+pub mod Counted
 pub mod Bays
-pub mod Causes
+pub mod PickBays
+pub mod Zone
+pub mod Work
+pub mod Call
 pub mod Census
 pub mod Claim
 pub mod Group
@@ -14,3 +18,4 @@ pub mod Roster
 pub mod Walker
 pub mod ZoneBays
 pub mod ReelB
+pub mod View

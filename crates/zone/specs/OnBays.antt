@@ -1,28 +1,18 @@
--- Document 01, 'Bays and the calls': what each call answers and does, once for every kind of bay, so that what a list of calls
+-- For proofs: what each call answers and does, once for every kind of bay, so that what a list of calls
 -- answers can be shown of two kinds together.
 use mathlib.Core.Bool.{Bool, false, cond, _&&_}
 use mathlib.Core.Option.{Option, none, some}
 use mathlib.Core.List.{List, [], _∷_, _++_, map}
-use Prim.Native.Nat.{ℕ, zero, suc, _+_, _-_, _*_, _/_, _%_, min}
-use lib.ListN.{length, take, drop, replicate}
+use Prim.Native.Nat.{ℕ, _+_, _-_, _*_, _/_, _%_, min}
+use lib.ListN.{length, take, drop}
 use lib.Seq.{sets}
 use lib.Dec.{leb, eqb}
-use Rattle.block_type.specs.Limits.{fixedHeader, fixedLimit, relocLimit, up4, fixedNeed, zoneHeader, masterSize, firstBlock, longestZone, recordSize}
-use Rattle.calls.specs.Calls.{Target, by-handle, by-pointer, Call, allocate-relocatable, allocate-fixed, free-handle, free-pointer, resize, size, read, write, view, compact, sums, check, length-of, enlarge, shrink, roster, Card, Answer, answers, answersTwo, refusal, shows, lists, absentNumber}
-use Rattle.zone.specs.Bays.{Bays, last, over, onLow, onHigh, onJoin, mapS, onFixed, onLast, orElse, findS, findF, concatS, sumS, maxS, lastS}
-use Rattle.zone.specs.Bay.{Item, itemSize, get, count, resized, roomFor}
-
--- a fixed block: where it starts, and its data
-pub record Fixed : Type 0 where
-  pub place : ℕ
-  pub bytes : List ℕ
-
-abbrev pub fsize : Fixed → ℕ
-fsize x = fixedHeader + length (x .bytes)
-
--- "Answers the data offset, its pointer"
-abbrev pub pointer : Fixed → ℕ
-pointer x = x .place + fixedHeader
+use Rattle.block_type.specs.Limits.{fixedLimit, relocLimit, up4, fixedNeed, zoneHeader, firstBlock, longestZone, recordSize}
+use Rattle.calls.specs.Calls.{Target, by-handle, by-pointer, Call, allocate-relocatable, allocate-fixed, free-handle, free-pointer, resize, size, read, write, view, compact, sums, check, length-of, enlarge, shrink, roster, Card, answersTwo, refusal, shows, lists, absentNumber}
+use Rattle.zone.specs.PickBays.{Bays, last, over, onLow, onHigh, onJoin, mapS, onFixed, onLast, orElse, findS, findF, concatS, sumS, maxS, lastS}
+pub use Rattle.zone.specs.Zone.{Fixed, fsize, pointer, State, Out, newItem, newFixed, alterFixed, card, handlesFrom, says, done, withBays}
+use Rattle.zone.specs.Bay.{Item, itemSize, get, resized}
+use Rattle.zone.specs.Counted.{count, roomFor}
 
 -- what a kind of bay can do
 pub record BayKind (B : Type 0) : Type 0 where
@@ -45,53 +35,11 @@ pub record BayKind (B : Type 0) : Type 0 where
   -- k free bytes more at its end
   pub grow : ℕ → B → B
 
-pub record State (B : Type 0) : Type 0 where
-  -- the buffer's length
-  pub buf : ℕ
-  -- L
-  pub len : ℕ
-  -- the number of masters
-  pub m : ℕ
-  -- the free masters, from the chain's head on
-  pub chain : List ℕ
-  pub bays : Bays B Fixed
-
-pub record Out (B : Type 0) : Type 0 where
-  pub answer : Answer
-  pub next : State B
-
--- "Data are zero"
-abbrev pub newItem : ℕ → ℕ → Item
-newItem h c = record { handle = h; bytes = replicate (up4 c) 0 }
-
--- a fixed block of n bytes before `end`
-abbrev pub newFixed : ℕ → ℕ → Fixed
-newFixed n end = record { place = end - n; bytes = replicate (n - fixedHeader) 0 }
-
--- the fixed block with its bytes changed by f, where it has the pointer p
-abbrev pub alterFixed : ℕ → (List ℕ → List ℕ) → Fixed → Fixed
-alterFixed p f x = cond (eqb p (pointer x)) (record { place = x .place; bytes = f (x .bytes) }) x
-
-abbrev pub card : Item → Card
-card e = record { handle = e .handle; amount = length (e .bytes) }
-
--- n handles: h, h + 4 and so on
-abbrev pub handlesFrom : ℕ → ℕ → List ℕ
-handlesFrom h zero = []
-handlesFrom h (suc n) = h ∷ handlesFrom (h + masterSize) n
-
 -- ---- outcomes: "A refused call leaves the state"
 
 module _ {B : Type 0} where
-  -- an outcome that changes no state
-  abbrev pub says : Answer → State B → Out B
-  says a s = record { answer = a; next = s }
-
   abbrev pub refuse : ℕ → State B → Out B
   refuse n s = record { answer = refusal n; next = s }
-
-  abbrev pub done : ℕ → State B → Out B
-  done v s = record { answer = answers v; next = s }
 
   -- the refusal n where nothing was found
   abbrev pub orRefuse : {X : Type 0} → ℕ → State B → Option X → (X → Out B) → Out B
@@ -107,9 +55,6 @@ module _ {B : Type 0} where
   abbrev pub onTop : State B → List ℕ → (ℕ → List ℕ → Out B) → Out B
   onTop s [] k = refuse 4 s
   onTop s (h ∷ hs) k = k h hs
-
-  abbrev pub withBays : Bays B Fixed → State B → State B
-  withBays b s = record { buf = s .buf; len = s .len; m = s .m; chain = s .chain; bays = b }
 
 module _ {B : Type 0} (o : BayKind B) where
   -- ---- which bay
@@ -277,13 +222,3 @@ module _ {B : Type 0} (o : BayKind B) where
 
   abbrev pub initial : ℕ → ℕ → ℕ → State B
   initial buf n m = record { buf = buf; len = n; m = m; chain = handlesFrom zoneHeader m; bays = last (o .fresh (n - firstBlock m)) }
-
-  -- ---- a list of calls: the answers, and the state after it
-
-  abbrev pub run : List Call → State B → List Answer
-  run [] s = []
-  run (c ∷ cs) s = (step c s) .answer ∷ run cs ((step c s) .next)
-
-  abbrev pub after : List Call → State B → State B
-  after [] s = s
-  after (c ∷ cs) s = after cs ((step c s) .next)

@@ -4,7 +4,7 @@ use mathlib.Core.Path.{_≡_}
 use mathlib.Core.List.{List, List·Permᴰ}
 use Prim.Native.Nat.{ℕ}
 use Rattle.calls.specs.Calls.{Call, Answer}
-use Rattle.zone.specs.OnBytes.{callBytes, initBytes}
+use Rattle.zone.specs.Call.{call, initialize}
 
 -- the same answer; "the roster's records, compared as a set"
 pub record Alike (a b : Answer) : Type 0 where
@@ -15,10 +15,10 @@ pub record Alike (a b : Answer) : Type 0 where
   pub records : List·Permᴰ (a .records) (b .records)
 
 pub record Promise (c : Call) (entry : List ℕ) (a : Answer) (exit : List ℕ) : Type 0 where
-  pub answer : Alike a ((callBytes c entry) .answer)
-  pub bytes : exit ≡ (callBytes c entry) .bytes
+  pub answer : Alike a ((call c entry) .answer)
+  pub bytes : exit ≡ (call c entry) .bytes
 
 -- initialize (length, m)
 pub record InitPromise (n m : ℕ) (entry : List ℕ) (a : Answer) (exit : List ℕ) : Type 0 where
-  pub answer : a ≡ (initBytes n m entry) .answer
-  pub bytes : exit ≡ (initBytes n m entry) .bytes
+  pub answer : a ≡ (initialize n m entry) .answer
+  pub bytes : exit ≡ (initialize n m entry) .bytes

@@ -5,7 +5,19 @@ use Prim.Native.Nat.{ℕ}
 use lib.ListN.{length, replicate}
 use Rattle.bigendian.specs.BigEndian.{slice}
 use Rattle.calls.specs.Calls.{Call, Answer, by-handle, by-pointer, allocate-relocatable, allocate-fixed, free-handle, free-pointer, resize, shrink, size, sums}
-use Rattle.zone.specs.OnBytes.{initBytes, runBytes, afterBytes}
+use Rattle.zone.specs.Call.{call, initialize}
+
+-- ---- a list of calls, each on the bytes that the last one left: the answers, and the bytes after it
+
+abbrev pub answersOf : List Call → List ℕ → List Answer
+answersOf [] bs = []
+answersOf (c ∷ cs) bs = (call c bs) .answer ∷ answersOf cs ((call c bs) .bytes)
+
+abbrev pub bytesAfter : List Call → List ℕ → List ℕ
+bytesAfter [] bs = bs
+bytesAfter (c ∷ cs) bs = bytesAfter cs ((call c bs) .bytes)
+
+-- ---- the table
 
 -- bytes that stand at an offset
 pub record Piece : Type 0 where
@@ -20,7 +32,7 @@ pub record Row : Type 0 where
 
 -- the bytes beyond the zone are 9
 abbrev pub fresh : List ℕ
-fresh = (initBytes 64 4 (replicate 70 9)) .bytes
+fresh = (initialize 64 4 (replicate 70 9)) .bytes
 
 abbrev pub brief : Answer → List ℕ
 brief a = a .number ∷ a .value ∷ a .second ∷ []
@@ -39,8 +51,8 @@ abbrev pub master : ℕ → ℕ → Piece
 master h p = piece h (0 ∷ 0 ∷ 0 ∷ p ∷ [])
 
 pub record Holds (r : Row) : Type 0 where
-  pub told : map brief (runBytes (r .calls) fresh) ≡ r .told
-  pub stands : map (λ p. slice (afterBytes (r .calls) fresh) (p .at) (length (p .bytes))) (r .pieces) ≡ map (λ p. p .bytes) (r .pieces)
+  pub told : map brief (answersOf (r .calls) fresh) ≡ r .told
+  pub stands : map (λ p. slice (bytesAfter (r .calls) fresh) (p .at) (length (p .bytes))) (r .pieces) ≡ map (λ p. p .bytes) (r .pieces)
 
 -- fresh: 00000040 00000020 00000004 00100000 00000014 00000018 0000001C 00000000 00000010, then 28 zero bytes
 abbrev pub r1 : Row

@@ -1,10 +1,11 @@
+use Rattle.locate.proofs.Laws.{bytes-of}
 use Rattle.nafelode.proofs.Laws.{promised}
 use borrow.Author.Needs.{needs}
 use Rattle.nafelode.proofs.enlarge.Statement.{statement}
 use Rattle.nafelode.proofs.enlarge.Tie as tie
 
 returns : tie.Need-returns
-returns c = search promised
+returns c = search (promised, bytes-of)
 
 pub enlarge-spec : {M : Type 1} → statement M
 enlarge-spec = tie.close (tie.spec (λ c κs. search needs) (λ c. search needs) returns)

@@ -14,7 +14,7 @@ cast-length : tie.Need-cast-length
 cast-length c = search length-word
 
 returns : tie.Need-returns
-returns c = (search (view-named, bytes-of), (search offset-named, (search length-named, (search view-in-zone, search view-in-buffer))))
+returns c = (search (view-named, bytes-of), (search (offset-named, bytes-of), (search (length-named, bytes-of), (search view-in-zone, search view-in-buffer))))
 
 pub nafelode-view-spec : {M : Type 1} → statement M
 nafelode-view-spec = tie.close (tie.spec (λ c κs. search needs) (λ c κs. search needs) sub-n cast-start cast-length returns)

@@ -1,0 +1,26 @@
+-- The table picks by its order, of any zone and any ledger; and a refused call leaves a second buffer.
+use mathlib.Core.Path.{_≡_, refl}
+use mathlib.Core.Bool.{Bool, true, not}
+use mathlib.Core.List.{List, [], _∷_}
+use mathlib.Core.Option.{Option, none}
+use Prim.Native.Nat.{ℕ}
+use lib.Dec.{leb}
+use Rattle.block_type.specs.Limits.{relocLimit, up4}
+use Rattle.calls.specs.Calls.{Target, by-handle, resize, read, write, roster, refused}
+use Rattle.calls.specs.Table.{Facts, cause, isNone, first, order, noBayToResize, refusalOf}
+
+-- a resize of a handle that is not live gives 6, whatever else is wrong with it
+pub six-first : (h c : ℕ) (f : Facts) → f .well ≡ true → f .size (by-handle h) ≡ none → refusalOf (resize h c) f ≡ 6
+six-first h c f w e = go (f .well) (leb c relocLimit) (noBayToResize h (up4 c) f .holds) (f .size (by-handle h)) w e
+  where
+    go : (v t u : Bool) (o : Option ℕ) → v ≡ true → o ≡ none → first order (cause 1 (not v) ∷ cause 3 (not t) ∷ cause 5 u ∷ cause 6 (isNone o) ∷ []) ≡ 6
+    go v t u o w e = rw (w, e) refl
+
+pub read-left : (t : Target) (i n k : ℕ) (second : List ℕ) → (refused (read t i n second) k) .bytes ≡ second
+read-left t i n k second = refl
+
+pub write-left : (t : Target) (i n k : ℕ) (second : List ℕ) → (refused (write t i n second) k) .bytes ≡ second
+write-left t i n k second = refl
+
+pub roster-left : (k : ℕ) (second : List ℕ) → (refused (roster second) k) .bytes ≡ second
+roster-left k second = refl

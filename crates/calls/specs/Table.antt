@@ -1,0 +1,134 @@
+-- Document 01, 'Refused calls': THE TABLE, said once, for the zone and for the ledger ("Refusals follow the table, by this state and
+-- the call"). Which causes a call can have, when each holds, and "Order: 1, 2, 6, 7, 3, 4, 5, 8, 9, 10".
+use mathlib.Core.Bool.{Bool, true, false, cond, _&&_, _||_, not}
+use mathlib.Core.List.{List, [], _∷_, _++_}
+use mathlib.Core.Option.{Option, none, some, Option·getD}
+use Prim.Native.Nat.{ℕ, _+_, _-_, _*_, _%_}
+use lib.ListN.{length}
+use lib.Dec.{eqb, leb}
+use Rattle.block_type.specs.Limits.{relocHeader, relocLimit, fixedLimit, up4, relocNeed, fixedNeed, firstBlock, longestZone, mostMasters, recordSize}
+use Rattle.calls.specs.Calls.{Target, by-handle, by-pointer, Call, allocate-relocatable, allocate-fixed, free-handle, free-pointer, resize, size, read, write, view, compact, sums, check, length-of, enlarge, shrink, roster}
+
+-- ---- what the table asks of a zone, or of a ledger
+
+pub record Facts : Type 0 where
+  -- the buffer holds a well-formed zone
+  pub well : Bool
+  -- the buffer's length, and L
+  pub buf : ℕ
+  pub len : ℕ
+  -- the free handles
+  pub free : List ℕ
+  -- the data size of the block that is so named, none where there is no such block
+  pub size : Target → Option ℕ
+  -- the largest bay's sum, and the sum of the bay that has a handle (0 where none has it)
+  pub largest : ℕ
+  pub own : ℕ → ℕ
+  -- the number of live handles
+  pub live : ℕ
+
+-- ---- the causes
+
+pub record Cause : Type 0 where
+  pub number : ℕ
+  pub holds : Bool
+
+abbrev pub cause : ℕ → Bool → Cause
+cause n b = record { number = n; holds = b }
+
+-- a is below b
+abbrev pub below : ℕ → ℕ → Bool
+below a b = not (leb b a)
+
+abbrev pub isNone : {A : Type 0} → Option A → Bool
+isNone none = true
+isNone (some a) = false
+
+abbrev pub isEmpty : {A : Type 0} → List A → Bool
+isEmpty [] = true
+isEmpty (a ∷ l) = false
+
+-- 1: "zone not well-formed (all calls but initialize and check)"
+abbrev pub notWellFormed : Facts → Cause
+notWellFormed f = cause 1 (not (f .well))
+
+-- 2: "initialize: length not a multiple of 4, below 16 + 4m, above the buffer or 1,048,576; m above 8,188"
+abbrev pub badInitialize : ℕ → ℕ → ℕ → Cause
+badInitialize buf n m =
+    cause 2 (not (eqb (n % 4) 0) || (below n (firstBlock m) || (below buf n || (below longestZone n || below mostMasters m))))
+
+-- 3: "c above 32,760 (relocatable, resize) or 32,762 (fixed)"
+abbrev pub tooLarge : ℕ → ℕ → Cause
+tooLarge limit c = cause 3 (below limit c)
+
+-- 4: "allocate relocatable: chain empty"
+abbrev pub chainEmpty : Facts → Cause
+chainEmpty f = cause 4 (isEmpty (f .free))
+
+-- 5: "no bay as required"
+abbrev pub noBay : ℕ → Facts → Cause
+noBay need f = cause 5 (below (f .largest) need)
+
+-- the same of a resize: "4 + a, but of its own bay a − b, or 0 for a ≤ b", where a is the new data size and b the old
+abbrev pub noBayToResize : ℕ → ℕ → Facts → Cause
+noBayToResize h a f =
+    cause 5 (below (f .own h) (a - Option·getD (f .size (by-handle h)) 0) && below (f .largest) (relocHeader + a))
+
+-- 6: "handle not live", 7: "pointer not that of a fixed block"
+abbrev pub noBlock : Target → Facts → Cause
+noBlock (by-handle h) f = cause 6 (isNone (f .size (by-handle h)))
+noBlock (by-pointer p) f = cause 7 (isNone (f .size (by-pointer p)))
+
+-- 8: "offset + count, unwrapped, above data size"
+abbrev pub pastEnd : Target → ℕ → ℕ → Facts → Cause
+pastEnd t i n f = cause 8 (below (Option·getD (f .size t) 0) (i + n))
+
+-- 9: "enlarge: k no multiple of 4, or past buffer or 1,048,576"
+abbrev pub badEnlarge : ℕ → Facts → Cause
+badEnlarge k f = cause 9 (not (eqb (k % 4) 0) || (below (f .buf) (f .len + k) || below longestZone (f .len + k)))
+
+-- 10: "second buffer too short"
+abbrev pub tooShort : List ℕ → ℕ → Cause
+tooShort second n = cause 10 (below (length second) n)
+
+-- ---- the causes that a call can have, in any order
+
+abbrev pub causes : Call → Facts → List Cause
+causes (allocate-relocatable c) f = notWellFormed f ∷ tooLarge relocLimit c ∷ chainEmpty f ∷ noBay (relocNeed c) f ∷ []
+causes (allocate-fixed c) f = notWellFormed f ∷ tooLarge fixedLimit c ∷ noBay (fixedNeed c) f ∷ []
+causes (free-handle h) f = notWellFormed f ∷ noBlock (by-handle h) f ∷ []
+causes (free-pointer p) f = notWellFormed f ∷ noBlock (by-pointer p) f ∷ []
+causes (resize h c) f = notWellFormed f ∷ tooLarge relocLimit c ∷ noBayToResize h (up4 c) f ∷ noBlock (by-handle h) f ∷ []
+causes (size t) f = notWellFormed f ∷ noBlock t f ∷ []
+causes (read t i n second) f = notWellFormed f ∷ noBlock t f ∷ pastEnd t i n f ∷ tooShort second n ∷ []
+causes (write t i n second) f = notWellFormed f ∷ noBlock t f ∷ pastEnd t i n f ∷ tooShort second n ∷ []
+causes (view t i n) f = notWellFormed f ∷ noBlock t f ∷ pastEnd t i n f ∷ []
+causes compact f = notWellFormed f ∷ []
+causes sums f = notWellFormed f ∷ []
+causes check f = []
+causes length-of f = notWellFormed f ∷ []
+causes (enlarge k) f = notWellFormed f ∷ badEnlarge k f ∷ []
+causes (shrink k) f = notWellFormed f ∷ []
+causes (roster second) f = notWellFormed f ∷ tooShort second (recordSize * f .live) ∷ []
+
+-- ---- the order: what comes before "no bay as required", that, and what comes after
+
+abbrev pub beforeNoBay : List ℕ
+beforeNoBay = 1 ∷ 2 ∷ 6 ∷ 7 ∷ 3 ∷ 4 ∷ []
+
+abbrev pub order : List ℕ
+order = beforeNoBay ++ (5 ∷ 8 ∷ 9 ∷ 10 ∷ [])
+
+-- whether the cause of this number holds
+abbrev pub holdsIn : ℕ → List Cause → Bool
+holdsIn n [] = false
+holdsIn n (c ∷ cs) = (eqb n (c .number) && c .holds) || holdsIn n cs
+
+-- the first number that holds; 0 for none
+abbrev pub first : List ℕ → List Cause → ℕ
+first [] cs = 0
+first (n ∷ ns) cs = cond (holdsIn n cs) n (first ns cs)
+
+-- THE REFUSAL NUMBER OF A CALL, 0 where nothing refuses it
+abbrev pub refusalOf : Call → Facts → ℕ
+refusalOf c f = first order (causes c f)

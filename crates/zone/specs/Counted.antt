@@ -1,0 +1,23 @@
+-- For proofs: what is said of the items with a handle.
+use mathlib.Core.Bool.{Bool, false, cond}
+use mathlib.Core.Option.{Option, none, some}
+use mathlib.Core.List.{List, [], _∷_}
+use Prim.Native.Nat.{ℕ, suc, _-_}
+use lib.ListN.{length}
+use lib.Dec.{leb}
+use Rattle.zone.specs.Bay.{Item, is}
+
+-- the items with another handle
+abbrev pub remove : ℕ → List Item → List Item
+remove h [] = []
+remove h (e ∷ es) = cond (is h e) (remove h es) (e ∷ remove h es)
+
+-- how many items have the handle
+abbrev pub count : ℕ → List Item → ℕ
+count h [] = 0
+count h (e ∷ es) = cond (is h e) (suc (count h es)) (count h es)
+
+-- "its own bay's sum reaches a − b"; n is that sum
+abbrev pub roomFor : ℕ → ℕ → Option Item → Bool
+roomFor a n none = false
+roomFor a n (some e) = leb (a - length (e .bytes)) n
