@@ -82,6 +82,11 @@ impl Coverage {
         self.initialized_again += self.answers[0][0].saturating_sub(1);
     }
 
+    /// Accepted initializations.
+    pub fn initializations(&self) -> u64 {
+        self.answers[0][0]
+    }
+
     /// Answers by refusal number, 0 for those done, over all codes.
     pub fn refusals(&self) -> [u64; 11] {
         std::array::from_fn(|number| self.answers.iter().map(|answers| answers[number]).sum())

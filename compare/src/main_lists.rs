@@ -32,6 +32,12 @@ const RECORDS: u64 = 2_000;
 const INPUT_LENGTHS: [usize; 14] =
     [0, 1, 15, 16, 17, 4_096, 65_520, 65_535, 65_536, 65_537, 65_551, 65_552, 131_072, 200_007];
 
+/// Records of the long list: more than 34 chunks of 4,096.
+const LONG: u64 = 140_000;
+
+/// A chunk of records, which zone-run reads at once.
+const CHUNK: usize = 4_096;
+
 struct Comparison {
     program: PathBuf,
     folder: PathBuf,
@@ -81,6 +87,26 @@ impl Comparison {
             return;
         }
         println!("{} inputs of 0 to {longest} bytes, written in pieces", INPUT_LENGTHS.len());
+    }
+
+    /// One list of many chunks, with a short last record: a program that stops
+    /// or loses its place after some of them differs. The list must have
+    /// something to show up to its end.
+    fn long_list(&self) {
+        let (mut list, meets) = generator::list(SEEDS + 1, LONG);
+        list.truncate(LONG as usize * records::RECORD);
+        list.extend_from_slice(&[1, 0, 0, 0, 0]);
+        let wanted = expected(&list);
+        let lines = wanted.lines();
+        let last = &lines[lines.len().saturating_sub(CHUNK)..];
+        let done = last.iter().filter(|line| line.starts_with(b"0 ")).count();
+        let (skips, zones) = (meets.skips, meets.initializations());
+        if lines.len() as u64 != LONG || skips < 100 || zones < 100 || done < CHUNK / 2 {
+            return self.fail(&format!("the long list: {skips} skipped, {zones} zones, {done} done"));
+        }
+        if self.compare("long", &list, 65_537) {
+            println!("a list of {LONG} records: {zones} initializations, {skips} records skipped");
+        }
     }
 
     /// Two workers over the seeds; both stop at the first failing list.
@@ -140,6 +166,7 @@ fn main() -> ExitCode {
     };
     comparison.rows();
     comparison.input_lengths();
+    comparison.long_list();
     comparison.fresh(seed);
     comparison.seeds();
     if comparison.failed.into_inner() {

@@ -10,11 +10,10 @@ use lib.ListN.{length, take, drop, length-append, length-take, length-drop, leng
 use lib.Seq.{take-append-add, drop-append-add, take-append-le, drop-append-le}
 use Rattle.bigendian.specs.BigEndian.{toBE, overwrite, Bytes}
 use Rattle.bigendian.proofs.Laws.{length-toBE}
-use Rattle.format.proofs.Count.{offsets, length-offsets}
+use Rattle.format.proofs.Count.{offsets, length-offsets, occurs}
 use Rattle.structure.specs.Structure.{Block, free, fixed, reloc, Structure, size, encodeBlock, sizes, relocCount, count, start, len, placeOf, nextOf, value, words, join, header, encode}
 use Rattle.structure.specs.Valid.{handlesOf, Tiled, Valid}
 use Rattle.structure.proofs.Codec.{bytes-take, bytes-drop}
-use Rattle.format.proofs.Count.{occurs}
 use Rattle.access.specs.Edit.{dataOf, edit, store}
 
 -- ---- overwrite
@@ -215,7 +214,7 @@ module _ (h off : ℕ) (src : List ℕ) (s : Structure) (v : Valid s) (p : 0 < p
 
   value-same : (g : ℕ) → value s′ g ≡ value s g
   unfolding store
-  value-same g = ap (λ (x : ℕ). x + nextOf g (s .links)) (ap (λ (at : ℕ). placeOf g at (edit h off src (s .blocks))) start-same ∙ place-edit h off src g (start s) (s .blocks) l)
+  value-same g = ap (λ (x : ℕ). x + nextOf g (s .chain)) (ap (λ (at : ℕ). placeOf g at (edit h off src (s .blocks))) start-same ∙ place-edit h off src g (start s) (s .blocks) l)
 
   header-same : header s′ ≡ header s
   unfolding header store
@@ -244,7 +243,7 @@ module _ (h off : ℕ) (src : List ℕ) (s : Structure) (v : Valid s) (p : 0 < p
   unfolding store
   store-valid y = record {
     tiled = tiled-edit h off src false (s .blocks) y l (v .tiled);
-    owned = λ g. ap (λ (hs : List ℕ). occurs g hs + occurs g (s .links)) (handles-edit h off src (s .blocks)) ∙ v .owned g ∙ ap (λ (n : ℕ). occurs g (offsets 16 n)) (sym count-same);
+    owned = λ g. ap (λ (hs : List ℕ). occurs g hs + occurs g (s .chain)) (handles-edit h off src (s .blocks)) ∙ v .owned g ∙ ap (λ (n : ℕ). occurs g (offsets 16 n)) (sym count-same);
     few = omega (arith, count-same, v .few);
     short = omega (arith, len-same, v .short);
   }

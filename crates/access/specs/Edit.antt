@@ -23,7 +23,7 @@ edit h off src (fixed d ∷ bs) = fixed d ∷ edit h off src bs
 edit h off src (reloc k d ∷ bs) = cond (eqb h k) (reloc k (overwrite d off src) ∷ bs) (reloc k d ∷ edit h off src bs)
 
 unfoldable pub store : ℕ → ℕ → List ℕ → Structure → Structure
-store h off src s = record { links = s .links; blocks = edit h off src (s .blocks) }
+store h off src s = record { chain = s .chain; blocks = edit h off src (s .blocks) }
 
 -- where the data of handle h lies in the zone z, 0 where h is not live, and the data
 unfoldable pub placeIn : List ℕ → ℕ → ℕ

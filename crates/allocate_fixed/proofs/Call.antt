@@ -13,7 +13,7 @@ use Rattle.block_type.specs.Limits.{fixedNeed}
 use Rattle.format.specs.WellFormed.{wellFormed, lengthField}
 use Rattle.structure.specs.Structure.{decodeZone, decode, encode}
 use Rattle.calls.specs.Calls.{told, allocate-fixed}
-use Rattle.zone.specs.OnBytes.{result, callBytes}
+use Rattle.zone.specs.Call.{result, call}
 use Rattle.call_laws.proofs.Plan.{bytes-of}
 use Rattle.allocate_fixed.proofs.Bays.{fixed-is}
 use Rattle.allocate_fixed.specs.Fixed.{allocated, pointerOf, fixedNumber, fixedOut}
@@ -65,7 +65,7 @@ module _ (s : List ℕ) (c number l need a e sum tail : ℕ) where
       call-word = record { fits = omega (arith, ask-end (take l s) need a e sum tail call-site) }
 
       pub call-end : (y : List ℕ) → ((i : ℕ) → Fits w8 (getD s i 0)) → y ≡ encode (allocated need (decodeZone (take l s)))
-          → result (told 0 (e - need + 2)) (y ++ drop l s) ≡ callBytes (allocate-fixed c) s
+          → result (told 0 (e - need + 2)) (y ++ drop l s) ≡ call (allocate-fixed c) s
       call-end y g q =
           let r = ready z in
           done s c l need (e - need + 2) y (r .well) (r .is-len) (sym (r .is-number) ∙ z) (r .is-need) (pointer-here (take l s) need a e sum tail call-site) q
@@ -81,5 +81,5 @@ module _ (s : List ℕ) (c number l need a e sum tail : ℕ) where
             let k : number ≡ fixedNumber (decodeZone (take (lengthField s) s)) c = q ∙ ap (λ (m : ℕ). fixedNumber (decodeZone (take m s)) c) el in
             rw (w, ← k, ne-eqb number 0 ne)
 
-    pub call-no : ((i : ℕ) → Fits w8 (getD s i 0)) → (number ≡ 0 → ⊥) → result (told number 0) s ≡ callBytes (allocate-fixed c) s
+    pub call-no : ((i : ℕ) → Fits w8 (getD s i 0)) → (number ≡ 0 → ⊥) → result (told number 0) s ≡ call (allocate-fixed c) s
     call-no g ne = flat-no ne ∙ fixed-is s c (bytes-of s g)

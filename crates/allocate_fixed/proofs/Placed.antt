@@ -55,7 +55,7 @@ fixed-bytes n l =
 
 -- ---- in the structure
 
-pub allocated-is : (need : ℕ) (s : Structure) (p : Spot) → bayFor need s ≡ some p → allocated need s ≡ record { links = s .links; blocks = withFixed need p }
+pub allocated-is : (need : ℕ) (s : Structure) (p : Spot) → bayFor need s ≡ some p → allocated need s ≡ record { chain = s .chain; blocks = withFixed need p }
 unfolding allocated
 allocated-is need s p e = rw e
 
@@ -103,7 +103,7 @@ module _ (s : Structure) (v : Valid s) (need a e sum tail : ℕ) (x : Site s nee
       ∙ ap (overwrite z (e - k)) (sym (bytes-append (gapOf (k - need)) (fixed (replicate (need - 2) 0) ∷ [])))
       ∙ ap (λ (o : ℕ). overwrite z o (bytesOf new)) at
       ∙ fixed-placed (open₁ .zone) (open₁ .valid) (open₁ .pre) (p .after) k need (open₁ .parts) (hole .fits) (hole .low) (hole .four) (hole .four-k) (omega (arith, hole .order, hole .inside, hole .short)) (x .high)
-      ∙ ap₂ (λ (ls : List ℕ) (bs : List Block). encode (record { links = ls; blocks = bs })) (open₁ .same-links) blocks-are
+      ∙ ap₂ (λ (ls : List ℕ) (bs : List Block). encode (record { chain = ls; blocks = bs })) (open₁ .same-chain) blocks-are
       ∙ ap encode (sym (allocated-is need s p (x .chosen)))
 
 -- ---- the same in the bytes of a zone

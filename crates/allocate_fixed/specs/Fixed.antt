@@ -8,7 +8,7 @@ use Rattle.block_type.specs.Limits.{fixedHeader, fixedLimit, fixedNeed}
 use Rattle.format.specs.WellFormed.{wellFormed, lengthField}
 use Rattle.structure.specs.Structure.{Block, fixed, Structure, sizes, start, decode, encode}
 use Rattle.calls.specs.Calls.{told}
-use Rattle.zone.specs.OnBytes.{Result, result}
+use Rattle.zone.specs.Call.{Result, result}
 use Rattle.find_bay.specs.Spots.{Spot, put, Choice, none, some}
 use Rattle.bay_changes.specs.TakeOff.{takeOff}
 use Rattle.take_high.specs.Highest.{highFor}
@@ -31,7 +31,7 @@ placedIn need (some p) bs = withFixed need p
 
 -- the structure with a new fixed block of need bytes
 unfoldable pub allocated : ℕ → Structure → Structure
-allocated need s = record { links = s .links; blocks = placedIn need (bayFor need s) (s .blocks) }
+allocated need s = record { chain = s .chain; blocks = placedIn need (bayFor need s) (s .blocks) }
 
 -- where the data of the new block begin
 abbrev pub pointerIn : ℕ → ℕ → Choice → ℕ

@@ -4,7 +4,7 @@ ghost use Prim.Native.Nat.{_+_};
 ghost use Rattle.structure.specs.Structure.{encode, decodeZone};
 ghost use Rattle.access.specs.Edit.{IsZone};
 ghost use Rattle.calls.specs.Calls.{told, allocate-fixed};
-ghost use Rattle.zone.specs.OnBytes.{result, callBytes};
+ghost use Rattle.zone.specs.Call.{result, call};
 ghost use Rattle.allocate_fixed.specs.Fixed.{allocated};
 ghost use Rattle.allocate_fixed.specs.Site.{SiteIn, PlannedIn, Planned};
 use block_type::BlockType;
@@ -107,7 +107,7 @@ fn plan_zone(zone: &[u8], c: u32) -> Plan
 
 // Allocates a fixed block for c data bytes. Answers the refusal number, 0 if done, and the offset of its data, its pointer.
 pub fn allocate_fixed(zone: &mut [u8], c: u32) -> Told
-    ensures { λ r. ⌜ result (told (r .number) (r .value)) (now (zone .exit)) ≡ callBytes (allocate-fixed c) (now (zone .entry)) ⌝ }
+    ensures { λ r. ⌜ result (told (r .number) (r .value)) (now (zone .exit)) ≡ call (allocate-fixed c) (now (zone .entry)) ⌝ }
 {
     let p = plan_zone(zone, c);
     let number = p.number;

@@ -12,7 +12,7 @@ use Rattle.bigendian.specs.BigEndian.{fromBE, slice}
 use Rattle.format.specs.WellFormed.{wellFormed, lengthField}
 use Rattle.structure.specs.Structure.{headOf, decodeZone, decode, encode}
 use Rattle.calls.specs.Calls.{told, allocate-relocatable}
-use Rattle.zone.specs.OnBytes.{result, callBytes}
+use Rattle.zone.specs.Call.{result, call}
 use Rattle.call_laws.proofs.Plan.{bytes-of}
 use Rattle.allocate_relocatable.proofs.Bays.{alloc-is}
 use Rattle.allocate_relocatable.specs.Alloc.{allocated, needOf, allocCode, allocOut}
@@ -20,7 +20,7 @@ use Rattle.allocate_relocatable.specs.Site.{SiteIn, PlannedIn, planned-i
 use Rattle.allocate_relocatable.proofs.Placed.{below-end, head-here}
 
 done : (s : List ℕ) (c l need h : ℕ) (y : List ℕ) → wellFormed s ≡ true → l ≡ lengthField s → allocCode (decodeZone (take l s)) c ≡ 0 → need ≡ needOf c
-    → headOf (decodeZone (take l s) .links) ≡ h → y ≡ encode (allocated need (decodeZone (take l s))) → result (told 0 h) (y ++ drop l s) ≡ allocOut s c
+    → headOf (decodeZone (take l s) .chain) ≡ h → y ≡ encode (allocated need (decodeZone (take l s))) → result (told 0 h) (y ++ drop l s) ≡ allocOut s c
 unfolding allocOut decode
 done s c l need h y w el k en eh ey = rw (w, ← el, k, eh, ey, en)
 
@@ -62,7 +62,7 @@ module _ (s : List ℕ) (c number l need h next a e at n : ℕ) (t : Bool) where
           let r = ready z in
           done s c l need h y (r .well) (r .is-len) (sym (r .is-number) ∙ z) (r .is-need) (head-here (take l s) need h next a e at n t call-site) q
 
-      pub call-end : (y : List ℕ) → ((i : ℕ) → Fits w8 (getD s i 0)) → y ≡ encode (allocated need (decodeZone (take l s))) → result (told 0 h) (y ++ drop l s) ≡ callBytes (allocate-relocatable c) s
+      pub call-end : (y : List ℕ) → ((i : ℕ) → Fits w8 (getD s i 0)) → y ≡ encode (allocated need (decodeZone (take l s))) → result (told 0 h) (y ++ drop l s) ≡ call (allocate-relocatable c) s
       call-end y g q = flat-done y q ∙ alloc-is s c (bytes-of s g)
 
     flat-no : (number ≡ 0 → ⊥) → result (told number 0) s ≡ allocOut s c
@@ -75,5 +75,5 @@ module _ (s : List ℕ) (c number l need h next a e at n : ℕ) (t : Bool) where
             let k : number ≡ allocCode (decodeZone (take (lengthField s) s)) c = q ∙ ap (λ (m : ℕ). allocCode (decodeZone (take m s)) c) el in
             rw (w, ← k, ne-eqb number 0 ne)
 
-    pub call-no : ((i : ℕ) → Fits w8 (getD s i 0)) → (number ≡ 0 → ⊥) → result (told number 0) s ≡ callBytes (allocate-relocatable c) s
+    pub call-no : ((i : ℕ) → Fits w8 (getD s i 0)) → (number ≡ 0 → ⊥) → result (told number 0) s ≡ call (allocate-relocatable c) s
     call-no g ne = flat-no ne ∙ alloc-is s c (bytes-of s g)

@@ -34,7 +34,7 @@ regroup a b c d e = simp append-assoc
 
 -- ---- a free block inside a bay
 
-module _ (s : Structure) (v : Valid s) (p q : Spot) (n : ℕ) (ws : s .blocks ≡ put p (put q (free n ∷ []))) (need h : ℕ) (ks : List ℕ) (el : s .links ≡ h ∷ ks)
+module _ (s : Structure) (v : Valid s) (p q : Spot) (n : ℕ) (ws : s .blocks ≡ put p (put q (free n ∷ []))) (need h : ℕ) (ks : List ℕ) (el : s .chain ≡ h ∷ ks)
     (low : 4 ≤ need) (fit : need ≤ n) (four : need % 4 ≡ 0) (high : need ≤ 32764) (at : ℕ) (ea : at ≡ start s + sizes (p .before) + sizes (q .before)) where
   abbrev pre : List Block
   pre = p .before ++ q .before
@@ -48,11 +48,11 @@ module _ (s : Structure) (v : Valid s) (p q : Spot) (n : ℕ) (ws : s .blocks �
   at-is : at ≡ start s + sizes pre
   at-is = omega (arith, ea, sizes-append (p .before) (q .before))
 
-  carve-in : carvedBytes (encode s) need h (headOf ks) at n ≡ encode (record { links = ks; blocks = put p (put q (carvedFrom need h n)) })
+  carve-in : carvedBytes (encode s) need h (headOf ks) at n ≡ encode (record { chain = ks; blocks = put p (put q (carvedFrom need h n)) })
   carve-in =
       ap (λ (o : ℕ). carvedBytes (encode s) need h (headOf ks) o n) at-is
       ∙ carved s v pre post need h n ks parts el low fit four high
-      ∙ ap (λ (b : List Block). encode (record { links = ks; blocks = b })) (sym (regroup (p .before) (q .before) (carvedFrom need h n) (q .after) (p .after)))
+      ∙ ap (λ (b : List Block). encode (record { chain = ks; blocks = b })) (sym (regroup (p .before) (q .before) (carvedFrom need h n) (q .after) (p .after)))
 
   sound : Sound ((free n ∷ []) ++ post)
   sound = sound-right pre ((free n ∷ []) ++ post) (subst Sound parts (valid-sound s v))
@@ -94,7 +94,7 @@ settle-made need h n mid eq en = rw (eq, one-free (freeTotal mid), en)
     one-free : (k : ℕ) → freeTotal (free k ∷ []) ≡ k
     one-free k = free-one (free k) refl
 
-pub allocated-is : (need : ℕ) (s : Structure) (p : Spot) (h : ℕ) (ks : List ℕ) → s .links ≡ h ∷ ks → bayFor need s ≡ some p → allocated need s ≡ record { links = ks; blocks = put p (settle need h (p .inside)) }
+pub allocated-is : (need : ℕ) (s : Structure) (p : Spot) (h : ℕ) (ks : List ℕ) → s .chain ≡ h ∷ ks → bayFor need s ≡ some p → allocated need s ≡ record { chain = ks; blocks = put p (settle need h (p .inside)) }
 unfolding allocated
 allocated-is need s p h ks el eb = rw (el, eb)
 
@@ -115,10 +115,10 @@ module _ (s : Structure) (v : Valid s) (need h next a e at n : ℕ) (t : Bool) (
   enough = bay-is need (s .blocks) p (x .is-bay) .1
 
   abbrev result : Structure
-  result = record { links = x .ks; blocks = put p (settle need h mid) }
+  result = record { chain = x .ks; blocks = put p (settle need h mid) }
 
   result-is : allocated need s ≡ result
-  result-is = allocated-is need s p h (x .ks) (x .is-links) (x .is-bay)
+  result-is = allocated-is need s p h (x .ks) (x .is-chain) (x .is-bay)
 
   -- in a hole that is there
   module _ (q : Spot) (eq : firstFit need (holes mid) ≡ some q) (ea : at ≡ a + sizes (q .before)) (en : n ≡ freeTotal (q .inside)) where
@@ -138,7 +138,7 @@ module _ (s : Structure) (v : Valid s) (need h next a e at n : ℕ) (t : Bool) (
     place-is = omega (arith, ea, x .is-start)
 
     there-fit : Fit (encode s) at n need h
-    there-fit = fit-in s v p q n whole need h (x .ks) (x .is-links) (x .low) room (x .four) (x .high) at place-is
+    there-fit = fit-in s v p q n whole need h (x .ks) (x .is-chain) (x .low) room (x .four) (x .high) at place-is
 
     there-settle : settle need h mid ≡ put q (carvedFrom need h n)
     there-settle = settle-there need h n mid q eq en
@@ -146,8 +146,8 @@ module _ (s : Structure) (v : Valid s) (need h next a e at n : ℕ) (t : Bool) (
     there-done : carvedBytes (encode s) need h next at n ≡ encode (allocated need s)
     there-done =
         ap (λ (k : ℕ). carvedBytes (encode s) need h k at n) (x .is-next)
-        ∙ carve-in s v p q n whole need h (x .ks) (x .is-links) (x .low) room (x .four) (x .high) at place-is
-        ∙ ap (λ (b : List Block). encode (record { links = x .ks; blocks = put p b })) (sym there-settle)
+        ∙ carve-in s v p q n whole need h (x .ks) (x .is-chain) (x .low) room (x .four) (x .high) at place-is
+        ∙ ap (λ (b : List Block). encode (record { chain = x .ks; blocks = put p b })) (sym there-settle)
         ∙ ap encode (sym result-is)
 
   -- after compacting
@@ -156,7 +156,7 @@ module _ (s : Structure) (v : Valid s) (need h next a e at n : ℕ) (t : Bool) (
     q₁ = spot (used mid) (free n ∷ []) []
 
     abbrev s₁ : Structure
-    s₁ = record { links = s .links; blocks = put p (squeeze mid) }
+    s₁ = record { chain = s .chain; blocks = put p (squeeze mid) }
 
     v₁ : Valid s₁
     v₁ = bay-valid s v p bay
@@ -177,7 +177,7 @@ module _ (s : Structure) (v : Valid s) (need h next a e at n : ℕ) (t : Bool) (
         ap₂ (tidied (encode s)) (x .is-start) l ∙ bay-tidied s v p bay
 
     made-fit : Fit (tidied (encode s) a (e - a)) at n need h
-    made-fit = subst (λ (y : List ℕ). Fit y at n need h) (sym tidied-is) (fit-in s₁ v₁ p q₁ n whole₁ need h (x .ks) (x .is-links) (x .low) room₁ (x .four) (x .high) at place₁)
+    made-fit = subst (λ (y : List ℕ). Fit y at n need h) (sym tidied-is) (fit-in s₁ v₁ p q₁ n whole₁ need h (x .ks) (x .is-chain) (x .low) room₁ (x .four) (x .high) at place₁)
 
     made-settle : settle need h mid ≡ put q₁ (carvedFrom need h n)
     made-settle = settle-made need h n mid eq en
@@ -185,8 +185,8 @@ module _ (s : Structure) (v : Valid s) (need h next a e at n : ℕ) (t : Bool) (
     made-done : carvedBytes (tidied (encode s) a (e - a)) need h next at n ≡ encode (allocated need s)
     made-done =
         ap₂ (λ (y : List ℕ) (k : ℕ). carvedBytes y need h k at n) tidied-is (x .is-next)
-        ∙ carve-in s₁ v₁ p q₁ n whole₁ need h (x .ks) (x .is-links) (x .low) room₁ (x .four) (x .high) at place₁
-        ∙ ap (λ (b : List Block). encode (record { links = x .ks; blocks = put p b })) (sym made-settle)
+        ∙ carve-in s₁ v₁ p q₁ n whole₁ need h (x .ks) (x .is-chain) (x .low) room₁ (x .four) (x .high) at place₁
+        ∙ ap (λ (b : List Block). encode (record { chain = x .ks; blocks = put p b })) (sym made-settle)
         ∙ ap encode (sym result-is)
 
   -- what compacting asks
@@ -294,5 +294,5 @@ module _ (z : List ℕ) (need h next a e at n : ℕ) (t : Bool) (x : SiteIn z ne
       go (there g q eq ea en) = let f = there-fit s₀ v₀ need h next a e at n t here q eq ea en in omega (arith, f .below, f .inside, f .short)
       go (made g eq en ea) = let f = made-fit s₀ v₀ need h next a e at n t here eq en ea in omega (arith, f .below, f .inside, f .short)
 
-  pub head-here : headOf (decodeZone z .links) ≡ h
-  head-here = ap headOf (here .is-links)
+  pub head-here : headOf (decodeZone z .chain) ≡ h
+  head-here = ap headOf (here .is-chain)

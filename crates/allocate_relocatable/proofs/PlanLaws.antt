@@ -27,8 +27,7 @@ use Rattle.compact_bay.proofs.Squeeze.{used-sizes}
 use Rattle.surgery.proofs.Sound.{valid-sound, handle-once}
 use Rattle.surgery.proofs.Replace.{sizes-parts}
 use Rattle.surgery.proofs.Carved.{part-bytes}
-use Rattle.surgery.proofs.Spots.{IsBay, bay-is}
-use Rattle.surgery.proofs.Spots.{hole-is as hole-at}
+use Rattle.surgery.proofs.Spots.{IsBay, bay-is, hole-is as hole-at}
 use mir.Val.{Fits}
 use mir.Syntax.{w64}
 use Rattle.allocate_relocatable.specs.Site.{HoleOf, there, made, SiteIn, site-in, BayOf, BayIn, bay-in}
@@ -79,9 +78,9 @@ module _ (z : List ℕ) (need h a e sum : ℕ) (x : BayIn z need h a e sum) wher
   bay : IsBay (s .blocks) p
   bay = bay-is need (s .blocks) p (here .is-bay) .0
 
-  in-chain : occurs h (s .links) ≡ suc (occurs h (here .ks))
+  in-chain : occurs h (s .chain) ≡ suc (occurs h (here .ks))
   unfolding occurs
-  in-chain = ap (occurs h) (here .is-links) ∙ omega (arith, one-same h h refl)
+  in-chain = ap (occurs h) (here .is-chain) ∙ omega (arith, one-same h h refl)
 
   master : Master (firstField z) h
   master =
@@ -94,7 +93,7 @@ module _ (z : List ℕ) (need h a e sum : ℕ) (x : BayIn z need h a e sum) wher
   next-is : (next : ℕ) → next ≡ fromBE (slice z h 4) → next ≡ headOf (here .ks)
   unfolding nextOf
   next-is next en =
-      let n : nextOf h (s .links) ≡ headOf (here .ks) = ap (nextOf h) (here .is-links) ∙ (rw (eq-eqb h h refl)) in
+      let n : nextOf h (s .chain) ≡ headOf (here .ks) = ap (nextOf h) (here .is-chain) ∙ (rw (eq-eqb h h refl)) in
       omega (arith, en, value-is z w h master, place-none h (start s) (s .blocks) (omega (arith, handle-once s v h, in-chain)), n)
 
   sound-mid : Sound mid
@@ -141,7 +140,7 @@ module _ (z : List ℕ) (need h a e sum : ℕ) (x : BayIn z need h a e sum) wher
     bay = p;
     is-bay = here .is-bay;
     ks = here .ks;
-    is-links = here .is-links;
+    is-chain = here .is-chain;
     is-next = next-is next en;
     is-start = here .is-start;
     is-end = here .is-end;

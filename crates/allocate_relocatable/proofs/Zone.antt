@@ -36,10 +36,10 @@ occurs-first : (g : ℕ) (ls : List ℕ) → 0 < occurs g (g ∷ ls)
 unfolding occurs
 occurs-first g ls = omega (arith, one-same g g refl)
 
-none-left : (s : Structure) → Valid s → headOf (s .links) ≡ 0 → length (s .links) ≡ 0
-none-left s v e = go (s .links) refl e
+none-left : (s : Structure) → Valid s → headOf (s .chain) ≡ 0 → length (s .chain) ≡ 0
+none-left s v e = go (s .chain) refl e
   where
-    go : (ls : List ℕ) → s .links ≡ ls → headOf ls ≡ 0 → length ls ≡ 0
+    go : (ls : List ℕ) → s .chain ≡ ls → headOf ls ≡ 0 → length ls ≡ 0
     go [] q x = refl
     go (g ∷ ls) q x =
         let r = offset-is g 16 (count s) (omega (arith, v .owned g, ap (occurs g) q, occurs-first g ls)) in
@@ -52,17 +52,17 @@ pub number-3 : (s : Structure) (c : ℕ) → 32760 < c → allocCode s c ≡ 3
 unfolding allocCode
 number-3 s c l = rw (lt-ltb 32760 c l)
 
-pub number-4 : (s : Structure) (c : ℕ) → c ≤ 32760 → length (s .links) ≡ 0 → allocCode s c ≡ 4
+pub number-4 : (s : Structure) (c : ℕ) → c ≤ 32760 → length (s .chain) ≡ 0 → allocCode s c ≡ 4
 unfolding allocCode
-number-4 s c l e = rw (le-ltb 32760 c l, eq-eqb (length (s .links)) 0 e)
+number-4 s c l e = rw (le-ltb 32760 c l, eq-eqb (length (s .chain)) 0 e)
 
-pub number-5 : (s : Structure) (c : ℕ) → c ≤ 32760 → (length (s .links) ≡ 0 → ⊥) → bayFor (needOf c) s ≡ none → allocCode s c ≡ 5
+pub number-5 : (s : Structure) (c : ℕ) → c ≤ 32760 → (length (s .chain) ≡ 0 → ⊥) → bayFor (needOf c) s ≡ none → allocCode s c ≡ 5
 unfolding allocCode
-number-5 s c l e b = rw (le-ltb 32760 c l, ne-eqb (length (s .links)) 0 e, b)
+number-5 s c l e b = rw (le-ltb 32760 c l, ne-eqb (length (s .chain)) 0 e, b)
 
-pub number-0 : (s : Structure) (c : ℕ) (p : Spot) → c ≤ 32760 → (length (s .links) ≡ 0 → ⊥) → bayFor (needOf c) s ≡ some p → allocCode s c ≡ 0
+pub number-0 : (s : Structure) (c : ℕ) (p : Spot) → c ≤ 32760 → (length (s .chain) ≡ 0 → ⊥) → bayFor (needOf c) s ≡ some p → allocCode s c ≡ 0
 unfolding allocCode
-number-0 s c p l e b = rw (le-ltb 32760 c l, ne-eqb (length (s .links)) 0 e, b)
+number-0 s c p l e b = rw (le-ltb 32760 c l, ne-eqb (length (s .chain)) 0 e, b)
 
 other : {A : Type 0} (number k : ℕ) → number ≡ suc k → number ≡ 0 → A
 other number k e q = let x : ⊥ = omega arith in absurd x
@@ -76,7 +76,7 @@ module _ (z : List ℕ) (c number need h next a e at n : ℕ) (t : Bool) where
 
   pub in-0 : number ≡ 0 → c ≤ 32760 → (k : ℕ) → need ≡ k → k ≡ needOf c → SiteIn z need h next a e at n t → PlannedIn z c number need h next a e at n t
   in-0 q l k ek en (site-in i x) =
-      planned-in (q ∙ sym (number-0 (decodeZone z) c (x .bay) l (λ y. omega (arith, ap length (x .is-links))) (ap (λ (m : ℕ). bayFor m (decodeZone z)) (sym (ek ∙ en)) ∙ x .is-bay)))
+      planned-in (q ∙ sym (number-0 (decodeZone z) c (x .bay) l (λ y. omega (arith, ap length (x .is-chain))) (ap (λ (m : ℕ). bayFor m (decodeZone z)) (sym (ek ∙ en)) ∙ x .is-bay)))
       (λ y. (ek ∙ en, site-in i x))
 
 -- ---- the bay
@@ -114,10 +114,10 @@ module _ (z : List ℕ) (i : IsZone z) (first : ℕ) (ef : first ≡ fromBE (sli
 
   module _ (c need k a e sum : ℕ) (f : Bool) (l : c ≤ 32760) (ek : k ≡ fromBE (slice z 12 2)) (k0 : k ≡ 0 → ⊥) (en : need ≡ needOf c)
       (q : bayN f a e sum ≡ findBay need first first 0 (blocksOf (drop first z))) where
-    linked : (ks : List ℕ) × (s .links ≡ k ∷ ks)
-    linked = go (s .links) refl
+    linked : (ks : List ℕ) × (s .chain ≡ k ∷ ks)
+    linked = go (s .chain) refl
       where
-        go : (ls : List ℕ) → s .links ≡ ls → (ks : List ℕ) × (s .links ≡ k ∷ ks)
+        go : (ls : List ℕ) → s .chain ≡ ls → (ks : List ℕ) × (s .chain ≡ k ∷ ks)
         go [] y = absurd (k0 (ek ∙ sym (head-is z w) ∙ ap headOf y))
         go (g ∷ ls) y = (ls, y ∙ ap (λ (m : ℕ). m ∷ ls) (sym (ek ∙ sym (head-is z w) ∙ ap headOf y)))
 
@@ -130,7 +130,7 @@ module _ (z : List ℕ) (i : IsZone z) (first : ℕ) (ef : first ≡ fromBE (sli
           bay = p;
           is-bay = y;
           ks = linked .0;
-          is-links = linked .1;
+          is-chain = linked .1;
           is-start = ap (λ (b : BayN). b .start) x ∙ ap (λ (o : ℕ). o + sizes (p .before)) start-of;
           is-end = omega (arith, ap (λ (b : BayN). b .end) x, ap (λ (b : BayN). b .start) x);
           is-sum = ap (λ (b : BayN). b .sum) x;

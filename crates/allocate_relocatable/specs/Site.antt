@@ -33,7 +33,7 @@ pub record Site (s : Structure) (need h next a e at n : ℕ) (tidy : Bool) : Typ
   pub bay : Spot
   pub is-bay : bayFor need s ≡ some bay
   pub ks : List ℕ
-  pub is-links : s .links ≡ h ∷ ks
+  pub is-chain : s .chain ≡ h ∷ ks
   pub is-next : next ≡ headOf ks
   pub is-start : a ≡ start s + sizes (bay .before)
   pub is-end : e ≡ a + sizes (bay .inside)
@@ -58,7 +58,7 @@ pub record BayOf (s : Structure) (need h a e sum : ℕ) : Type 0 where
   pub bay : Spot
   pub is-bay : bayFor need s ≡ some bay
   pub ks : List ℕ
-  pub is-links : s .links ≡ h ∷ ks
+  pub is-chain : s .chain ≡ h ∷ ks
   pub is-start : a ≡ start s + sizes (bay .before)
   pub is-end : e ≡ a + sizes (bay .inside)
   pub is-sum : sum ≡ freeTotal (bay .inside)

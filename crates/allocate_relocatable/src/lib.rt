@@ -9,7 +9,7 @@ ghost use Rattle.row.specs.Row.{bytesOf};
 ghost use Rattle.surgery.specs.Carved.{carvedFrom, carvedBytes};
 ghost use Rattle.allocate_relocatable.specs.Alloc.{allocated};
 ghost use Rattle.calls.specs.Calls.{told, allocate-relocatable};
-ghost use Rattle.zone.specs.OnBytes.{result, callBytes};
+ghost use Rattle.zone.specs.Call.{result, call};
 ghost use Rattle.allocate_relocatable.specs.Site.{Fit, SiteIn, BayIn, PlannedIn, Planned};
 use block_type::BlockType;
 use calls::Told;
@@ -200,7 +200,7 @@ fn plan_zone(zone: &[u8], c: u32) -> Plan
 
 // Allocates a relocatable block for c data bytes. Answers the refusal number, 0 if done, and the handle.
 pub fn allocate_relocatable(zone: &mut [u8], c: u32) -> Told
-    ensures { λ r. ⌜ result (told (r .number) (r .value)) (now (zone .exit)) ≡ callBytes (allocate-relocatable c) (now (zone .entry)) ⌝ }
+    ensures { λ r. ⌜ result (told (r .number) (r .value)) (now (zone .exit)) ≡ call (allocate-relocatable c) (now (zone .entry)) ⌝ }
 {
     let p = plan_zone(zone, c);
     let number = p.number;

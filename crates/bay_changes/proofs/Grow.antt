@@ -9,9 +9,9 @@ use borrow.Author.Tests.{eqb-true}
 use Rattle.format.proofs.Count.{occurs}
 use Rattle.structure.specs.Structure.{Block, free, reloc}
 use Rattle.structure.specs.Valid.{handlesOf}
-use Rattle.release.specs.Release as Release
-use Rattle.zone.specs.PickBays.{over}
-use Rattle.zone.specs.Bay.{Item, is, Cell, free as gapCell, held, items, inPlace, growHere}
+use Rattle.calls.specs.Bays.{over}
+use Rattle.calls.specs.State.{Item, is}
+use Rattle.zone.specs.Bay.{Cell, free as gapCell, held, items, inPlace, growHere}
 use Rattle.zone.specs.Counted.{count}
 use Rattle.bay_spots.proofs.Spots.{blocksIn}
 

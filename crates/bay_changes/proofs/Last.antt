@@ -4,9 +4,9 @@ use mathlib.Core.Bool.{Bool, true}
 use mathlib.Core.List.{List, [], _∷_, _++_, append-assoc}
 use Rattle.structure.specs.Structure.{Block, fixed}
 use Rattle.find_bay.specs.Spots.{Spot, spot, bays, Choice, some as theSpot}
-use Rattle.zone.specs.PickBays.{Bays, last, more, onLast, lastS}
+use Rattle.calls.specs.Bays.{Bays, last, more, onLast, lastS}
 use Rattle.zone.specs.Bay.{Cell}
-use Rattle.zone.specs.OnBays.{Fixed}
+use Rattle.calls.specs.State.{Fixed}
 use Rattle.zone.specs.Group.{flatBay, flatten}
 use Rattle.bay_spots.proofs.Spots.{blocksIn, flat-split, spotsFrom, spots-are, orSpot, lastBy}
 

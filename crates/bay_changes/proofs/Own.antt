@@ -11,10 +11,10 @@ use borrow.Author.Tests.{eqb-true}
 use Rattle.format.proofs.Count.{occurs}
 use Rattle.structure.specs.Valid.{handlesOf}
 use Rattle.access.specs.Edit.{dataOf}
-use Rattle.zone.specs.Bay.{is, get, Cell, free as gapCell, held, baySum, items}
+use Rattle.calls.specs.State.{is, get}
+use Rattle.zone.specs.Bay.{Cell, free as gapCell, held, baySum, items}
 use Rattle.zone.specs.Counted.{count, roomFor}
-use Rattle.zone.specs.OnBays.{own}
-use Rattle.zone.specs.ZoneBays.{zoneBays}
+use Rattle.zone.specs.Search.{own}
 use Rattle.bay_spots.proofs.Spots.{blocksIn, sum-flat}
 pub use Rattle.bay_changes.specs.OwnBay.{ownBlocks}
 
@@ -39,7 +39,7 @@ room-flat h a n (held e ∷ cs) l = go (is h e) l (room-flat h a n cs)
     go true l f = refl
     go false l f = f l
 
-pub own-flat : (h a : ℕ) (b : List Cell) → own zoneBays h a b ≡ ownBlocks h a (blocksIn b)
+pub own-flat : (h a : ℕ) (b : List Cell) → own h a b ≡ ownBlocks h a (blocksIn b)
 own-flat h a b = go (eqb (count h (items b)) 1) refl ∙ ap₂ (λ (k s : ℕ). cond (eqb k 1) (leb (a - length (dataOf h (blocksIn b))) s) false) (count-flat h b) (sym (sum-flat b))
   where
     go : (t : Bool) → eqb (count h (items b)) 1 ≡ t → cond t (roomFor a (baySum b) (get h (items b))) false ≡ cond t (leb (a - length (dataOf h (blocksIn b))) (baySum b)) false

@@ -13,7 +13,8 @@ use Rattle.structure.specs.Structure.{Block, free, fixed, reloc, sizes}
 use Rattle.structure.specs.Valid.{handlesOf}
 use Rattle.find_bay.specs.Spots.{used, gapOf}
 use Rattle.find_bay.proofs.Numbers.{sizes-append}
-use Rattle.zone.specs.Bay.{Item, itemSize, is, total, alter, Cell, baySize, baySum, items, gap, packed, sized}
+use Rattle.calls.specs.State.{Item, itemSize, is, total, alter, sized}
+use Rattle.zone.specs.Bay.{Cell, baySize, baySum, items, gap, packed}
 use Rattle.zone.proofs.BayLaws.{bsize-split}
 use Rattle.bay_spots.proofs.Spots.{blocksIn, packed-flat, gap-flat}
 

@@ -9,7 +9,7 @@ use lib.Dec.{leb}
 use borrow.Author.Tests.{lt-leb}
 use Rattle.structure.specs.Structure.{Block, free, reloc}
 use Rattle.find_bay.specs.Spots.{freeTotal, used, gapOf}
-use Rattle.zone.specs.PickBays.{over}
+use Rattle.calls.specs.Bays.{over}
 use Rattle.zone.specs.Bay.{Cell, free as gapCell, held, baySum, items, gap, packed, trim, takeHigh}
 use Rattle.bay_spots.proofs.Spots.{blocksIn, sum-flat, packed-flat, gap-flat}
 pub use Rattle.bay_changes.specs.TakeOff.{endFree, front, takeOff}

@@ -11,7 +11,8 @@ use lib.ListN.{replicate}
 use Rattle.structure.specs.Structure.{Block, free, reloc}
 use Rattle.find_bay.specs.Spots.{freeTotal, Spot, spot, put, holesFrom, holes, Choice, firstFit, used, gapOf, carve, orElse, settle}
 use Rattle.zone.specs.Bay as Bay
-use Rattle.zone.specs.Bay.{Item, itemSize, Cell, free as gapCell, held, baySum, items, gap, packed, fit}
+use Rattle.calls.specs.State.{Item, itemSize}
+use Rattle.zone.specs.Bay.{Cell, free as gapCell, held, baySum, items, gap, packed, fit}
 use Rattle.zone.proofs.Sound.{Sound, s-nil, s-end, s-free, s-held}
 use Rattle.bay_spots.proofs.Spots.{blocksIn, sum-flat, packed-flat, gap-flat, Paired, neither, both, paired-over, paired-cond}
 

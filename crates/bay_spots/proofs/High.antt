@@ -10,10 +10,11 @@ use lib.Dec.{leb}
 use Rattle.structure.specs.Structure.{Block, fixed, sizes}
 use Rattle.find_bay.specs.Spots.{freeTotal, Spot, put, bays}
 use Rattle.find_bay.proofs.Numbers.{sizes-append}
-use Rattle.zone.specs.PickBays.{Bays, last, more, onHigh, AllS}
+use Rattle.calls.specs.Bays.{Bays, last, more}
+use Rattle.zone.specs.PickBays.{onHigh, AllS}
 use Rattle.zone.specs.Bay.{Cell}
-use Rattle.zone.specs.OnBays.{Fixed, fsize, reaches, newFixed, placeHigh}
-use Rattle.zone.specs.ZoneBays.{zoneBays}
+use Rattle.calls.specs.State.{Fixed, fsize, newFixed}
+use Rattle.zone.specs.Search.{reaches, placeHigh}
 use Rattle.zone.specs.Group.{flatBay, flatten}
 use Rattle.zone.specs.Bay as Bay
 use Rattle.zone.proofs.Places.{Tiled, tile-last, tile-more}
@@ -94,7 +95,7 @@ module _ (D : List Cell → Type 0) (t : List Cell → Bool) (q : List Block →
 
 -- "the highest bay whose sum reaches the need"
 pub high-fit : (D : List Cell → Type 0) (need first end : ℕ) (s : Bays (List Cell) Fixed) → Tiled first s end → AllS D s
-    → Paired (HighAt D (reaches zoneBays need) (Bay.takeHigh need) (newFixed need) [] first [] s) (placeHigh zoneBays need end s)
+    → Paired (HighAt D (reaches need) (Bay.takeHigh need) (newFixed need) [] first [] s) (placeHigh need end s)
     (lastBy (λ (bs : List Block). leb need (freeTotal bs)) (bays (flatten s)))
 high-fit D need first end s l d =
-    high-spot D (reaches zoneBays need) (λ (bs : List Block). leb need (freeTotal bs)) (λ b. ap (leb need) (sym (sum-flat b))) (Bay.takeHigh need) (newFixed need) [] first end s l d
+    high-spot D (reaches need) (λ (bs : List Block). leb need (freeTotal bs)) (λ b. ap (leb need) (sym (sum-flat b))) (Bay.takeHigh need) (newFixed need) [] first end s l d

@@ -7,10 +7,11 @@ use Prim.Native.Nat.{ℕ}
 use lib.Dec.{leb}
 use Rattle.structure.specs.Structure.{Block, fixed}
 use Rattle.find_bay.specs.Spots.{freeTotal, Spot, put, bays, firstFit}
-use Rattle.zone.specs.PickBays.{Bays, last, more, onLow, AllS}
+use Rattle.calls.specs.Bays.{Bays, last, more}
+use Rattle.zone.specs.PickBays.{onLow, AllS}
 use Rattle.zone.specs.Bay.{Cell}
-use Rattle.zone.specs.OnBays.{Fixed, reaches}
-use Rattle.zone.specs.ZoneBays.{zoneBays}
+use Rattle.calls.specs.State.{Fixed}
+use Rattle.zone.specs.Search.{reaches}
 use Rattle.zone.specs.Group.{flatBay, flatten}
 use Rattle.bay_spots.proofs.Spots.{blocksIn, flat-split, sum-flat, spotsFrom, spots-are, Paired, neither, both, paired-over, paired-cond, firstBy, first-fit}
 
@@ -58,7 +59,7 @@ module _ (D : List Cell → Type 0) (t : List Cell → Bool) (q : List Block →
 
 -- "the lowest whose sum reaches the need"
 pub low-fit : (D : List Cell → Type 0) (need : ℕ) (f : List Cell → List Cell) (s : Bays (List Cell) Fixed) → AllS D s
-    → Paired (BayAt D (reaches zoneBays need) f [] s) (onLow (reaches zoneBays need) f s) (firstFit need (bays (flatten s)))
+    → Paired (BayAt D (reaches need) f [] s) (onLow (reaches need) f s) (firstFit need (bays (flatten s)))
 low-fit D need f s d =
-    subst (Paired (BayAt D (reaches zoneBays need) f [] s) (onLow (reaches zoneBays need) f s)) (sym (first-fit need (bays (flatten s))))
-    (low-spot D (reaches zoneBays need) (λ (bs : List Block). leb need (freeTotal bs)) (λ b. ap (leb need) (sym (sum-flat b))) f s d)
+    subst (Paired (BayAt D (reaches need) f [] s) (onLow (reaches need) f s)) (sym (first-fit need (bays (flatten s))))
+    (low-spot D (reaches need) (λ (bs : List Block). leb need (freeTotal bs)) (λ b. ap (leb need) (sym (sum-flat b))) f s d)

@@ -10,9 +10,9 @@ use borrow.Author.Tests.{ne-eqb}
 use lib.ListN.{length}
 use Rattle.structure.specs.Structure.{Block, free, fixed, reloc, sizes}
 use Rattle.find_bay.specs.Spots.{freeTotal, Spot, spot, baysFrom, bays, Choice, none as noSpot, some as theSpot, firstFit, used, gapOf}
-use Rattle.zone.specs.PickBays.{Bays, last, more, over, orElse}
+use Rattle.calls.specs.Bays.{Bays, last, more, over, orElse}
 use Rattle.zone.specs.Bay.{Cell, free as gapCell, held, baySize, baySum, items, gap, packed}
-use Rattle.zone.specs.OnBays.{Fixed}
+use Rattle.calls.specs.State.{Fixed}
 use Rattle.zone.specs.Group.{flatBay, flatten}
 pub use Rattle.bay_spots.specs.Choose.{orSpot, firstBy, lastBy}
 

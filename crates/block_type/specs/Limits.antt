@@ -32,7 +32,7 @@ fixedLimit = 32762
 abbrev pub relocLimit : ℕ
 relocLimit = 32760
 
--- ---- sizes
+-- ---- sizes (a difference of numbers stops at 0, here and everywhere: `3 - 5` is 0)
 
 -- "up4(k) is the least multiple of 4 not below k"
 abbrev pub up4 : ℕ → ℕ

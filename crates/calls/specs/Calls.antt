@@ -52,21 +52,9 @@ pub record Answer : Type 0 where
 abbrev pub told : ℕ → ℕ → Answer
 told n v = record { number = n; value = v; second = 0; bytes = []; records = [] }
 
--- done, with one value
-abbrev pub answers : ℕ → Answer
-answers v = record { number = 0; value = v; second = 0; bytes = []; records = [] }
-
--- done, with two values
-abbrev pub answersTwo : ℕ → ℕ → Answer
-answersTwo v w = record { number = 0; value = v; second = w; bytes = []; records = [] }
-
--- the answer to `sum`: the refusal number (0 for done), the total of free bytes, the largest bay's sum
-abbrev pub summed : ℕ → ℕ → ℕ → Answer
-summed n total largest = record { number = n; value = total; second = largest; bytes = []; records = [] }
-
--- refused with number n
-abbrev pub refusal : ℕ → Answer
-refusal n = record { number = n; value = 0; second = 0; bytes = []; records = [] }
+-- a refusal number (0 for done) and two values
+abbrev pub toldTwo : ℕ → ℕ → ℕ → Answer
+toldTwo n v w = record { number = n; value = v; second = w; bytes = []; records = [] }
 
 -- done (n is 0) or refused, with these bytes in the second buffer, or in the view
 abbrev pub shows : ℕ → List ℕ → Answer
@@ -75,11 +63,6 @@ shows n bs = record { number = n; value = 0; second = 0; bytes = bs; records = [
 -- a roster: how many, the records, and the later bytes of the second buffer
 abbrev pub lists : ℕ → List Card → List ℕ → Answer
 lists n cs bs = record { number = 0; value = n; second = 0; bytes = bs; records = cs }
-
--- the refusal where no block is so named: "handle not live" 6, "pointer not that of a fixed block" 7
-abbrev pub absentNumber : Target → ℕ
-absentNumber (by-handle h) = 6
-absentNumber (by-pointer p) = 7
 
 -- ---- what a call is lent beside the zone
 

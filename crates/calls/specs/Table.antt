@@ -7,6 +7,8 @@ use Prim.Native.Nat.{ℕ, _+_, _-_, _*_, _%_}
 use lib.ListN.{length}
 use lib.Dec.{eqb, leb}
 use Rattle.block_type.specs.Limits.{relocHeader, relocLimit, fixedLimit, up4, relocNeed, fixedNeed, firstBlock, longestZone, mostMasters, recordSize}
+use Rattle.calls.specs.Bays.{over, maxS}
+use Rattle.calls.specs.State.{Item, State, content, ownSum, liveCount}
 use Rattle.calls.specs.Calls.{Target, by-handle, by-pointer, Call, allocate-relocatable, allocate-fixed, free-handle, free-pointer, resize, size, read, write, view, compact, sums, check, length-of, enlarge, shrink, roster}
 
 -- ---- what the table asks of a zone, or of a ledger
@@ -18,7 +20,7 @@ pub record Facts : Type 0 where
   pub buf : ℕ
   pub len : ℕ
   -- the free handles
-  pub free : List ℕ
+  pub handles : List ℕ
   -- the data size of the block that is so named, none where there is no such block
   pub size : Target → Option ℕ
   -- the largest bay's sum, and the sum of the bay that has a handle (0 where none has it)
@@ -26,6 +28,19 @@ pub record Facts : Type 0 where
   pub own : ℕ → ℕ
   -- the number of live handles
   pub live : ℕ
+
+-- of a state with these relocatable blocks in a bay, and this sum; `well` is whether the buffer holds a well-formed zone
+abbrev pub factsOf : {B : Type 0} → (B → List Item) → (B → ℕ) → Bool → State B → Facts
+factsOf all μ well s = record {
+  well = well;
+  buf = s .buf;
+  len = s .len;
+  handles = s .chain;
+  size = λ t. over length (content all t (s .bays));
+  largest = maxS μ (s .bays);
+  own = λ h. ownSum all μ h (s .bays);
+  live = liveCount all s;
+}
 
 -- ---- the causes
 
@@ -63,13 +78,14 @@ tooLarge limit c = cause 3 (below limit c)
 
 -- 4: "allocate relocatable: chain empty"
 abbrev pub chainEmpty : Facts → Cause
-chainEmpty f = cause 4 (isEmpty (f .free))
+chainEmpty f = cause 4 (isEmpty (f .handles))
 
 -- 5: "no bay as required"
 abbrev pub noBay : ℕ → Facts → Cause
 noBay need f = cause 5 (below (f .largest) need)
 
--- the same of a resize: "4 + a, but of its own bay a − b, or 0 for a ≤ b", where a is the new data size and b the old
+-- the same of a resize: "4 + a, but of its own bay a − b, or 0 for a ≤ b", where a is the new data size and b the old (of a handle that
+-- is not live 6 comes first)
 abbrev pub noBayToResize : ℕ → ℕ → Facts → Cause
 noBayToResize h a f =
     cause 5 (below (f .own h) (a - Option·getD (f .size (by-handle h)) 0) && below (f .largest) (relocHeader + a))
@@ -79,7 +95,7 @@ abbrev pub noBlock : Target → Facts → Cause
 noBlock (by-handle h) f = cause 6 (isNone (f .size (by-handle h)))
 noBlock (by-pointer p) f = cause 7 (isNone (f .size (by-pointer p)))
 
--- 8: "offset + count, unwrapped, above data size"
+-- 8: "offset + count, unwrapped, above data size" (of a block that is not there 6 or 7 comes first)
 abbrev pub pastEnd : Target → ℕ → ℕ → Facts → Cause
 pastEnd t i n f = cause 8 (below (Option·getD (f .size t) 0) (i + n))
 
@@ -128,6 +144,10 @@ holdsIn n (c ∷ cs) = (eqb n (c .number) && c .holds) || holdsIn n cs
 abbrev pub first : List ℕ → List Cause → ℕ
 first [] cs = 0
 first (n ∷ ns) cs = cond (holdsIn n cs) n (first ns cs)
+
+-- of initialize
+abbrev pub initRefusal : ℕ → ℕ → ℕ → ℕ
+initRefusal buf n m = first order (badInitialize buf n m ∷ [])
 
 -- THE REFUSAL NUMBER OF A CALL, 0 where nothing refuses it
 abbrev pub refusalOf : Call → Facts → ℕ

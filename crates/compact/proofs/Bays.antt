@@ -12,9 +12,9 @@ use lib.ListN.{length}
 use Rattle.structure.specs.Structure.{Block, free, fixed, reloc, sizes}
 use Rattle.find_bay.specs.Spots.{freeSize, freeTotal, used, gapOf, squeeze}
 use Rattle.find_bay.proofs.Numbers.{free-append}
-use Rattle.zone.specs.PickBays.{Bays, last, more, maxS}
-use Rattle.zone.specs.Bay.{Item, Cell, free as gapCell, held, baySum}
-use Rattle.zone.specs.OnBays.{Fixed}
+use Rattle.calls.specs.Bays.{Bays, last, more, maxS}
+use Rattle.calls.specs.State.{Item, Fixed}
+use Rattle.zone.specs.Bay.{Cell, free as gapCell, held, baySum}
 use Rattle.zone.specs.Group.{inFront, group}
 use Rattle.zone.proofs.Pack.{hole, pack}
 use Rattle.compact.specs.All.{tidyFrom, larger, largestFrom}

@@ -15,10 +15,10 @@ use Rattle.structure.proofs.Sound.{valid-zone}
 use Rattle.access.specs.Edit.{IsZone}
 use Rattle.access.proofs.Zone.{whole-of}
 use Rattle.calls.specs.Calls.{told, compact}
-use Rattle.zone.specs.OnBytes.{result, callBytes}
+use Rattle.zone.specs.Call.{result, call}
 use Rattle.zone.proofs.Pack.{compact-line}
 use Rattle.call_laws.proofs.Plan.{bytes-of, slice-take}
-use Rattle.call_laws.proofs.Outcome.{call-ill, call-done}
+use Rattle.call_laws.proofs.Outcome.{none-lent, call-done}
 use Rattle.compact.specs.All.{largest, compacted}
 use Rattle.compact.specs.Compact.{Planned, refused, planned}
 use Rattle.compact.proofs.Bays.{tidy-is, largest-is, largest-le}
@@ -32,12 +32,12 @@ plan-yes s l first ok w q el f i ef = planned (sym w ∙ not-false ok q) refl el
 
 -- the flat compaction is the call's
 compact-is : (s : List ℕ) → ((i : ℕ) → Fits w8 (getD s i 0)) → wellFormed s ≡ true
-    → callBytes compact s ≡ result (told 0 (largest (decode s))) (encode (compacted (decode s)) ++ drop (lengthField s) s)
+    → call compact s ≡ result (told 0 (largest (decode s))) (encode (compacted (decode s)) ++ drop (lengthField s) s)
 unfolding compacted
 compact-is s f w =
     let d : Structure = decode s in
-    call-done s (bytes-of s f) w compact tt _ refl refl (compacted d)
-    (compact-line (length s) d ∙ (λ i. record { links = d .links; blocks = sym (tidy-is (d .blocks)) i }))
+    call-done s (bytes-of s f) w compact none-lent _ refl refl (compacted d)
+    (compact-line (length s) d ∙ (λ i. record { chain = d .chain; blocks = sym (tidy-is (d .blocks)) i }))
     ∙ ap (λ (v : ℕ). result (told 0 v) (encode (compacted d) ++ drop (lengthField s) s)) (sym (largest-is (start d) (d .blocks)))
 
 module _ (s : List ℕ) (number l first : ℕ) (p : Planned s number l first) where
@@ -70,17 +70,17 @@ module _ (s : List ℕ) (number l first : ℕ) (p : Planned s number l first) wh
     call-word v ev = record { fits = omega (arith, largest-le (decodeZone (take l s) .blocks), valid-zone (take l s) (whole-of (take l s) call-zone) .short) }
 
     pub call-end : (v : ℕ) (y : List ℕ) → ((i : ℕ) → Fits w8 (getD s i 0)) → v ≡ largest (decodeZone (take l s)) → y ≡ encode (compacted (decodeZone (take l s)))
-        → result (told 0 v) (y ++ drop l s) ≡ callBytes compact s
+        → result (told 0 v) (y ++ drop l s) ≡ call compact s
     unfolding decode
     call-end v y f ev ey = go p
       where
-        go : Planned s number l first → result (told 0 v) (y ++ drop l s) ≡ callBytes compact s
+        go : Planned s number l first → result (told 0 v) (y ++ drop l s) ≡ call compact s
         go (refused w k) = let x : ⊥ = omega arith in absurd x
         go (planned w k el g i ef) = (rw (ev, ey, el)) ∙ sym (compact-is s f w)
 
-  pub call-no : (number ≡ 0 → ⊥) → result (told number 0) s ≡ callBytes compact s
+  pub call-no : (number ≡ 0 → ⊥) → result (told number 0) s ≡ call compact s
   call-no ne = go p
     where
-      go : Planned s number l first → result (told number 0) s ≡ callBytes compact s
-      go (refused w k) = rw k (sym (call-ill s compact w))
+      go : Planned s number l first → result (told number 0) s ≡ call compact s
+      go (refused w k) = rw (k, w)
       go (planned w k el f i ef) = absurd (ne k)

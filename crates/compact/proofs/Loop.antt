@@ -108,7 +108,7 @@ going-done s₀ z o best (going s a el et em) l =
     let n : a .rest ≡ [] = sizes-none (a .rest) (so-rest s z o a) (omega (arith, long s z o a)) in
     let t : s .blocks ≡ tidyFrom [] (s₀ .blocks) = a .parts ∙ ap (λ (x : List Block). a .pre ++ x) (n ∙ sym tidy-nil ∙ ap (tidyFrom []) (sym n)) ∙ et in (
       sym (most-nil best) ∙ ap (largestFrom best []) (sym n) ∙ em,
-      a .image ∙ ap₂ (λ (x : List ℕ) (y : List Block). encode (record { links = x; blocks = y })) el t,
+      a .image ∙ ap₂ (λ (x : List ℕ) (y : List Block). encode (record { chain = x; blocks = y })) el t,
     )
 
 -- past one bay
@@ -152,7 +152,7 @@ going-step s₀ z z′ o best sum next best′ (going s a el et em) l (bayed end
     let af = after s z o a end sum next q l z′ e in
     let nx = next-is s z o a end sum next q in
     let sm = sum-is s z o a end sum next q in
-    going (record { links = s .links; blocks = a .pre ++ (squeeze (c .mid) ++ c .post) })
+    going (record { chain = s .chain; blocks = a .pre ++ (squeeze (c .mid) ++ c .post) })
     (record { valid = af .1; image = af .0; pre = pa .before; rest = pa .rest; parts = pa .parts; left = pa .left; place = omega (arith, nx, af .2, a .place, pa .total) })
     el
     (pa .tidy ∙ ap (λ (x : List Block). a .pre ++ x) (sym (c .tidy [])) ∙ et)

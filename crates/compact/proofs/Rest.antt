@@ -222,7 +222,7 @@ module _ (s : Structure) (z : List ℕ) (o : ℕ) (a : AtOf s z o) where
         go (suc k) e = omega (arith, next-is)
 
     abbrev s₁ : Structure
-    s₁ = record { links = s .links; blocks = put p (squeeze (sp .mid)) }
+    s₁ = record { chain = s .chain; blocks = put p (squeeze (sp .mid)) }
 
     -- the structure after this bay
     pub after : o < length z → (z′ : List ℕ) → z′ ≡ tidied z o (end - o) → (z′ ≡ encode s₁) × Valid s₁ × (start s₁ ≡ start s)
@@ -236,4 +236,4 @@ module _ (s : Structure) (z : List ℕ) (o : ℕ) (a : AtOf s z o) where
     still tail et es l =
         let so-mid = sound-left (sp .mid) (sp .post) so-parts in
         let m = packed (sp .mid) so-mid (sym sum-is ∙ es ∙ et ∙ ap (tailOf 0) rest-tiles ∙ sp .tail 0) in
-        a .image ∙ ap (λ (x : List Block). encode (record { links = s .links; blocks = x })) (is-bay l .parts ∙ ap (put p) (sym m)) ∙ sym (after l (tidied z o (end - o)) refl .0)
+        a .image ∙ ap (λ (x : List Block). encode (record { chain = s .chain; blocks = x })) (is-bay l .parts ∙ ap (put p) (sym m)) ∙ sym (after l (tidied z o (end - o)) refl .0)

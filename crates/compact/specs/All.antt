@@ -13,7 +13,7 @@ tidyFrom mid [] = squeeze mid
 tidyFrom mid (b ∷ bs) = cond (fixedB b) (squeeze mid ++ b ∷ tidyFrom [] bs) (tidyFrom (mid ++ b ∷ []) bs)
 
 unfoldable pub compacted : Structure → Structure
-compacted s = record { links = s .links; blocks = tidyFrom [] (s .blocks) }
+compacted s = record { chain = s .chain; blocks = tidyFrom [] (s .blocks) }
 
 abbrev pub larger : ℕ → ℕ → ℕ
 larger a b = cond (ltb a b) b a

@@ -30,5 +30,5 @@ pub data Bayed (z : List ℕ) (o : ℕ) (z′ : List ℕ) (sum next : ℕ) : Typ
 
 -- the bays before o have been compacted, in the structure s₀; best is the largest of their sums
 pub data Going (s₀ : Structure) (z : List ℕ) (o best : ℕ) : Type 0 where
-  going : (s : Structure) → (a : AtOf s z o) → s .links ≡ s₀ .links → a .pre ++ tidyFrom [] (a .rest) ≡ tidyFrom [] (s₀ .blocks)
+  going : (s : Structure) → (a : AtOf s z o) → s .chain ≡ s₀ .chain → a .pre ++ tidyFrom [] (a .rest) ≡ tidyFrom [] (s₀ .blocks)
       → largestFrom best [] (a .rest) ≡ largestFrom 0 [] (s₀ .blocks) → Going s₀ z o best

@@ -10,7 +10,7 @@ ghost use Rattle.access.specs.Edit.{IsZone};
 ghost use Rattle.compact.specs.Going.{At, Bayed};
 ghost use Rattle.compact.specs.Compact.{Planned};
 ghost use Rattle.calls.specs.Calls.{told, compact};
-ghost use Rattle.zone.specs.OnBytes.{result, callBytes};
+ghost use Rattle.zone.specs.Call.{result, call};
 use block_type::BlockType;
 use calls::Told;
 
@@ -134,7 +134,7 @@ fn plan(zone: &[u8]) -> CompactPlan
 
 // Compacts every bay. Answers the refusal number, 0 if done, and the largest sum.
 pub fn compact(zone: &mut [u8]) -> Told
-    ensures { λ r. ⌜ result (told (r .number) (r .value)) (now (zone .exit)) ≡ callBytes compact (now (zone .entry)) ⌝ }
+    ensures { λ r. ⌜ result (told (r .number) (r .value)) (now (zone .exit)) ≡ call compact (now (zone .entry)) ⌝ }
 {
     let p = plan(zone);
     let number = p.number;

@@ -54,7 +54,7 @@ module _ (s : Structure) (v : Valid s) (pre : List Block) (last k : ℕ) (e : s 
   n = last + k
 
   abbrev u : Structure
-  u = record { links = s .links; blocks = pre ++ free n ∷ [] }
+  u = record { chain = s .chain; blocks = pre ++ free n ∷ [] }
 
   count-same : count u ≡ count s
   unfolding relocCount
@@ -95,12 +95,12 @@ module _ (s : Structure) (v : Valid s) (pre : List Block) (last k : ℕ) (e : s 
 
   pub longer-bytes : (g : List ℕ) → length g ≡ k → overwrite (overwrite (encode s ++ g) 0 (toBE 4 (len s + k))) (start s + sizes pre) (encodeBlock (free n)) ≡ encode u
   longer-bytes g lg =
-      let l = len s in let f = start s in let m = count s in let c = headOf (s .links) in
+      let l = len s in let f = start s in let m = count s in let c = headOf (s .chain) in
       let r = bytesOf (s .blocks) in
       let a : encode s ++ g ≡ img l f m c (value s) (r ++ g) = ap (_++ g) (encode-img s) ∙ lay-behind l f m c _ r g in
       ap (λ (x : List ℕ). overwrite (overwrite x 0 (toBE 4 (l + k))) (f + sizes pre) (encodeBlock (free n))) a
       ∙ ap (λ (x : List ℕ). overwrite x (f + sizes pre) (encodeBlock (free n))) (lay-length l (l + k) f m c _ (r ++ g))
       ∙ img-rest (l + k) f m c (sizes pre) (f + sizes pre) (value s) (r ++ g) (encodeBlock (free n)) refl
       ∙ ap (img (l + k) f m c (value s)) (rest-write g lg)
-      ∙ img-same (l + k) f m c (value s) (value u) (bytesOf (pre ++ free n ∷ [])) (λ h o. ap (_+ nextOf h (s .links)) (sym (place-same h)))
+      ∙ img-same (l + k) f m c (value s) (value u) (bytesOf (pre ++ free n ∷ [])) (λ h o. ap (_+ nextOf h (s .chain)) (sym (place-same h)))
       ∙ sym (encode-img u ∙ ap₂ (λ (i m : ℕ). img i (16 + 4 * m) m c (value u) (bytesOf (pre ++ free n ∷ []))) len-more count-same)

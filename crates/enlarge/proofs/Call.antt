@@ -1,6 +1,6 @@
 -- The plan and the call.
 use mathlib.Core.Path.{_≡_, refl, sym, ap, _∙_, subst}
-use mathlib.Core.Bool.{Bool, true, false, cond, not, _&&_}
+use mathlib.Core.Bool.{Bool, true, false, cond, not, _&&_, _||_}
 use mathlib.Core.List.{List, [], _∷_, _++_}
 use Prim.Native.Nat.{ℕ, _+_, _-_, _%_, _<_, _≤_, max}
 use native.Mathlib.Omega.{arith}
@@ -30,14 +30,14 @@ use Rattle.release.proofs.Freed.{sizes-append}
 use Rattle.release.proofs.Hole.{swap, free-hole}
 use Rattle.release.proofs.Reach.{tiles-are}
 use Rattle.surgery.proofs.Sound.{valid-sound}
-use Rattle.calls.specs.Calls.{told, refusal, enlarge}
-use Rattle.zone.specs.PickBays.{onLast}
-use Rattle.zone.specs.Bay.{Cell, gap, joinBays}
-use Rattle.zone.specs.OnBays.{done, refuse, step}
-use Rattle.zone.specs.ZoneBays.{zoneBays}
-use Rattle.zone.specs.OnBytes.{Zone, inBays, inLine, result, replacing, callBytes}
+use Rattle.calls.specs.Calls.{told, enlarge}
+use Rattle.zone.specs.Bay.{Cell}
+use Rattle.calls.specs.State.{Out}
+use Rattle.calls.specs.Table.{cause, first, order}
+use Rattle.zone.specs.Work.{Zone, work}
+use Rattle.zone.specs.Call.{inBays, inLine, result, replacing, call}
 use Rattle.call_laws.proofs.Plan.{bytes-of, slice-take, has-zone}
-use Rattle.call_laws.proofs.Outcome.{call-ill, call-same, call-of, same-length}
+use Rattle.call_laws.proofs.Outcome.{step, stepAs, call-same, call-of, same-length}
 use Rattle.enlarge.specs.Enlarge.{accepts, longer, Tail, TailIn, tail-in, tail-of, Planned, ill-formed, refused, planned}
 use Rattle.enlarge.proofs.Last.{tail-at}
 use Rattle.enlarge.proofs.Bytes.{longer-bytes, len-more}
@@ -83,6 +83,11 @@ hole-longer s n m a b l u (zeros k e) = zeros k (slice-take s m (a + 4) (b - (a 
 
 -- ---- what is accepted
 
+one-of : (a b c : Bool) → not a || (not b || not c) ≡ not (a && b && c)
+one-of true true c = refl
+one-of true false c = refl
+one-of false b c = refl
+
 module _ (buf n k : ℕ) (a : accepts buf n k ≡ true) where
   by4 : k % 4 ≡ 0
   by4 = eqb-true (k % 4) 0 (and-left (eqb (k % 4) 0) (leb n buf) (and-left (eqb (k % 4) 0 && leb n buf) (leb n 1048576) a))
@@ -118,32 +123,36 @@ module _ (s : List ℕ) (y : Bytes s) (wf : wellFormed s ≡ true) where
   len-of = omega (arith, len-is (zoneOf s) w, w .all, length-take (lengthField s) s, fits)
 
   module _ (k : ℕ) where
-    abbrev pub next : Zone
-    next = record { buf = z₀ .buf; len = z₀ .len + k; m = z₀ .m; chain = z₀ .chain; bays = onLast (λ (b : List Cell). joinBays b (gap k [])) (z₀ .bays) }
+    abbrev next : Zone
+    next = (work (enlarge k) z₀) .next
 
-    pub step-is : (t : Bool) → accepts (length s) (lengthField s + k) k ≡ t → step zoneBays (enlarge k) z₀ ≡ cond t (done 0 next) (refuse 9 z₀)
-    step-is t a = ap (λ (u : Bool). cond u (done 0 next) (refuse 9 z₀)) (ap (λ (j : ℕ). accepts (length s) (j + k) k) len-of ∙ a)
+    -- the call, by whether cause 9 holds
+    abbrev refused-as : Bool → Out (List Cell)
+    refused-as u = stepAs (first order (cause 1 false ∷ cause 9 u ∷ [])) (enlarge k) z₀
 
-    pub call-9 : accepts (length s) (lengthField s + k) k ≡ false → callBytes (enlarge k) s ≡ result (refusal 9) s
-    call-9 a = call-same s y wf (enlarge k) (refusal 9) (step-is false a)
+    step-is : (t : Bool) → accepts (length s) (lengthField s + k) k ≡ t → step (enlarge k) z₀ ≡ refused-as (not t)
+    step-is t a = ap refused-as (one-of (eqb (k % 4) 0) (leb (len d + k) (length s)) (leb (len d + k) 1048576) ∙ ap not (ap (λ (j : ℕ). accepts (length s) (j + k) k) len-of ∙ a))
+
+    pub call-9 : accepts (length s) (lengthField s + k) k ≡ false → call (enlarge k) s ≡ result (told 9 0) s
+    call-9 a = call-same s y wf (enlarge k) (told 9 0) (step-is false a)
 
     module _ (a : accepts (length s) (lengthField s + k) k ≡ true) (from : ℕ) (i : TailIn (zoneOf s) from) where
       abbrev t : Tail (start (decodeZone (zoneOf s))) (decodeZone (zoneOf s) .blocks) from
       t = tail-of (zoneOf s) from i
 
-      line : inLine next ≡ record { links = d .links; blocks = t .pre ++ gapOf (t .last + k) }
+      line : inLine next ≡ record { chain = d .chain; blocks = t .pre ++ gapOf (t .last + k) }
       unfolding longer decode
-      line = λ j. record { links = d .links; blocks = t .grown k j }
+      line = λ j. record { chain = d .chain; blocks = t .grown k j }
 
-      call-0 : callBytes (enlarge k) s ≡ result (told 0 0) (replacing s d (record { links = d .links; blocks = t .pre ++ gapOf (t .last + k) }))
-      call-0 = call-of s y wf (enlarge k) (done 0 next) (step-is true a) ∙ ap (λ (u : Structure). result (told 0 0) (replacing s d u)) line
+      call-0 : call (enlarge k) s ≡ result (told 0 0) (replacing s d (record { chain = d .chain; blocks = t .pre ++ gapOf (t .last + k) }))
+      call-0 = call-of s y wf (enlarge k) (work (enlarge k) z₀) (step-is true a) ∙ ap (λ (u : Structure). result (told 0 0) (replacing s d u)) line
 
-      pub idle : k ≡ 0 → result (told 0 0) s ≡ callBytes (enlarge k) s
+      pub idle : k ≡ 0 → result (told 0 0) s ≡ call (enlarge k) s
       unfolding decode
       idle e =
           let n : t .last + k ≡ t .last = omega arith in
-          let u : record { links = d .links; blocks = t .pre ++ gapOf (t .last + k) } ≡ d =
-          λ j. record { links = d .links; blocks = (ap (λ (x : ℕ). t .pre ++ gapOf x) n ∙ sym (t .parts)) j } in
+          let u : record { chain = d .chain; blocks = t .pre ++ gapOf (t .last + k) } ≡ d =
+          λ j. record { chain = d .chain; blocks = (ap (λ (x : ℕ). t .pre ++ gapOf x) n ∙ sym (t .parts)) j } in
           sym (call-0 ∙ ap (result (told 0 0)) (ap (replacing s d) u ∙ same-length s y wf d refl ∙ encode-decode s y wf))
 
       module _ (pos : 0 < k) where
@@ -197,7 +206,7 @@ module _ (s : List ℕ) (y : Bytes s) (wf : wellFormed s ≡ true) where
             }
 
         abbrev u : Structure
-        u = record { links = decodeZone (zoneOf s) .links; blocks = t .pre ++ free (t .last + k) ∷ [] }
+        u = record { chain = decodeZone (zoneOf s) .chain; blocks = t .pre ++ free (t .last + k) ∷ [] }
 
         one-gap : gapOf (t .last + k) ≡ free (t .last + k) ∷ []
         one-gap = rw (ne-eqb (t .last + k) 0 (λ q. omega arith))
@@ -208,10 +217,10 @@ module _ (s : List ℕ) (y : Bytes s) (wf : wellFormed s ≡ true) where
         behind : (n j : ℕ) → n ≡ lengthField s → j ≡ n + k → replicate (n - j) 0 ++ drop (max n j) s ≡ drop (lengthField s + k) s
         behind n j en ej = let b : n - j ≡ 0 = omega arith in let c : max n j ≡ lengthField s + k = omega arith in rw (b, c)
 
-        replaced : replacing s d (record { links = d .links; blocks = t .pre ++ gapOf (t .last + k) }) ≡ encode u ++ drop (lengthField s + k) s
+        replaced : replacing s d (record { chain = d .chain; blocks = t .pre ++ gapOf (t .last + k) }) ≡ encode u ++ drop (lengthField s + k) s
         unfolding decode
         replaced =
-            ap (λ (x : List Block). replacing s d (record { links = d .links; blocks = t .pre ++ x })) one-gap
+            ap (λ (x : List Block). replacing s d (record { chain = d .chain; blocks = t .pre ++ x })) one-gap
             ∙ ap (encode u ++_) (behind (len (decodeZone (zoneOf s))) (len u) len-zone len-u)
 
         written : overwrite (overwrite (take (lengthField s + k) s) 0 (toBE 4 (length (take (lengthField s + k) s)))) from (encodeBlock (free (length (take (lengthField s + k) s) - from))) ≡ encode u
@@ -227,7 +236,7 @@ module _ (s : List ℕ) (y : Bytes s) (wf : wellFormed s ≡ true) where
             ∙ longer-bytes (decodeZone (zoneOf s)) v (t .pre) (t .last) k (t .parts) (omega arith) sum-four sum-short g lg
 
         done-is : (x : List ℕ) → x ≡ overwrite (overwrite (take (lengthField s + k) s) 0 (toBE 4 (length (take (lengthField s + k) s)))) from (encodeBlock (free (length (take (lengthField s + k) s) - from)))
-            → result (told 0 0) (x ++ drop (lengthField s + k) s) ≡ callBytes (enlarge k) s
+            → result (told 0 0) (x ++ drop (lengthField s + k) s) ≡ call (enlarge k) s
         done-is x e = ap (λ (b : List ℕ). result (told 0 0) (b ++ drop (lengthField s + k) s)) (e ∙ written) ∙ sym (call-0 ∙ ap (result (told 0 0)) replaced)
 
 module _ (s : List ℕ) (k number n from : ℕ) (f : Planned s k number n from) where
@@ -249,10 +258,10 @@ module _ (s : List ℕ) (k number n from : ℕ) (f : Planned s k number n from) 
         go (planned w a e en t) = omega arith
 
     module _ (b : (i : ℕ) → Fits w8 (getD s i 0)) where
-      pub call-idle : k ≡ 0 → result (told 0 0) s ≡ callBytes (enlarge k) s
+      pub call-idle : k ≡ 0 → result (told 0 0) s ≡ call (enlarge k) s
       call-idle q = go f
         where
-          go : Planned s k number n from → result (told 0 0) s ≡ callBytes (enlarge k) s
+          go : Planned s k number n from → result (told 0 0) s ≡ call (enlarge k) s
           go (ill-formed w e) = let x : ⊥ = omega arith in absurd x
           go (refused w a e) = let x : ⊥ = omega arith in absurd x
           go (planned w a e en t) = idle s (bytes-of s b) w k a from t q
@@ -277,21 +286,21 @@ module _ (s : List ℕ) (k number n from : ℕ) (f : Planned s k number n from) 
                 subst (λ (j : ℕ). Between (take j s) from (j - k) (length (take j s)) (length (take j s))) (sym en) (between s (bytes-of s b) w k a from t p)
 
         pub call-end : (x : List ℕ) → x ≡ overwrite (overwrite (take n s) 0 (toBE 4 (length (take n s)))) from (encodeBlock (free (length (take n s) - from)))
-            → result (told 0 0) (x ++ drop n s) ≡ callBytes (enlarge k) s
+            → result (told 0 0) (x ++ drop n s) ≡ call (enlarge k) s
         call-end x q = go f
           where
-            go : Planned s k number n from → result (told 0 0) (x ++ drop n s) ≡ callBytes (enlarge k) s
+            go : Planned s k number n from → result (told 0 0) (x ++ drop n s) ≡ call (enlarge k) s
             go (ill-formed w e) = let x : ⊥ = omega arith in absurd x
             go (refused w a e) = let x : ⊥ = omega arith in absurd x
             go (planned w a e en t) =
                 let p : 0 < k = omega arith in
-                subst (λ (j : ℕ). x ≡ overwrite (overwrite (take j s) 0 (toBE 4 (length (take j s)))) from (encodeBlock (free (length (take j s) - from))) → result (told 0 0) (x ++ drop j s) ≡ callBytes (enlarge k) s)
+                subst (λ (j : ℕ). x ≡ overwrite (overwrite (take j s) 0 (toBE 4 (length (take j s)))) from (encodeBlock (free (length (take j s) - from))) → result (told 0 0) (x ++ drop j s) ≡ call (enlarge k) s)
                 (sym en) (done-is s (bytes-of s b) w k a from t p x) q
 
-  pub call-no : ((i : ℕ) → Fits w8 (getD s i 0)) → (number ≡ 0 → ⊥) → result (told number 0) s ≡ callBytes (enlarge k) s
+  pub call-no : ((i : ℕ) → Fits w8 (getD s i 0)) → (number ≡ 0 → ⊥) → result (told number 0) s ≡ call (enlarge k) s
   call-no b ne = go f
     where
-      go : Planned s k number n from → result (told number 0) s ≡ callBytes (enlarge k) s
-      go (ill-formed w e) = rw e (sym (call-ill s (enlarge k) w))
+      go : Planned s k number n from → result (told number 0) s ≡ call (enlarge k) s
+      go (ill-formed w e) = rw (e, w)
       go (refused w a e) = rw e (sym (call-9 s (bytes-of s b) w k a))
       go (planned w a e en t) = absurd (ne e)

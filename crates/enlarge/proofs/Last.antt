@@ -11,9 +11,9 @@ use Rattle.structure.specs.Structure.{Block, free, fixed, reloc, size, sizes}
 use Rattle.structure.specs.Valid.{Tiled}
 use Rattle.find_bay.specs.Spots.{gapOf}
 use Rattle.walk.specs.Walker.{lowOf, freeB}
-use Rattle.zone.specs.PickBays.{Bays, last, more, onLast}
-use Rattle.zone.specs.Bay.{Item, Cell, free as gapCell, held, gap, joinBays}
-use Rattle.zone.specs.OnBays.{Fixed}
+use Rattle.calls.specs.Bays.{Bays, last, more, onLast}
+use Rattle.calls.specs.State.{Item, Fixed}
+use Rattle.zone.specs.Bay.{Cell, free as gapCell, held, gap, joinBays}
 use Rattle.zone.specs.Group.{inFront, group, flatten}
 use Rattle.enlarge.specs.Enlarge.{longer, Tail}
 

@@ -9,7 +9,7 @@ use Rattle.block_type.specs.Limits.{longestZone}
 use Rattle.format.specs.WellFormed.{wellFormed, lengthField}
 use Rattle.structure.specs.Structure.{Block, sizes, start, decodeZone}
 use Rattle.find_bay.specs.Spots.{gapOf}
-use Rattle.zone.specs.PickBays.{onLast}
+use Rattle.calls.specs.Bays.{onLast}
 use Rattle.zone.specs.Bay.{Cell, gap, joinBays}
 use Rattle.zone.specs.Group.{group, flatten}
 

@@ -7,7 +7,7 @@ ghost use Rattle.structure.specs.Structure.{encodeBlock, free};
 ghost use Rattle.access.specs.Edit.{IsZone};
 ghost use Rattle.release.specs.Release.{Between};
 ghost use Rattle.calls.specs.Calls.{told, enlarge};
-ghost use Rattle.zone.specs.OnBytes.{result, callBytes};
+ghost use Rattle.zone.specs.Call.{result, call};
 ghost use Rattle.enlarge.specs.Enlarge.{accepts, TailIn, Planned};
 use calls::Told;
 
@@ -75,7 +75,7 @@ fn extend(z: &mut [u8], from: usize, old: usize)
 
 // Lengthens the zone by k bytes. Answers the refusal number, 0 if done, and 0.
 pub fn enlarge(zone: &mut [u8], k: u32) -> Told
-    ensures { λ r. ⌜ result (told (r .number) (r .value)) (now (zone .exit)) ≡ callBytes (enlarge k) (now (zone .entry)) ⌝ }
+    ensures { λ r. ⌜ result (told (r .number) (r .value)) (now (zone .exit)) ≡ call (enlarge k) (now (zone .entry)) ⌝ }
 {
     let p = enlarge_plan(zone, k);
     let number = p.number;

@@ -11,7 +11,7 @@ use lib.ListN.{length, drop}
 use lib.Dec.{eqb, leb, eqb·suc-suc}
 use borrow.Author.Tests.{eq-eqb, ne-eqb, eqb-true, le-leb, lt-leb, leb-true}
 use Rattle.format.proofs.Bool.{and-left, and-right, is-false}
-use Rattle.format.specs.WellFormed.{headerOk, firstField, mastersField, chainField, handleOf, isFree, isReloc, splitBlocks, relocs, every, typeOk, sizeOk, tileOk, zerosOk, neighboursOk, isMaster, masterAt, handlesOk, after, chainFrom, countsOk, zoneOf, blockRules, zoneRules, wellFormed}
+use Rattle.format.specs.WellFormed.{headerOk, firstField, mastersField, chainField, handleOf, isFree, isReloc, splitBlocks, relocs, every, typeOk, sizeOk, tileOk, zerosOk, neighboursOk, isMaster, masterAt, handlesOk, linked, chainFrom, countsOk, zoneOf, blockRules, zoneRules, wellFormed}
 use Rattle.format.specs.OneWalk.{links, typeRule, freeRule, relocRule, blockOk, blocksOk, bodyOk}
 
 -- ---- blocks
@@ -21,7 +21,7 @@ interchange true x true y = refl
 interchange true x false y = and-false x
 interchange false x b y = refl
 
--- six rules, each of a block (a to f) and of the blocks after it (u to z): all of the block, then all of those after it
+-- six rules, each of a block (a to f) and of the blocks linked it (u to z): all of the block, then all of those linked it
 block-first : (a u b v c w d x e y f z : Bool)
     → ((a && u) && (b && v) && (c && w) && (d && x) && (e && y) && (f && z)) ≡ ((a && b && c && d && e && f) && (u && v && w && x && y && z))
 block-first a u b v c w d x e y f z =
@@ -86,16 +86,16 @@ count-rest : (m k : ℕ) (c : Option (List ℕ)) → countsOk m k c ≡ (leb k m
 count-rest m k none = sym (and-false (leb k m))
 count-rest m k (some hs) = sum-rest m k (length hs) (ℕ-discrete (k + length hs) m)
 
--- A turn of the chain at h, with c the chain after it. t: h is 0; u: h is a master. With no master to come, t decides ..
-none-left : (t u : Bool) (h : ℕ) (c : Option (List ℕ)) → countsOk 0 0 (cond t (some []) (cond u (after h c) none)) ≡ t
+-- A turn of the chain at h, with c the chain linked it. t: h is 0; u: h is a master. With no master to come, t decides ..
+none-left : (t u : Bool) (h : ℕ) (c : Option (List ℕ)) → countsOk 0 0 (cond t (some []) (cond u (linked h c) none)) ≡ t
 none-left true u h c = refl
 none-left false true h none = refl
 none-left false true h (some hs) = ne-eqb (0 + suc (length hs)) 0 (λ e. omega arith)
 none-left false false h c = refl
 
--- .. and with one or more to come, u and the chain after it do, since 0 is no master
+-- .. and with one or more to come, u and the chain linked it do, since 0 is no master
 some-left : (t u : Bool) (i h : ℕ) (c : Option (List ℕ)) → (t ≡ true → u ≡ false)
-    → countsOk (suc i) 0 (cond t (some []) (cond u (after h c) none)) ≡ (u && countsOk i 0 c)
+    → countsOk (suc i) 0 (cond t (some []) (cond u (linked h c) none)) ≡ (u && countsOk i 0 c)
 some-left true u i h c n = rw (n refl, ne-eqb 0 (suc i) (λ e. omega arith))
 some-left false true i h none n = refl
 some-left false true i h (some hs) n = rw (zero-add (suc (length hs)), zero-add (length hs)) (eqb·suc-suc (length hs) i)

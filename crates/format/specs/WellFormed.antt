@@ -11,7 +11,7 @@ use Rattle.bigendian.specs.BigEndian.{fromBE, slice}
 use Rattle.memory.specs.Zeros.{allZero}
 use Rattle.block_type.specs.Limits.{freeCode, relocCode, freeHeader, relocHeader, zoneHeader, masterSize, firstBlock, longestZone, mostMasters}
 
--- ---- the header: "at 0 the length L (4 bytes); at 4 bkFst (4); at 8 m (4); at 12 hFstFree (2)"
+-- ---- the header: "at 0 the length L (4 bytes); at 4 bkFst, .. (4); at 8 m, .. (4); at 12 hFstFree, .. (2)"
 
 abbrev pub lengthField : List ℕ → ℕ
 lengthField s = fromBE (slice s 0 4)
@@ -25,7 +25,7 @@ mastersField s = fromBE (slice s 8 4)
 abbrev pub chainField : List ℕ → ℕ
 chainField s = fromBE (slice s 12 2)
 
--- "the buffer has at least 16 bytes; header bytes 14 and 15 are zero; L is a multiple of 4, at most the buffer's length and
+-- "the buffer has at least 16 bytes; header bytes 14 and 15 are zero; .. L is a multiple of 4, at most the buffer's length and
 -- 1,048,576; m ≤ 8,188; bkFst as above and ≤ L"
 unfoldable pub headerOk : List ℕ → Bool
 headerOk s =
@@ -120,16 +120,16 @@ handlesOk z first at (b ∷ bs) =
     (not (isReloc b) || (isMaster first (handleOf b) && eqb (masterAt z (handleOf b)) (at + relocHeader)))
     && handlesOk z first (at + length b) bs
 
-abbrev pub after : ℕ → Option (List ℕ) → Option (List ℕ)
-after h none = none
-after h (some hs) = some (h ∷ hs)
+abbrev pub linked : ℕ → Option (List ℕ) → Option (List ℕ)
+linked h none = none
+linked h (some hs) = some (h ∷ hs)
 
 -- "the chain from hFstFree visits only masters and ends in 0": the masters that it visits from h on, n of them at most;
 -- none where it visits anything else, or goes on
 unfoldable pub chainFrom : List ℕ → ℕ → ℕ → ℕ → Option (List ℕ)
 chainFrom z first zero h = cond (eqb h 0) (some []) none
 chainFrom z first (suc n) h =
-    cond (eqb h 0) (some []) (cond (isMaster first h) (after h (chainFrom z first n (masterAt z h))) none)
+    cond (eqb h 0) (some []) (cond (isMaster first h) (linked h (chainFrom z first n (masterAt z h))) none)
 
 -- the n masters of a chain from h on
 unfoldable pub chain : List ℕ → ℕ → ℕ → List ℕ

@@ -10,10 +10,10 @@ use Rattle.format.proofs.Count.{occurs}
 use Rattle.structure.specs.Structure.{Block, free, fixed, reloc}
 use Rattle.structure.specs.Valid.{handlesOf, Tiled}
 use Rattle.release.specs.Release.{gap, release}
-use Rattle.zone.specs.PickBays.{Bays, last, more, mapS}
+use Rattle.calls.specs.Bays.{Bays, last, more, mapS}
 use Rattle.zone.specs.Bay as Bay
-use Rattle.zone.specs.Bay.{Item, itemSize, Cell, free as gapCell, held}
-use Rattle.zone.specs.OnBays.{Fixed}
+use Rattle.calls.specs.State.{Item, itemSize, Fixed}
+use Rattle.zone.specs.Bay.{Cell, free as gapCell, held}
 use Rattle.zone.specs.Group.{inFront, group, flatBay, flatten}
 
 flat-gap : (n : ℕ) (cs : List Cell) (r : List Block) → 0 < n → gap n r ≡ free n ∷ r → flatBay (Bay.gap n cs) r ≡ gap n (flatBay cs r)

@@ -16,7 +16,7 @@ use Rattle.access.proofs.Zone.{whole-of}
 use mir.Val.{Fits}
 use mir.Syntax.{w8}
 use Rattle.calls.specs.Calls.{told, free-handle}
-use Rattle.zone.specs.OnBytes.{result, callBytes}
+use Rattle.zone.specs.Call.{result, call}
 use Rattle.call_laws.proofs.Plan.{bytes-of}
 use Rattle.release.specs.Release.{freed, SpanIn, span-of}
 use Rattle.release.proofs.Freed.{index}
@@ -97,12 +97,12 @@ module _ (s : List ℕ) (h number l head from to : ℕ) (p : Planned s h number 
   unfolding freeOut decode
   flat-out y q = rw (← number-of s h number l head from to p, z, q, f z .is-len)
 
-  pub rel-out : (y : List ℕ) → ((i : ℕ) → Fits w8 (getD s i 0)) → y ≡ encode (freed h (decodeZone (take l s))) → result (told 0 0) (y ++ drop l s) ≡ callBytes (free-handle h) s
+  pub rel-out : (y : List ℕ) → ((i : ℕ) → Fits w8 (getD s i 0)) → y ≡ encode (freed h (decodeZone (take l s))) → result (told 0 0) (y ++ drop l s) ≡ call (free-handle h) s
   rel-out y g q = flat-out y q ∙ free-is s h (bytes-of s g)
 
 flat-no : (s : List ℕ) (h number l head from to : ℕ) → Planned s h number l head from to → (number ≡ 0 → ⊥) → result (told number 0) s ≡ freeOut s h
 unfolding freeOut
 flat-no s h number l head from to p ne = rw (← number-of s h number l head from to p, ne-eqb number 0 ne)
 
-pub rel-no : (s : List ℕ) (h number l head from to : ℕ) → ((i : ℕ) → Fits w8 (getD s i 0)) → Planned s h number l head from to → (number ≡ 0 → ⊥) → result (told number 0) s ≡ callBytes (free-handle h) s
+pub rel-no : (s : List ℕ) (h number l head from to : ℕ) → ((i : ℕ) → Fits w8 (getD s i 0)) → Planned s h number l head from to → (number ≡ 0 → ⊥) → result (told number 0) s ≡ call (free-handle h) s
 rel-no s h number l head from to g p ne = flat-no s h number l head from to p ne ∙ free-is s h (bytes-of s g)

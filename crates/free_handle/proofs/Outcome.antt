@@ -1,29 +1,32 @@
 -- After an accepted free the handle names no block, as many bytes more are free as its block had, and the next allocation takes the handle.
 use mathlib.Core.Path.{_≡_, refl, ap, _∙_}
-use mathlib.Core.Bool.{Bool, true, false, cond}
-use mathlib.Core.Option.{Option, none, some}
+use mathlib.Core.Bool.{Bool, true, false, cond, not}
+use mathlib.Core.Option.{Option, none, some, Option·getD}
 use mathlib.Core.List.{List, [], _∷_}
 use Prim.Native.Nat.{ℕ, _+_, _≤_, _<_}
 use native.Mathlib.Omega.{arith}
 use lib.ListN.{length}
-use lib.Dec.{leb}
+use lib.Dec.{leb, eqb}
 use Rattle.bigendian.specs.BigEndian.{Bytes}
-use Rattle.block_type.specs.Limits.{relocHeader, relocLimit}
+use Rattle.block_type.specs.Limits.{relocHeader, relocLimit, relocNeed}
 use Rattle.format.specs.WellFormed.{wellFormed}
 use Rattle.structure.specs.Structure.{decode}
-use Rattle.calls.specs.Calls.{by-handle, Call, Answer, refusal, allocate-relocatable, free-handle, size, sums}
-use Rattle.zone.specs.PickBays.{Bays, last, more, over, mapS, orElse, findS, sumS}
-use Rattle.zone.specs.Bay.{Item, is, get, Cell, baySum, items, release}
-use Rattle.zone.specs.Counted.{count, remove}
-use Rattle.zone.specs.OnBays.{Fixed, newItem, Out, step, orRefuse, orGive, refuse, done, lookup, placeLow}
-use Rattle.zone.specs.ZoneBays.{zoneBays}
-use Rattle.zone.specs.OnBytes.{Zone, inBays, Result, callBytes}
+use Rattle.calls.specs.Calls.{by-handle, Call, Answer, told, refused, allocate-relocatable, free-handle, size, sums}
+use Rattle.calls.specs.Bays.{Bays, last, more, over, mapS, orElse, findS, sumS, maxS}
+use Rattle.calls.specs.State.{Item, is, get, Fixed, Out, says, done}
+use Rattle.zone.specs.Bay.{Cell, baySum, items, release}
+use Rattle.zone.specs.Counted.{count, remove, live}
+use Rattle.calls.specs.Table.{cause, below, isNone, first, order}
+use Rattle.zone.specs.Search.{lookup}
+use Rattle.zone.specs.Work.{Zone}
+use Rattle.zone.specs.Call.{inBays, Result, call}
 use Rattle.zone.proofs.BayLaws.{Each, nothing, just, release-items}
 use Rattle.zone.proofs.Sums.{find-sum}
-use Rattle.zone.proofs.Handles.{live, get-count}
-use Rattle.zone.proofs.NoBay.{taken, sum-released}
-use Rattle.zone.proofs.Tied.{once}
-use Rattle.call_laws.proofs.Outcome.{call-ill, call-of, after-call}
+use Rattle.zone.proofs.Handles.{get-count}
+use Rattle.zone.proofs.Found.{taken, sum-released}
+use Rattle.zone.proofs.Grouped.{single-live}
+use Rattle.zone.proofs.Run.{well-whole}
+use Rattle.call_laws.proofs.Outcome.{step, stepAs, none-lent, call-ill, call-of, after-call}
 
 -- what does not count is not there
 none-taken : (n : ℕ) {o : Option Item} → Each (λ (e : Item). 1 ≤ n) o → n ≡ 0 → taken o ≡ 0
@@ -67,16 +70,16 @@ module _ (h : ℕ) where
 
 -- what is asked of a buffer, and the buffer that a free leaves
 abbrev asked : Call → List ℕ → Answer
-asked c s = (callBytes c s) .answer
+asked c s = (call c s) .answer
 
 abbrev left : ℕ → List ℕ → List ℕ
-left h s = (callBytes (free-handle h) s) .bytes
+left h s = (call (free-handle h) s) .bytes
 
 pub record Freed (h : ℕ) (s : List ℕ) : Type 0 where
   -- the handle is not live: its size is refused
-  pub unnamed : asked (size (by-handle h)) (left h s) ≡ refusal 6
+  pub unnamed : asked (size (by-handle h)) (left h s) ≡ told 6 0
   -- and so is a second free
-  pub again : asked (free-handle h) (left h s) ≡ refusal 6
+  pub again : asked (free-handle h) (left h s) ≡ told 6 0
   -- the total of free bytes grows by the block's size, its header and the data size that it had
   pub total : asked sums (left h s) .value ≡ asked sums s .value + (relocHeader + asked (size (by-handle h)) s .value)
   -- "the master goes to the chain's head": the next allocation that is accepted answers the handle
@@ -88,7 +91,7 @@ module _ (s : List ℕ) (h : ℕ) (y : Bytes s) (e : asked (free-handle h) s .nu
 
   -- a zone with the handle in front of the chain and its block freed
   abbrev released : Zone → Zone
-  released u = record { buf = u .buf; len = u .len; m = u .m; chain = h ∷ u .chain; bays = mapS (release h) (u .bays) }
+  released u = record { buf = u .buf; len = u .len; chain = h ∷ u .chain; bays = mapS (release h) (u .bays) }
 
   abbrev next : Zone
   next = released z
@@ -97,41 +100,45 @@ module _ (s : List ℕ) (h : ℕ) (y : Bytes s) (e : asked (free-handle h) s .nu
   bad n q l = let x : ⊥ = omega arith in absurd x
 
   -- an allocation takes the chain's head
-  head : (c : ℕ) → (step zoneBays (allocate-relocatable c) next) .answer .number ≡ 0 → (step zoneBays (allocate-relocatable c) next) .answer .value ≡ h
-  head c = go (leb c relocLimit) (placeLow zoneBays (newItem h c) (next .bays))
+  head : (c : ℕ) → (step (allocate-relocatable c) next) .answer .number ≡ 0 → (step (allocate-relocatable c) next) .answer .value ≡ h
+  head c = go (leb c relocLimit) (below (maxS baySum (next .bays)) (relocNeed c))
     where
-      with : Bool → Option (Bays (List Cell) Fixed) → Answer
-      with t o = (cond t (orRefuse 5 next o (λ b. done h (record { buf = z .buf; len = z .len; m = z .m; chain = z .chain; bays = b }))) (refuse 3 next)) .answer
+      with : Bool → Bool → Answer
+      with t u = (stepAs (first order (cause 1 false ∷ cause 3 (not t) ∷ cause 4 false ∷ cause 5 u ∷ [])) (allocate-relocatable c) next) .answer
 
-      go : (t : Bool) (o : Option (Bays (List Cell) Fixed)) → with t o .number ≡ 0 → with t o .value ≡ h
-      go true none q = absurd (omega arith)
-      go true (some b) q = refl
-      go false o q = absurd (omega arith)
+      go : (t u : Bool) → with t u .number ≡ 0 → with t u .value ≡ h
+      go true true q = absurd (omega arith)
+      go true false q = refl
+      go false u q = absurd (omega arith)
 
   module _ (w : wellFormed s ≡ true) where
+    -- the refusal of a call that asks for the handle alone, by what is found
+    abbrev asks : Option Item → ℕ
+    asks o = first order (cause 1 false ∷ cause 6 (isNone (over length (over (λ (i : Item). i .bytes) o))) ∷ [])
+
     abbrev with : Zone → Option Item → Out (List Cell)
-    with u o = orRefuse 6 u o (λ e. done 0 (released u))
+    with u o = stepAs (asks o) (free-handle h) u
 
     abbrev sized : Zone → Option Item → Answer
-    sized u o = (orGive (refuse 6 u) (over (λ (i : Item). i .bytes) o) (λ v. done (length v) u)) .answer
+    sized u o = (cond (eqb (asks o) 0) (done (length (Option·getD (over (λ (i : Item). i .bytes) o) [])) u) (says (refused (size (by-handle h)) (asks o)) u)) .answer
 
-    was : (c : Call) → asked c s ≡ (step zoneBays c z) .answer
-    was c = ap (λ (r : Result). r .answer) (call-of s y w c (step zoneBays c z) refl)
+    was : (c : Call) → asked c s ≡ (step c z) .answer
+    was c = ap (λ (r : Result). r .answer) (call-of s y w c (step c z) refl)
 
     in-well : Freed h s
-    in-well = go (lookup zoneBays h z) refl
+    in-well = go (lookup h z) refl
       where
-        go : (o : Option Item) → lookup zoneBays h z ≡ o → Freed h s
+        go : (o : Option Item) → lookup h z ≡ o → Freed h s
         go none q = bad 6 (ap (λ (a : Answer). a .number) (was (free-handle h)) ∙ ap (λ (o : Option Item). (with z o) .answer .number) q) (omega arith)
         go (some i) q =
-            let now : (c : Call) → asked c (left h s) ≡ (step zoneBays c next) .answer =
-            λ c. ap (λ (r : Result). r .answer) (after-call s y w (free-handle h) tt (done 0 next) (ap (with z) q) c) in
+            let now : (c : Call) → asked c (left h s) ≡ (step c next) .answer =
+            λ c. ap (λ (r : Result). r .answer) (after-call s y w (free-handle h) none-lent (done 0 next) (ap (with z) q) c) in
             let named : asked (size (by-handle h)) s .value ≡ length (i .bytes) =
             ap (λ (a : Answer). a .value) (was (size (by-handle h))) ∙ ap (λ (o : Option Item). sized z o .value) q in
             record {
               unnamed = now (size (by-handle h)) ∙ ap (sized next) (gone h (z .bays));
               again = now (free-handle h) ∙ ap (λ (o : Option Item). (with next o) .answer) (gone h (z .bays));
-              total = omega (arith, ap (λ (a : Answer). a .value) (now sums), ap (λ (a : Answer). a .value) (was sums), named, more-free h (z .bays) (once h s y w), ap taken q);
+              total = omega (arith, ap (λ (a : Answer). a .value) (now sums), ap (λ (a : Answer). a .value) (was sums), named, more-free h (z .bays) (single-live z (well-whole s y w) h), ap taken q);
               reused = λ c k. ap (λ (a : Answer). a .value) (now (allocate-relocatable c)) ∙ head c (omega (arith, ap (λ (a : Answer). a .number) (now (allocate-relocatable c))));
             }
 
@@ -140,4 +147,4 @@ module _ (s : List ℕ) (h : ℕ) (y : Bytes s) (e : asked (free-handle h) s .nu
     where
       go : (t : Bool) → wellFormed s ≡ t → Freed h s
       go true w = in-well w
-      go false w = bad 1 (ap (λ (r : Result). r .answer .number) (call-ill s (free-handle h) w)) (omega arith)
+      go false w = bad 1 (ap (λ (r : Result). r .answer .number) (call-ill s (free-handle h) w refl)) (omega arith)

@@ -10,7 +10,7 @@ use Rattle.format.specs.WellFormed.{wellFormed, zoneOf, lengthField}
 use Rattle.structure.specs.Structure.{decode, encode}
 use Rattle.access.specs.Edit.{placeIn, IsZone}
 use Rattle.calls.specs.Calls.{told}
-use Rattle.zone.specs.OnBytes.{Result, result}
+use Rattle.zone.specs.Call.{Result, result}
 use Rattle.release.specs.Release.{freed, SpanIn}
 
 unfoldable pub freeIn : List ℕ → ℕ → ℕ

@@ -3,7 +3,7 @@ ghost use mathlib.Core.Path.{_≡_};
 ghost use Prim.Native.Nat.{_<_};
 ghost use Rattle.access.specs.Edit.{IsZone};
 ghost use Rattle.calls.specs.Calls.{told, free-handle};
-ghost use Rattle.zone.specs.OnBytes.{result, callBytes};
+ghost use Rattle.zone.specs.Call.{result, call};
 ghost use Rattle.free_handle.specs.Free.{freeIn, ReadyIn, Planned};
 
 pub struct FreePlan {
@@ -76,7 +76,7 @@ fn free_plan(zone: &[u8], h: u32) -> FreePlan
 
 // Frees a handle's block. Answers the refusal number, 0 if done.
 pub fn free_handle(zone: &mut [u8], h: u32) -> u32
-    ensures { λ r. ⌜ result (told r 0) (now (zone .exit)) ≡ callBytes (free-handle h) (now (zone .entry)) ⌝ }
+    ensures { λ r. ⌜ result (told r 0) (now (zone .exit)) ≡ call (free-handle h) (now (zone .entry)) ⌝ }
 {
     let p = free_plan(zone, h);
     let number = p.number;

@@ -1,6 +1,6 @@
 -- The plan and the call.
 use mathlib.Core.Path.{_≡_, refl, sym, ap, ap₂, _∙_, subst}
-use mathlib.Core.Bool.{Bool, true, false, cond, not}
+use mathlib.Core.Bool.{Bool, true, false, not}
 use mathlib.Core.Option.{Option, none, some}
 use mathlib.Core.List.{List, [], _∷_, _++_, append-nil}
 use Prim.Native.Nat.{ℕ, _+_, _-_, _%_, _≤_}
@@ -23,15 +23,17 @@ use Rattle.release.specs.Release.{Between}
 use Rattle.release.proofs.Freed.{sizes-append}
 use Rattle.surgery.proofs.Sound.{valid-sound}
 use Rattle.surgery.proofs.Plain.{plain}
-use Rattle.calls.specs.Calls.{told, refusal, by-pointer, free-pointer}
-use Rattle.zone.specs.PickBays.{Bays, last, more, over, findF, onJoin}
-use Rattle.zone.specs.Bay.{Cell}
-use Rattle.zone.specs.OnBays.{Fixed, orRefuse, done, withBays, joinAt}
-use Rattle.zone.specs.ZoneBays.{zoneBays}
+use Rattle.calls.specs.Calls.{told, by-pointer, free-pointer}
+use Rattle.calls.specs.Bays.{Bays, over}
+use Rattle.zone.specs.Bay.{Cell, items, gap, joinBays}
+use Rattle.calls.specs.State.{Fixed, Out, content}
+use Rattle.calls.specs.Table.{cause, isNone, first, order}
 use Rattle.zone.specs.Group.{flatten}
-use Rattle.zone.specs.OnBytes.{Zone, inBays, result, callBytes}
+use Rattle.zone.specs.Work.{Zone, freePointer}
+use Rattle.zone.specs.Call.{inBays, result, call}
+use Rattle.zone.proofs.Found.{Found, lost, got, join-found}
 use Rattle.call_laws.proofs.Plan.{bytes-of, is-well, has-zone, has-whole}
-use Rattle.call_laws.proofs.Outcome.{call-ill, call-same, call-done}
+use Rattle.call_laws.proofs.Outcome.{stepAs, none-lent, call-same, call-done}
 use Rattle.locate.specs.Locate.{targetPlace}
 use Rattle.locate.proofs.Data.{content-none}
 use Rattle.free_pointer.specs.Free.{joined, Span, SpanIn, span-of, Spotted, Extended, PlannedIn, absent-in, planned-in, Planned, ill-formed, absent, planned}
@@ -84,7 +86,7 @@ module _ (z : List ℕ) (i : IsZone z) (p from to : ℕ) (sp : SpanIn z p from t
   act-limit : length z ≤ 1048576
   act-limit = omega (arith, w .limit, w .all)
 
-  freed : (y : List ℕ) → y ≡ overwrite z from (encodeBlock (free (to - from))) → y ≡ encode (record { links = d .links; blocks = q .pre ++ free n ∷ q .post })
+  freed : (y : List ℕ) → y ≡ overwrite z from (encodeBlock (free (to - from))) → y ≡ encode (record { chain = d .chain; blocks = q .pre ++ free n ∷ q .post })
   unfolding sizes handlesOf join
   freed y e =
       let k : to - from ≡ n = omega (arith, q .is-to) in
@@ -96,39 +98,31 @@ module _ (z : List ℕ) (i : IsZone z) (p from to : ℕ) (sp : SpanIn z p from t
 
 -- ---- the call
 
-join-none : (t : Fixed → Bool) (j : List Cell → Fixed → List Cell → List Cell) (s : Bays (List Cell) Fixed) → over (λ (x : Fixed). x .bytes) (findF t s) ≡ none → onJoin t j s ≡ none
-join-none t j (last b) e = refl
-join-none t j (more b x s) e = go (t x) refl e (join-none t j s)
-  where
-    go : (u : Bool) → t x ≡ u → over (λ (x : Fixed). x .bytes) (cond u (some x) (findF t s)) ≡ none → (over (λ (x : Fixed). x .bytes) (findF t s) ≡ none → onJoin t j s ≡ none)
-        → onJoin t j (more b x s) ≡ none
-    go true g e f = let z : _≡_ {A = ℕ} 0 1 = cc in let x : ⊥ = omega arith in absurd x
-    go false g e f = rw g (ap (over (more b x)) (f e))
-
 module _ (s : List ℕ) (y : Bytes s) (wf : wellFormed s ≡ true) (p : ℕ) where
   abbrev z₀ : Zone
   z₀ = inBays (length s) (decode s)
 
-  call-7 : targetPlace (by-pointer p) (zoneOf s) ≡ 0 → callBytes (free-pointer p) s ≡ result (refusal 7) s
-  call-7 e =
-      call-same s y wf (free-pointer p) (refusal 7)
-      (ap (λ (o : Option (Bays (List Cell) Fixed)). orRefuse 7 z₀ o (λ b. done 0 (withBays b z₀))) (join-none _ _ (z₀ .bays) (content-none (by-pointer p) s e)))
+  -- the call, by the data that are found
+  abbrev found-as : Option (List ℕ) → Out (List Cell)
+  found-as o = stepAs (first order (cause 1 false ∷ cause 7 (isNone (over length o)) ∷ [])) (free-pointer p) z₀
+
+  call-7 : targetPlace (by-pointer p) (zoneOf s) ≡ 0 → call (free-pointer p) s ≡ result (told 7 0) s
+  call-7 e = call-same s y wf (free-pointer p) (told 7 0) (ap found-as (content-none (by-pointer p) s e))
 
   call-0 : (bs : List Block) → joined p (start (decode s)) (decode s .blocks) ≡ some bs
-      → callBytes (free-pointer p) s ≡ result (told 0 0) (encode (record { links = decode s .links; blocks = bs }) ++ drop (lengthField s) s)
+      → call (free-pointer p) s ≡ result (told 0 0) (encode (record { chain = decode s .chain; blocks = bs }) ++ drop (lengthField s) s)
   unfolding joined
-  call-0 bs e = go (joinAt zoneBays p (z₀ .bays)) refl e
+  call-0 bs e = go (content items (by-pointer p) (z₀ .bays)) refl (join-found (λ b n c. joinBays b (gap n c)) p (z₀ .bays)) e
     where
-      go : (o : Option (Bays (List Cell) Fixed)) → joinAt zoneBays p (z₀ .bays) ≡ o → over flatten o ≡ some bs
-          → callBytes (free-pointer p) s ≡ result (told 0 0) (encode (record { links = decode s .links; blocks = bs }) ++ drop (lengthField s) s)
-      go none q e = let z : _≡_ {A = ℕ} 0 1 = cc in let x : ⊥ = omega arith in absurd x
-      go (some b) q e =
-          let k : flatten b ≡ bs = cc in
-          call-done s y wf (free-pointer p) tt (done 0 (withBays b z₀)) (ap (λ (o : Option (Bays (List Cell) Fixed)). orRefuse 7 z₀ o (λ b. done 0 (withBays b z₀))) q) refl
-          (record { links = decode s .links; blocks = bs }) (λ i. record { links = decode s .links; blocks = k i })
+      go : (o : Option (List ℕ)) → content items (by-pointer p) (z₀ .bays) ≡ o → {r : Option (Bays (List Cell) Fixed)} → Found (freePointer p (z₀ .bays)) (isNone o) r → over flatten r ≡ some bs
+          → call (free-pointer p) s ≡ result (told 0 0) (encode (record { chain = decode s .chain; blocks = bs }) ++ drop (lengthField s) s)
+      go none q lost e = let z : _≡_ {A = ℕ} 0 1 = cc in absurd (omega arith)
+      go (some d) q got e =
+          let k : flatten (freePointer p (z₀ .bays)) ≡ bs = cc in
+          call-done s y wf (free-pointer p) none-lent (found-as (some d)) (ap found-as q) refl (record { chain = decode s .chain; blocks = bs }) (λ i. record { chain = decode s .chain; blocks = k i })
 
   done-is : (from to : ℕ) (x : List ℕ) → IsZone (zoneOf s) → SpanIn (zoneOf s) p from to → x ≡ overwrite (zoneOf s) from (encodeBlock (free (to - from)))
-      → result (told 0 0) (x ++ drop (lengthField s) s) ≡ callBytes (free-pointer p) s
+      → result (told 0 0) (x ++ drop (lengthField s) s) ≡ call (free-pointer p) s
   unfolding decode
   done-is from to x i sp e =
       let q = span-of (zoneOf s) p from to sp in
@@ -153,20 +147,20 @@ module _ (s : List ℕ) (p number l from at end to : ℕ) (f : Planned s p numbe
         go (absent w t k) = let x : ⊥ = omega arith in absurd x
         go (planned w k el g i sp bt) = bt
 
-    pub call-end : (y : List ℕ) → ((i : ℕ) → Fits w8 (getD s i 0)) → y ≡ overwrite (take l s) from (encodeBlock (free (to - from))) → result (told 0 0) (y ++ drop l s) ≡ callBytes (free-pointer p) s
+    pub call-end : (y : List ℕ) → ((i : ℕ) → Fits w8 (getD s i 0)) → y ≡ overwrite (take l s) from (encodeBlock (free (to - from))) → result (told 0 0) (y ++ drop l s) ≡ call (free-pointer p) s
     call-end y b e = go f
       where
-        go : Planned s p number l from at end to → result (told 0 0) (y ++ drop l s) ≡ callBytes (free-pointer p) s
+        go : Planned s p number l from at end to → result (told 0 0) (y ++ drop l s) ≡ call (free-pointer p) s
         go (ill-formed w k) = let x : ⊥ = omega arith in absurd x
         go (absent w t k) = let x : ⊥ = omega arith in absurd x
         go (planned w k el g i sp bt) =
-            subst (λ (j : ℕ). IsZone (take j s) → SpanIn (take j s) p from to → y ≡ overwrite (take j s) from (encodeBlock (free (to - from))) → result (told 0 0) (y ++ drop j s) ≡ callBytes (free-pointer p) s)
+            subst (λ (j : ℕ). IsZone (take j s) → SpanIn (take j s) p from to → y ≡ overwrite (take j s) from (encodeBlock (free (to - from))) → result (told 0 0) (y ++ drop j s) ≡ call (free-pointer p) s)
             (sym el) (done-is s (bytes-of s b) w p from to y) i sp e
 
-  pub call-no : ((i : ℕ) → Fits w8 (getD s i 0)) → (number ≡ 0 → ⊥) → result (told number 0) s ≡ callBytes (free-pointer p) s
+  pub call-no : ((i : ℕ) → Fits w8 (getD s i 0)) → (number ≡ 0 → ⊥) → result (told number 0) s ≡ call (free-pointer p) s
   call-no b ne = go f
     where
-      go : Planned s p number l from at end to → result (told number 0) s ≡ callBytes (free-pointer p) s
-      go (ill-formed w k) = rw k (sym (call-ill s (free-pointer p) w))
+      go : Planned s p number l from at end to → result (told number 0) s ≡ call (free-pointer p) s
+      go (ill-formed w k) = rw (k, w)
       go (absent w t k) = rw k (sym (call-7 s (bytes-of s b) w p t))
       go (planned w k el g i sp bt) = absurd (ne k)

@@ -14,7 +14,7 @@ use Rattle.structure.specs.Valid.{handlesOf, Tiled}
 use Rattle.walk.specs.Walker.{lowOf, freeB}
 use Rattle.release.specs.Release.{gap}
 use Rattle.release.proofs.Find.{leadOf}
-use Rattle.zone.specs.PickBays.{over}
+use Rattle.calls.specs.Bays.{over}
 use Rattle.calls.specs.Calls.{by-pointer}
 use Rattle.locate.specs.Locate.{placeAmong, dataAmong}
 use Rattle.free_pointer.specs.Free.{joined, Span}

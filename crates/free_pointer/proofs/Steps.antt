@@ -11,11 +11,12 @@ use borrow.Author.Tests.{eq-eqb, ne-eqb}
 use Rattle.structure.specs.Structure.{Block, free, fixed, reloc}
 use Rattle.structure.specs.Valid.{Tiled}
 use Rattle.release.specs.Release.{gap}
-use Rattle.zone.specs.PickBays.{Bays, last, more, over, glue}
+use Rattle.calls.specs.Bays.{Bays, last, more, over}
+use Rattle.zone.specs.PickBays.{glue}
 use Rattle.zone.specs.Bay as Bay
-use Rattle.zone.specs.Bay.{Item, Cell, free as gapCell, held, joinBays}
-use Rattle.zone.specs.OnBays.{Fixed, pointer, fsize, joinAt}
-use Rattle.zone.specs.ZoneBays.{zoneBays}
+use Rattle.calls.specs.State.{Item, Fixed, pointer, fsize}
+use Rattle.zone.specs.Bay.{Cell, free as gapCell, held, joinBays}
+use Rattle.zone.specs.Search.{joinAt}
 use Rattle.zone.specs.Group.{inFront, group, flatBay, flatten}
 use Rattle.zone.proofs.GroupLaws.{flatten-group}
 use Rattle.free_pointer.specs.Free.{joined}
@@ -32,31 +33,31 @@ module _ (p : ℕ) (b b′ : List Cell) (f : List Block → List Block) (same : 
   pass x (some s) = ap some (same (fixed (x .bytes) ∷ flatten s))
 
   later : (x : Fixed) (s : Bays (List Cell) Fixed) → eqb p (pointer x) ≡ false
-      → over flatten (joinAt zoneBays p (more b′ x s)) ≡ over f (over flatten (joinAt zoneBays p (more b x s)))
-  later x s e = rw e (pass x (joinAt zoneBays p s))
+      → over flatten (joinAt p (more b′ x s)) ≡ over f (over flatten (joinAt p (more b x s)))
+  later x s e = rw e (pass x (joinAt p s))
 
   module _ (join : (t : List Cell) (r : List Block) → flatBay (joinBays b′ t) r ≡ f (flatBay (joinBays b t) r)) where
     glued : (x : Fixed) (s : Bays (List Cell) Fixed) → flatten (glue joinOne b′ x s) ≡ f (flatten (glue joinOne b x s))
     glued x (last c) = join (Bay.gap (fsize x) c) []
     glued x (more c y s) = join (Bay.gap (fsize x) c) (fixed (y .bytes) ∷ flatten s)
 
-    either : (x : Fixed) (s : Bays (List Cell) Fixed) → over flatten (joinAt zoneBays p (more b′ x s)) ≡ over f (over flatten (joinAt zoneBays p (more b x s)))
+    either : (x : Fixed) (s : Bays (List Cell) Fixed) → over flatten (joinAt p (more b′ x s)) ≡ over f (over flatten (joinAt p (more b x s)))
     either x s = go (eqb p (pointer x))
       where
-        go : (t : Bool) → over flatten (cond t (some (glue joinOne b′ x s)) (over (more b′ x) (joinAt zoneBays p s)))
-            ≡ over f (over flatten (cond t (some (glue joinOne b x s)) (over (more b x) (joinAt zoneBays p s))))
+        go : (t : Bool) → over flatten (cond t (some (glue joinOne b′ x s)) (over (more b′ x) (joinAt p s)))
+            ≡ over f (over flatten (cond t (some (glue joinOne b x s)) (over (more b x) (joinAt p s))))
         go true = ap some (glued x s)
-        go false = pass x (joinAt zoneBays p s)
+        go false = pass x (joinAt p s)
 
 -- ---- blocks that stay
 
 front-held : (p : ℕ) (e : Item) (s : Bays (List Cell) Fixed)
-    → over flatten (joinAt zoneBays p (inFront (held e) s)) ≡ over (reloc (e .handle) (e .bytes) ∷_) (over flatten (joinAt zoneBays p s))
+    → over flatten (joinAt p (inFront (held e) s)) ≡ over (reloc (e .handle) (e .bytes) ∷_) (over flatten (joinAt p s))
 front-held p e (last b) = refl
 front-held p e (more b x s) = either p b (held e ∷ b) (reloc (e .handle) (e .bytes) ∷_) (λ r. refl) (λ t r. refl) x s
 
 front-two : (p n : ℕ) (e : Item) (s : Bays (List Cell) Fixed) → 0 < n
-    → over flatten (joinAt zoneBays p (inFront (gapCell n) (inFront (held e) s))) ≡ over (free n ∷_) (over flatten (joinAt zoneBays p (inFront (held e) s)))
+    → over flatten (joinAt p (inFront (gapCell n) (inFront (held e) s))) ≡ over (free n ∷_) (over flatten (joinAt p (inFront (held e) s)))
 front-two p zero e s l = let x : ⊥ = omega arith in absurd x
 front-two p (suc n) e (last b) l = refl
 front-two p (suc n) e (more b x s) l = either p (held e ∷ b) (gapCell (suc n) ∷ (held e ∷ b)) (free (suc n) ∷_) (λ r. refl) (λ t r. refl) x s
@@ -67,7 +68,7 @@ keep-reloc p at k d bs = front-held p (record { handle = k; bytes = d }) (group 
 
 pub keep-fixed : (p at : ℕ) (d : List ℕ) (bs : List Block) → (p ≡ at + 2 → ⊥) → joined p at (fixed d ∷ bs) ≡ over (fixed d ∷_) (joined p (at + (2 + length d)) bs)
 unfolding joined
-keep-fixed p at d bs ne = rw (ne-eqb p (at + 2) ne) (go (joinAt zoneBays p (group (at + (2 + length d)) bs)))
+keep-fixed p at d bs ne = rw (ne-eqb p (at + 2) ne) (go (joinAt p (group (at + (2 + length d)) bs)))
   where
     go : (o : Option (Bays (List Cell) Fixed)) → over flatten (over (more [] (record { place = at; bytes = d })) o) ≡ over (fixed d ∷_) (over flatten o)
     go none = refl

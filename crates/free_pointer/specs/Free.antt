@@ -13,15 +13,14 @@ use Rattle.access.specs.Edit.{IsZone}
 use Rattle.walk.specs.Walker.{blocksAt, lowOf}
 use Rattle.release.specs.Release.{Between}
 use Rattle.calls.specs.Calls.{by-pointer}
-use Rattle.zone.specs.PickBays.{over}
-use Rattle.zone.specs.OnBays.{joinAt}
-use Rattle.zone.specs.ZoneBays.{zoneBays}
+use Rattle.calls.specs.Bays.{over}
+use Rattle.zone.specs.Search.{joinAt}
 use Rattle.zone.specs.Group.{group, flatten}
 use Rattle.locate.specs.Locate.{targetPlace, targetData}
 
 -- the blocks after the fixed block of pointer p is freed, where there is one; the first block is at offset at
 unfoldable pub joined : ℕ → ℕ → List Block → Option (List Block)
-joined p at bs = over flatten (joinAt zoneBays p (group at bs))
+joined p at bs = over flatten (joinAt p (group at bs))
 
 -- the blocks that become one, from one offset up to another
 pub record Span (p at : ℕ) (bs : List Block) (from to : ℕ) : Type 0 where

@@ -6,7 +6,7 @@ ghost use lib.ListN.{length, drop};
 ghost use Rattle.format.specs.WellFormed.{isFree, firstField};
 ghost use Rattle.access.specs.Edit.{IsZone};
 ghost use Rattle.calls.specs.Calls.{told, free-pointer};
-ghost use Rattle.zone.specs.OnBytes.{result, callBytes};
+ghost use Rattle.zone.specs.Call.{result, call};
 ghost use Rattle.free_pointer.specs.Free.{Spotted, Extended, PlannedIn, Planned};
 use block_type::BlockType;
 use calls::Told;
@@ -154,7 +154,7 @@ fn free_plan(zone: &[u8], p: u32) -> FreePlan
 
 // Frees a pointer's block. Answers the refusal number, 0 if done, and 0.
 pub fn free_pointer(zone: &mut [u8], p: u32) -> Told
-    ensures { λ r. ⌜ result (told (r .number) (r .value)) (now (zone .exit)) ≡ callBytes (free-pointer p) (now (zone .entry)) ⌝ }
+    ensures { λ r. ⌜ result (told (r .number) (r .value)) (now (zone .exit)) ≡ call (free-pointer p) (now (zone .entry)) ⌝ }
 {
     let f = free_plan(zone, p);
     let number = f.number;

@@ -1,6 +1,6 @@
 -- The bytes written are those of the structure that initialize is to leave.
 use mathlib.Core.Path.{_≡_, refl, sym, ap, ap₂, _∙_}
-use mathlib.Core.Bool.{Bool, true, false, cond}
+use mathlib.Core.Bool.{Bool, true, false, cond, not}
 use mathlib.Core.List.{List, [], _∷_, _++_, map, append-assoc, append-nil}
 use Prim.Native.Nat.{ℕ, zero, suc, _+_, _*_, _-_, _/_, _≤_}
 use native.Mathlib.Nat.{add-zero}
@@ -13,12 +13,13 @@ use Rattle.format.specs.WellFormed.{offsets}
 use Rattle.structure.specs.Structure.{Block, Structure, sizes, relocCount, count, start, len, headOf, placeOf, nextOf, value, words, join, header, encode, encodeBlock}
 use Rattle.calls.specs.Calls.{told}
 use Rattle.zone.specs.Bay.{gap}
-use Rattle.zone.specs.OnBays.{handlesFrom, initial}
-use Rattle.zone.specs.ZoneBays.{zoneBays}
+use Rattle.calls.specs.State.{handlesFrom}
+use Rattle.zone.specs.Work.{fresh}
 use Rattle.zone.specs.Group.{flatBay}
-use Rattle.zone.specs.OnBytes.{inLine, result, accepts, initBytes}
-use Rattle.initialize.specs.Fresh.{sizeBytes, headBytes, chainBytes, freeBytes, freshBytes, Fresh}
-use Rattle.initialize.proofs.Write.{accepted, head-long, chain-long, free-long}
+use Rattle.zone.specs.Call.{inLine, Result, result, initializeWith, initialize}
+use Rattle.calls.specs.Table.{Cause, cause, first, order}
+use Rattle.initialize.specs.Fresh.{sizeBytes, headBytes, chainBytes, freeBytes, freshBytes, accepts, Fresh}
+use Rattle.initialize.proofs.Write.{bad-is, accepted, head-long, chain-long, free-long}
 
 two-zeros : 0 ∷ 0 ∷ [] ≡ toBE 2 0
 unfolding toBE
@@ -66,7 +67,7 @@ free-bytes (suc k) = append-nil (toBE 4 (suc k / 2) ++ replicate (suc k - 4) 0) 
 
 module _ (buf n m : ℕ) (x : Fresh buf n m) where
   abbrev u : Structure
-  u = inLine (initial zoneBays buf n m)
+  u = inLine (fresh buf n m)
 
   count-is : count u ≡ m
   count-is = omega (arith, no-relocs (n - (16 + 4 * m)), handles-long 16 m)
@@ -94,11 +95,16 @@ module _ (buf n m : ℕ) (x : Fresh buf n m) where
       let q = x .four in
       simp length-append (omega (arith, head-long n m, chain-long 16 m, free-long (n - (16 + 4 * m)) (omega arith)))
 
-pub init-done : (s z : List ℕ) (n m : ℕ) (r : Bool) → r ≡ accepts (length s) n m → r ≡ true → z ≡ overwrite s 0 (freshBytes n m) → result (told 0 0) z ≡ initBytes n m s
+-- the call, by its cause
+abbrev caused : ℕ → ℕ → List ℕ → Cause → Result
+caused n m s c = initializeWith (first order (c ∷ [])) n m s
+
+pub init-done : (s z : List ℕ) (n m : ℕ) (r : Bool) → r ≡ accepts (length s) n m → r ≡ true → z ≡ overwrite s 0 (freshBytes n m) → result (told 0 0) z ≡ initialize n m s
 init-done s z n m r e t q =
     let x = accepted (length s) n m r e t in
     let k : 0 + length (freshBytes n m) ≡ n = omega (arith, fresh-long (length s) n m x) in
-    rw (← e, t) (ap (result (told 0 0)) (q ∙ ap₂ (λ (b : List ℕ) (j : ℕ). b ++ drop j s) (sym (fresh-encode (length s) n m x)) k))
+    ap (result (told 0 0)) (q ∙ ap₂ (λ (b : List ℕ) (j : ℕ). b ++ drop j s) (sym (fresh-encode (length s) n m x)) k)
+    ∙ sym (ap (caused n m s) (bad-is (length s) n m r e ∙ ap (λ (u : Bool). cause 2 (not u)) t))
 
-pub init-no : (s : List ℕ) (n m : ℕ) (r : Bool) → r ≡ accepts (length s) n m → r ≡ false → result (told 2 0) s ≡ initBytes n m s
-init-no s n m r e t = rw (← e, t)
+pub init-no : (s : List ℕ) (n m : ℕ) (r : Bool) → r ≡ accepts (length s) n m → r ≡ false → result (told 2 0) s ≡ initialize n m s
+init-no s n m r e t = sym (ap (caused n m s) (bad-is (length s) n m r e ∙ ap (λ (u : Bool). cause 2 (not u)) t))

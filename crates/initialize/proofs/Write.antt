@@ -1,20 +1,20 @@
 -- The laws that the functions cite: writes one behind the other.
 use mathlib.Core.Path.{_≡_, refl, sym, ap, _∙_}
-use mathlib.Core.Bool.{Bool, true, cond, _&&_}
-use mathlib.Core.List.{List, _++_, append-assoc}
+use mathlib.Core.Bool.{Bool, true, false, cond, _&&_, _||_, not}
+use mathlib.Core.List.{List, [], _∷_, _++_, append-assoc}
 use Prim.Native.Nat.{ℕ, zero, suc, _+_, _*_, _-_, _/_, _%_, _<_, _≤_}
 use native.Mathlib.Omega.{arith}
 use lib.Dec.{eqb, leb}
-use borrow.Author.Tests.{eq-eqb, ne-eqb, eqb-true, leb-true}
+use borrow.Author.Tests.{eq-eqb, ne-eqb}
 use lib.ListN.{length, take, replicate, length-append, length-replicate}
 use Rattle.bigendian.specs.BigEndian.{toBE, overwrite}
 use Rattle.bigendian.proofs.Laws.{length-toBE}
 use Rattle.memory.proofs.Writes.{write-none}
 use Rattle.memory.proofs.Slide.{write-before}
-use Rattle.format.proofs.Bool.{and-left, and-right}
 use Rattle.compact_bay.proofs.Part.{take-write, drop-write}
-use Rattle.zone.specs.OnBytes.{accepts}
-use Rattle.initialize.specs.Fresh.{sizeBytes, headBytes, chainBytes, freeBytes, freshBytes, Fresh}
+use Rattle.calls.specs.Table.{Cause, cause, badInitialize, first, order}
+use Rattle.zone.proofs.Initial.{accepted as may-start}
+use Rattle.initialize.specs.Fresh.{sizeBytes, headBytes, chainBytes, freeBytes, freshBytes, accepts, Fresh}
 
 -- a write right behind a write
 pub write-more : (z u v : List ℕ) (at k : ℕ) → k ≡ at + length u → k + length v ≤ length z → overwrite (overwrite z at u) k v ≡ overwrite z at (u ++ v)
@@ -25,23 +25,21 @@ write-more z u v at k e l =
 
 -- ---- the arguments
 
+one-of : (a b c d e : Bool) → not a || (not b || (not c || (not d || not e))) ≡ not (a && b && c && d && e)
+one-of true true true true e = refl
+one-of true true true false e = refl
+one-of true true false d e = refl
+one-of true false c d e = refl
+one-of false b c d e = refl
+
+-- cause 2, where it is tested by r
+pub bad-is : (buf n m : ℕ) (r : Bool) → r ≡ accepts buf n m → badInitialize buf n m ≡ cause 2 (not r)
+bad-is buf n m r e = ap (cause 2) (one-of (eqb (n % 4) 0) (leb (16 + 4 * m) n) (leb n buf) (leb n 1048576) (leb m 8188) ∙ ap not (sym e))
+
 pub accepted : (buf n m : ℕ) (r : Bool) → r ≡ accepts buf n m → r ≡ true → Fresh buf n m
 accepted buf n m r e t =
-    let a : accepts buf n m ≡ true = sym e ∙ t in
-    let p₁ = eqb (n % 4) 0 in
-    let p₂ = leb (16 + 4 * m) n in
-    let p₃ = leb n buf in
-    let p₄ = leb n 1048576 in
-    let b = and-left (p₁ && p₂ && p₃ && p₄) (leb m 8188) a in
-    let c = and-left (p₁ && p₂ && p₃) p₄ b in
-    let d = and-left (p₁ && p₂) p₃ c in
-    record {
-      four = eqb-true (n % 4) 0 (and-left p₁ p₂ d);
-      room = leb-true (16 + 4 * m) n (and-right p₁ p₂ d);
-      fits = leb-true n buf (and-right (p₁ && p₂) p₃ c);
-      short = leb-true n 1048576 (and-right (p₁ && p₂ && p₃) p₄ b);
-      few = leb-true m 8188 (and-right (p₁ && p₂ && p₃ && p₄) (leb m 8188) a);
-    }
+    let a = may-start buf n m (ap (λ (c : Cause). first order (c ∷ [])) (bad-is buf n m r e ∙ ap (λ (u : Bool). cause 2 (not u)) t)) in
+    record { four = a .by4; room = a .above; fits = a .within; short = a .length-limit; few = a .masters-limit }
 
 -- ---- lengths
 

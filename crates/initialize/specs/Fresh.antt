@@ -1,11 +1,12 @@
 -- The bytes of a zone with no block but a free one.
 use mathlib.Core.Path.{_≡_}
-use mathlib.Core.Bool.{cond}
+use mathlib.Core.Bool.{Bool, cond, _&&_}
 use mathlib.Core.List.{List, [], _++_}
 use Prim.Native.Nat.{ℕ, zero, suc, _+_, _*_, _-_, _/_, _%_, _≤_}
 use lib.ListN.{replicate}
-use lib.Dec.{eqb}
+use lib.Dec.{eqb, leb}
 use Rattle.bigendian.specs.BigEndian.{toBE}
+use Rattle.block_type.specs.Limits.{firstBlock, longestZone, mostMasters}
 
 -- length, bkFst, m
 unfoldable pub sizeBytes : ℕ → ℕ → List ℕ
@@ -30,6 +31,10 @@ freeBytes k = cond (eqb k 0) [] (toBE 4 (k / 2) ++ replicate (k - 4) 0)
 
 unfoldable pub freshBytes : ℕ → ℕ → List ℕ
 freshBytes n m = headBytes n m ++ (chainBytes 16 m ++ freeBytes (n - (16 + 4 * m)))
+
+-- whether a zone of n bytes with m masters can be made in a buffer of `buf` bytes
+abbrev pub accepts : ℕ → ℕ → ℕ → Bool
+accepts buf n m = eqb (n % 4) 0 && leb (firstBlock m) n && leb n buf && leb n longestZone && leb m mostMasters
 
 -- what an accepted call may rely on
 pub record Fresh (buf n m : ℕ) : Type 0 where

@@ -6,8 +6,8 @@ ghost use lib.ListN.{length};
 ghost use lib.Dec.{eqb};
 ghost use Rattle.bigendian.specs.BigEndian.{overwrite};
 ghost use Rattle.calls.specs.Calls.{told};
-ghost use Rattle.zone.specs.OnBytes.{result, accepts, initBytes};
-ghost use Rattle.initialize.specs.Fresh.{sizeBytes, headBytes, chainBytes, freeBytes, freshBytes, Fresh};
+ghost use Rattle.zone.specs.Call.{result, initialize};
+ghost use Rattle.initialize.specs.Fresh.{sizeBytes, headBytes, chainBytes, freeBytes, freshBytes, accepts, Fresh};
 use block_type::BlockType;
 use calls::Told;
 
@@ -86,7 +86,7 @@ fn make(z: &mut [u8], n: usize, m: usize)
 
 // Makes a zone of `length` bytes with m masters at the start of the buffer. Answers the refusal number, 0 if done, and 0.
 pub fn initialize(zone: &mut [u8], length: u32, m: u32) -> Told
-    ensures { λ r. ⌜ result (told (r .number) (r .value)) (now (zone .exit)) ≡ initBytes length m (now (zone .entry)) ⌝ }
+    ensures { λ r. ⌜ result (told (r .number) (r .value)) (now (zone .exit)) ≡ initialize length m (now (zone .entry)) ⌝ }
 {
     let n = length as usize;
     let k = m as usize;

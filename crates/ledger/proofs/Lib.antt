@@ -1,3 +1,2 @@
-pub mod Space
-pub mod Tied
 pub mod Still
+pub mod Space

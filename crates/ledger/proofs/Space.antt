@@ -1,216 +1,160 @@
 -- "No space" comes exactly when no bay's sum reaches what is needed of that bay.
 use mathlib.Core.Path.{_≡_, refl, ap, ap₂, sym, _∙_}
-use mathlib.Core.Bool.{Bool, true, false, cond, _||_, not}
-use mathlib.Core.Option.{Option, none, some}
+use mathlib.Core.Bool.{Bool, true, false, cond, _&&_, _||_, not, true≢false}
+use mathlib.Core.Option.{Option, none, some, Option·getD}
 use mathlib.Core.List.{List, [], _∷_}
-use Prim.Native.Nat.{ℕ, suc, _+_, _-_, _≤_}
+use Prim.Native.Nat.{ℕ, suc, _+_, _-_, _≤_, max}
 use native.Mathlib.Omega.{arith}
 use lib.ListN.{length}
-use lib.Dec.{leb, eqb}
-use borrow.Author.Tests.{leb-false, lt-leb}
+use lib.Dec.{leb}
+use borrow.Author.Tests.{leb-true, leb-false, le-leb, lt-leb}
 use Rattle.block_type.specs.Limits.{relocHeader, relocLimit, fixedLimit, up4, relocNeed, fixedNeed}
-use Rattle.calls.specs.Table.{cause, first, beforeNoBay, isEmpty, isNone, noBay, noBayToResize}
-use Rattle.ledger.specs.Ledger.{facts, over}
-use Rattle.ledger.specs.Nested.{Entry, Bay, Fixed, Line, last, more, Ledger, Lodged, Step, taken, sumOf, find, entryOf, orElse, before, lowest, reaches, without, onEntries, lodgedAfter, highest, roomIn, ownReaches, orRefuse, allocate, allocateFixed, resizeEntry, step}
+use Rattle.calls.specs.Calls.{by-handle}
+use Rattle.calls.specs.Bays.{last, more, over, orElse, findS, maxS, sumS}
+use Rattle.calls.specs.State.{Item, is, get, ownSum}
+use Rattle.calls.specs.Table.{below, isNone, isEmpty, cause, first, beforeNoBay, order}
+use Rattle.ledger.specs.Ledger.{Bay, Layout, Ledger, sumOf, entriesOf, facts, stepWith, step}
 use Rattle.ledger.specs.Space.{Request, relocatable, fixed, resized, callOf, resizeNeed, needOf, fits, earlier}
 
--- ---- what refuses it earlier in the order than "no space"; 0 for nothing
-
--- 4 where there is no handle
-abbrev noHandle : List ℕ → ℕ
-noHandle [] = 4
-noHandle (h ∷ hs) = 0
-
--- 6 where the handle is not live, else 3 where c is above the limit
-abbrev notLive : ℕ → Option Entry → ℕ
-notLive c none = 6
-notLive c (some e) = cond (leb c relocLimit) 0 3
-
-abbrev sooner : Request → Ledger → ℕ
-sooner (relocatable c) l = cond (leb c relocLimit) (noHandle (l .stack)) 3
-sooner (fixed c) l = cond (leb c fixedLimit) 0 3
-sooner (resized h c) l = notLive c (entryOf h (l .line))
-
 -- how many entries have the handle, in a bay and in all
-abbrev pub countIn : ℕ → List Entry → ℕ
+abbrev pub countIn : ℕ → List Item → ℕ
 countIn h [] = 0
-countIn h (e ∷ es) = cond (eqb h (e .handle)) (suc (countIn h es)) (countIn h es)
+countIn h (e ∷ es) = cond (is h e) (suc (countIn h es)) (countIn h es)
 
-abbrev pub liveIn : ℕ → Line → ℕ
-liveIn h (last b) = countIn h (b .entries)
-liveIn h (more b x l) = countIn h (b .entries) + liveIn h l
+abbrev pub liveIn : ℕ → Layout → ℕ
+liveIn h l = sumS (λ (b : Bay). countIn h (b .entries)) l
 
--- ---- whether something is there
+-- ---- the same of every bay: the largest sum decides
 
-data Shown {A : Type 0} : Bool → Option A → Type 0 where
-  missing : Shown false none
-  there : {a : A} → Shown true (some a)
-
-one-shown : {A : Type 0} (t : Bool) (a : A) → Shown t (cond t (some a) none)
-one-shown true a = there
-one-shown false a = missing
-
-cond-shown : {A : Type 0} (t : Bool) {u : Bool} (a : A) {o : Option A} → Shown u o → Shown (t || u) (cond t (some a) o)
-cond-shown true a q = there
-cond-shown false a q = q
-
-or-else-shown : {A : Type 0} {t u : Bool} {o p : Option A} → Shown t o → Shown u p → Shown (t || u) (orElse o p)
-or-else-shown missing q = q
-or-else-shown there q = there
-
-before-shown : (b : Bay) (x : Fixed) {t : Bool} {o : Option Line} → Shown t o → Shown t (before b x o)
-before-shown b x missing = missing
-before-shown b x there = there
-
-lodged-after-shown : (b : Bay) (x : Fixed) {t : Bool} {o : Option Lodged} → Shown t o → Shown t (lodgedAfter b x o)
-lodged-after-shown b x missing = missing
-lodged-after-shown b x there = there
-
--- the refusal n exactly where nothing is there
-number-shown : {X : Type 0} (n : ℕ) (l : Ledger) {t : Bool} {o : Option X} (k : X → Step) → ((x : X) → (k x) .answer .number ≡ 0) → Shown t o
-    → (orRefuse n l o k) .answer .number ≡ cond t 0 n
-number-shown n l k z missing = refl
-number-shown n l k z (there {a = x}) = z x
-
-or-swap : (t u : Bool) → t || u ≡ u || t
-or-swap true true = refl
-or-swap true false = refl
-or-swap false true = refl
-or-swap false false = refl
-
-or-middle : (t u v w : Bool) → (t || u) || (v || w) ≡ (t || v) || (u || w)
-or-middle true u v w = refl
-or-middle false true true w = refl
-or-middle false true false w = refl
-or-middle false false v w = refl
-
--- ---- some bay passes the test
-
-abbrev some-bay : (Bay → Bool) → Line → Bool
-some-bay ok (last b) = ok b
-some-bay ok (more b x l) = ok b || some-bay ok l
-
-fits-some-bay : (c : Request) (l : Line) → fits c l ≡ some-bay (λ b. leb (needOf c b) (sumOf b)) l
-fits-some-bay c (last b) = refl
-fits-some-bay c (more b x l) = ap (leb (needOf c b) (sumOf b) ||_) (fits-some-bay c l)
-
-lowest-shown : (ok : Bay → Bool) (f : Bay → Bay) (l : Line) → Shown (some-bay ok l) (lowest ok f l)
-lowest-shown ok f (last b) = one-shown (ok b) _
-lowest-shown ok f (more b x l) = cond-shown (ok b) _ (before-shown b x (lowest-shown ok f l))
-
-highest-shown : (n end : ℕ) (l : Line) → Shown (some-bay (reaches n) l) (highest n end l)
-highest-shown n end (last b) = one-shown (reaches n b) _
-highest-shown n end (more b x l) =
-    rw (or-swap (reaches n b) (some-bay (reaches n) l)) (or-else-shown (lodged-after-shown b x (highest-shown n end l)) (one-shown (reaches n b) _))
-
--- ---- a resize: what a bay holds without the handle
-
--- what the handle's entry takes of the bay
-abbrev pub held : Option Entry → ℕ
-held none = 0
-held (some e) = relocHeader + length (e .bytes)
-
-pub taken-absent : (h : ℕ) (es : List Entry) → countIn h es ≤ 0 → taken (without h es) ≡ taken es
-taken-absent h [] n = refl
-taken-absent h (e ∷ es) n = go (eqb h (e .handle)) (λ k. taken-absent h es k) n
+leb-max : (n a b : ℕ) → leb n a || leb n b ≡ leb n (max a b)
+leb-max n a b = go (leb n a) (leb n b) refl refl
   where
-    go : (t : Bool) → (countIn h es ≤ 0 → taken (without h es) ≡ taken es) → cond t (suc (countIn h es)) (countIn h es) ≤ 0
-        → taken (cond t (without h es) (e ∷ without h es)) ≡ relocHeader + length (e .bytes) + taken es
+    go : (t u : Bool) → leb n a ≡ t → leb n b ≡ u → t || u ≡ leb n (max a b)
+    go true u p q = sym (le-leb n (max a b) (omega (arith, leb-true n a p)))
+    go false true p q = sym (le-leb n (max a b) (omega (arith, leb-true n b q)))
+    go false false p q = sym (lt-leb n (max a b) (omega (arith, leb-false n a p, leb-false n b q)))
+
+fits-all : (q : Request) (n : ℕ) → ((b : Bay) → needOf q b ≡ n) → (l : Layout) → fits q l ≡ leb n (maxS sumOf l)
+fits-all q n e (last b) = ap (λ (k : ℕ). leb k (sumOf b)) (e b)
+fits-all q n e (more b x l) = ap₂ _||_ (ap (λ (k : ℕ). leb k (sumOf b)) (e b)) (fits-all q n e l) ∙ leb-max n (sumOf b) (maxS sumOf l)
+
+-- ---- a resize, where the handle stands at most once
+
+-- whether it is found, by how often it stands there
+get-absent : (h : ℕ) (es : List Item) → countIn h es ≡ 0 → get h es ≡ none
+get-absent h [] n = refl
+get-absent h (e ∷ es) n = go (is h e) (λ k. get-absent h es k) n
+  where
+    go : (t : Bool) → (countIn h es ≡ 0 → get h es ≡ none) → cond t (suc (countIn h es)) (countIn h es) ≡ 0 → cond t (some e) (get h es) ≡ none
     go true f n = absurd (omega arith)
-    go false f n = ap ((relocHeader + length (e .bytes)) +_) (f n)
+    go false f n = f n
 
--- where the handle stands at most once, one entry goes
-pub taken-without : (h : ℕ) (es : List Entry) → countIn h es ≤ 1 → taken (without h es) + held (find h es) ≡ taken es
-taken-without h [] n = refl
-taken-without h (e ∷ es) n = go (eqb h (e .handle)) (λ k. taken-without h es k) n
+data Once (n : ℕ) : Option Item → Type 0 where
+  not-here : Once n none
+  here : {e : Item} → 1 ≤ n → Once n (some e)
+
+get-once : (h : ℕ) (es : List Item) → Once (countIn h es) (get h es)
+get-once h [] = not-here
+get-once h (e ∷ es) = go (is h e) (get-once h es)
   where
-    go : (t : Bool) → (countIn h es ≤ 1 → taken (without h es) + held (find h es) ≡ taken es) → cond t (suc (countIn h es)) (countIn h es) ≤ 1
-        → taken (cond t (without h es) (e ∷ without h es)) + held (cond t (some e) (find h es)) ≡ relocHeader + length (e .bytes) + taken es
-    go true f n = omega (arith, taken-absent h es (omega arith))
-    go false f n = omega (arith, f n)
+    go : (t : Bool) {o : Option Item} → Once (countIn h es) o → Once (cond t (suc (countIn h es)) (countIn h es)) (cond t (some e) o)
+    go true k = here (omega arith)
+    go false k = k
 
--- a bay reaches what is needed of it exactly when it has room for the handle's new bytes, or reaches 4 + a once the handle is gone: where
--- the bay has the handle and no room, it does not reach 4 + a either
-own-or-other : (h a : ℕ) (b : Bay) → countIn h (b .entries) ≤ 1
-    → leb (resizeNeed a (find h (b .entries))) (sumOf b) ≡ ownReaches h a b || leb (relocHeader + a) (b .capacity - taken (without h (b .entries)))
-own-or-other h a b n = found (find h (b .entries)) (taken-without h (b .entries) n)
+module _ (h a : ℕ) where
+  abbrev reached : Layout → Bool
+  reached (last b) = leb (resizeNeed a (get h (b .entries))) (sumOf b)
+  reached (more b x l) = leb (resizeNeed a (get h (b .entries))) (sumOf b) || reached l
+
+  -- no bay has the handle
+  none-has : (l : Layout) → liveIn h l ≡ 0 → reached l ≡ leb (relocHeader + a) (maxS sumOf l)
+  none-has (last b) n = rw (get-absent h (b .entries) n)
+  none-has (more b x l) n = rw (get-absent h (b .entries) (omega arith), none-has l (omega arith)) (leb-max (relocHeader + a) (sumOf b) (maxS sumOf l))
+
+  abbrev found : Layout → Option Item
+  found l = findS (λ (b : Bay). get h (b .entries)) l
+
+  abbrev own : Layout → Option ℕ
+  own l = findS (λ (b : Bay). over (λ (e : Item). sumOf b) (get h (b .entries))) l
+
+  -- its bay is asked for a − b, and each bay for 4 + a: where its own lacks a − b, it lacks 4 + a too
+  abbrev enough : Option ℕ → ℕ → Option Item → Bool
+  enough s m none = leb (relocHeader + a) m
+  enough s m (some e) = leb (a - length (e .bytes)) (Option·getD s 0) || leb (relocHeader + a) m
+
+  own-bay : (n s m : ℕ) → leb (a - n) s || leb (relocHeader + a) m ≡ leb (a - n) s || leb (relocHeader + a) (max s m)
+  own-bay n s m = go (leb (a - n) s) refl
+    where
+      go : (t : Bool) → leb (a - n) s ≡ t → t || leb (relocHeader + a) m ≡ t || leb (relocHeader + a) (max s m)
+      go true p = refl
+      go false p = sym (sym (leb-max (relocHeader + a) s m) ∙ ap (_|| leb (relocHeader + a) m) (lt-leb (relocHeader + a) s (omega (arith, leb-false (a - n) s p))))
+
+  or-swap : (t u v : Bool) → t || (u || v) ≡ u || (t || v)
+  or-swap true true v = refl
+  or-swap true false v = refl
+  or-swap false u v = refl
+
+  resize-fits : (l : Layout) → liveIn h l ≤ 1 → reached l ≡ enough (own l) (maxS sumOf l) (found l)
+  resize-fits (last b) n = go (get h (b .entries))
+    where
+      go : (o : Option Item) → leb (resizeNeed a o) (sumOf b) ≡ enough (over (λ (e : Item). sumOf b) o) (sumOf b) o
+      go none = refl
+      go (some e) = alone (leb (a - length (e .bytes)) (sumOf b)) refl
+        where
+          alone : (t : Bool) → leb (a - length (e .bytes)) (sumOf b) ≡ t → t ≡ t || leb (relocHeader + a) (sumOf b)
+          alone true p = refl
+          alone false p = sym (lt-leb (relocHeader + a) (sumOf b) (omega (arith, leb-false (a - length (e .bytes)) (sumOf b) p)))
+  resize-fits (more b x l) n = go (get h (b .entries)) (get-once h (b .entries)) (λ k. resize-fits l k)
+    where
+      later : (o : Option Item) (s : Option ℕ) → leb (relocHeader + a) (sumOf b) || enough s (maxS sumOf l) o ≡ enough s (max (sumOf b) (maxS sumOf l)) o
+      later none s = leb-max (relocHeader + a) (sumOf b) (maxS sumOf l)
+      later (some e) s = or-swap (leb (relocHeader + a) (sumOf b)) (leb (a - length (e .bytes)) (Option·getD s 0)) _ ∙ ap (leb (a - length (e .bytes)) (Option·getD s 0) ||_) (leb-max (relocHeader + a) (sumOf b) (maxS sumOf l))
+
+      go : (o : Option Item) → Once (countIn h (b .entries)) o → (liveIn h l ≤ 1 → reached l ≡ enough (own l) (maxS sumOf l) (found l))
+          → leb (resizeNeed a o) (sumOf b) || reached l ≡ enough (orElse (over (λ (e : Item). sumOf b) o) (own l)) (max (sumOf b) (maxS sumOf l)) (orElse o (found l))
+      go none not-here r = ap (leb (relocHeader + a) (sumOf b) ||_) (r (omega arith)) ∙ later (found l) (own l)
+      go (some e) (here k) r = ap (leb (a - length (e .bytes)) (sumOf b) ||_) (none-has l (omega arith)) ∙ own-bay (length (e .bytes)) (sumOf b) (maxS sumOf l)
+
+fits-reached : (h c : ℕ) (l : Layout) → fits (resized h c) l ≡ reached h (up4 c) l
+fits-reached h c (last b) = refl
+fits-reached h c (more b x l) = ap (leb (resizeNeed (up4 c) (get h (b .entries))) (sumOf b) ||_) (fits-reached h c l)
+
+-- ---- an allocation or a resize that nothing earlier refuses, where no handle is live twice
+
+pub space : (q : Request) (l : Ledger) → ((h : ℕ) → liveIn h (l .bays) ≤ 1) → earlier q l ≡ 0 → (step (callOf q) l) .answer .number ≡ cond (fits q (l .bays)) 0 5
+space (relocatable c) l o e = rw (fits-all (relocatable c) (relocNeed c) (λ b. refl) (l .bays)) (go (leb c relocLimit) (isEmpty (l .chain)) (leb (relocNeed c) (maxS sumOf (l .bays))) e)
   where
-    found : (o : Option Entry) → taken (without h (b .entries)) + held o ≡ taken (b .entries)
-        → leb (resizeNeed a o) (sumOf b) ≡ roomIn a b o || leb (relocHeader + a) (b .capacity - taken (without h (b .entries)))
-    found none q = ap (λ k. leb (relocHeader + a) (b .capacity - k)) (omega (arith, q))
-    found (some e) q = go (leb (a - length (e .bytes)) (sumOf b)) refl
-      where
-        go : (t : Bool) → leb (a - length (e .bytes)) (sumOf b) ≡ t → t ≡ t || leb (relocHeader + a) (b .capacity - taken (without h (b .entries)))
-        go true p = refl
-        go false p =
-            sym (lt-leb (relocHeader + a) (b .capacity - taken (without h (b .entries))) (omega (arith, q, leb-false (a - length (e .bytes)) (sumOf b) p)))
-
-fits-resize : (h c : ℕ) (l : Line) → liveIn h l ≤ 1
-    → fits (resized h c) l ≡ some-bay (ownReaches h (up4 c)) l || some-bay (reaches (relocHeader + up4 c)) (onEntries (without h) l)
-fits-resize h c (last b) n = own-or-other h (up4 c) b n
-fits-resize h c (more b x l) n =
-    ap₂ _||_ (own-or-other h (up4 c) b (omega arith)) (fits-resize h c l (omega arith)) ∙ or-middle (ownReaches h (up4 c) b) _ _ _
-
--- ---- the three calls
-
-allocate-number : (c h : ℕ) (hs : List ℕ) (l : Ledger) → leb c relocLimit ≡ true → l .stack ≡ h ∷ hs
-    → (allocate c l) .answer .number ≡ cond (fits (relocatable c) (l .line)) 0 5
-allocate-number c h hs l p q =
-    rw (p, q, fits-some-bay (relocatable c) (l .line)) (number-shown 5 _ _ (λ k. refl) (lowest-shown (reaches (relocNeed c)) _ (l .line)))
-
-fixed-number : (c : ℕ) (l : Ledger) → leb c fixedLimit ≡ true → (allocateFixed c l) .answer .number ≡ cond (fits (fixed c) (l .line)) 0 5
-fixed-number c l p =
-    rw (p, fits-some-bay (fixed c) (l .line)) (number-shown 5 _ _ (λ r. refl) (highest-shown (fixedNeed c) (l .len) (l .line)))
-
-resize-number : (h c : ℕ) (e : Entry) (l : Ledger) → liveIn h (l .line) ≤ 1 → leb c relocLimit ≡ true → entryOf h (l .line) ≡ some e
-    → (resizeEntry h c l) .answer .number ≡ cond (fits (resized h c) (l .line)) 0 5
-resize-number h c e l n p q =
-    rw (q, p, fits-resize h c (l .line) n)
-    (number-shown 5 _ _ (λ k. refl) (or-else-shown (lowest-shown (ownReaches h (up4 c)) _ (l .line)) (lowest-shown (reaches (relocHeader + up4 c)) _ (onEntries (without h) (l .line)))))
-
--- where nothing earlier refuses it, and no handle is live twice
-space-nested : (q : Request) (l : Ledger) → ((h : ℕ) → liveIn h (l .line) ≤ 1) → sooner q l ≡ 0 → (step (callOf q) l) .answer .number ≡ cond (fits q (l .line)) 0 5
-space-nested (relocatable c) l o e = go (leb c relocLimit) (l .stack) refl refl e
+    go : (t u v : Bool) → first beforeNoBay (cause 1 false ∷ cause 3 (not t) ∷ cause 4 u ∷ cause 5 (not v) ∷ []) ≡ 0
+        → (stepWith (first order (cause 1 false ∷ cause 3 (not t) ∷ cause 4 u ∷ cause 5 (not v) ∷ [])) (callOf (relocatable c)) l) .answer .number ≡ cond v 0 5
+    go true false true e = refl
+    go true false false e = refl
+    go true true v e = absurd (omega (arith, e))
+    go false u v e = absurd (omega (arith, e))
+space (fixed c) l o e = rw (fits-all (fixed c) (fixedNeed c) (λ b. refl) (l .bays)) (go (leb c fixedLimit) (leb (fixedNeed c) (maxS sumOf (l .bays))) e)
   where
-    go : (t : Bool) (s : List ℕ) → leb c relocLimit ≡ t → l .stack ≡ s → cond t (noHandle s) 3 ≡ 0
-        → (allocate c l) .answer .number ≡ cond (fits (relocatable c) (l .line)) 0 5
-    go true (h ∷ hs) p q e = allocate-number c h hs l p q
-    go true [] p q e = absurd (omega arith)
-    go false s p q e = absurd (omega arith)
-space-nested (fixed c) l o e = go (leb c fixedLimit) refl e
+    go : (t v : Bool) → first beforeNoBay (cause 1 false ∷ cause 3 (not t) ∷ cause 5 (not v) ∷ []) ≡ 0
+        → (stepWith (first order (cause 1 false ∷ cause 3 (not t) ∷ cause 5 (not v) ∷ [])) (callOf (fixed c)) l) .answer .number ≡ cond v 0 5
+    go true true e = refl
+    go true false e = refl
+    go false v e = absurd (omega (arith, e))
+space (resized h c) l o e =
+    rw (fits-reached h c (l .bays), resize-fits h (up4 c) (l .bays) (o h))
+    (go (found h (up4 c) (l .bays)) (own h (up4 c) (l .bays)) (leb c relocLimit) e)
   where
-    go : (t : Bool) → leb c fixedLimit ≡ t → _≡_ {A = ℕ} (cond t 0 3) 0 → (allocateFixed c l) .answer .number ≡ cond (fits (fixed c) (l .line)) 0 5
-    go true p e = fixed-number c l p
-    go false p e = absurd (omega arith)
-space-nested (resized h c) l o e = go (entryOf h (l .line)) (leb c relocLimit) refl refl e
-  where
-    go : (f : Option Entry) (t : Bool) → entryOf h (l .line) ≡ f → leb c relocLimit ≡ t → notLive c f ≡ 0
-        → (resizeEntry h c l) .answer .number ≡ cond (fits (resized h c) (l .line)) 0 5
-    go none t q p e = absurd (omega arith)
-    go (some f) true q p e = resize-number h c f l (o h) p q
-    go (some f) false q p e = absurd (omega (arith, rw p at e))
+    both : Option Item → Option ℕ → Bool
+    both i s = below (Option·getD s 0) (up4 c - Option·getD (over length (over (λ (e : Item). e .bytes) i)) 0) && below (maxS sumOf (l .bays)) (relocHeader + up4 c)
 
--- nothing earlier in the table's order
-nothing-sooner : (q : Request) (l : Ledger) → earlier q l ≡ 0 → sooner q l ≡ 0
-nothing-sooner (relocatable c) l e = go (leb c relocLimit) (l .stack) e
-  where
-    go : (t : Bool) (hs : List ℕ) → first beforeNoBay (cause 1 false ∷ cause 3 (not t) ∷ cause 4 (isEmpty hs) ∷ noBay (relocNeed c) (facts l) ∷ []) ≡ 0 → cond t (noHandle hs) 3 ≡ 0
-    go true (h ∷ hs) e = refl
-    go true [] e = absurd (omega (arith, e))
-    go false hs e = absurd (omega (arith, e))
-nothing-sooner (fixed c) l e = go (leb c fixedLimit) e
-  where
-    go : (t : Bool) → first beforeNoBay (cause 1 false ∷ cause 3 (not t) ∷ noBay (fixedNeed c) (facts l) ∷ []) ≡ 0 → _≡_ {A = ℕ} (cond t 0 3) 0
-    go true e = refl
-    go false e = absurd (omega (arith, e))
-nothing-sooner (resized h c) l e = go (entryOf h (l .line)) (leb c relocLimit) refl (noBayToResize h (up4 c) (facts l) .holds) e
-  where
-    go : (o : Option Entry) (t : Bool) → leb c relocLimit ≡ t → (v : Bool)
-        → first beforeNoBay (cause 1 false ∷ cause 3 (not t) ∷ cause 5 v ∷ cause 6 (isNone (over length (over (λ (e : Entry). e .bytes) o))) ∷ []) ≡ 0 → notLive c o ≡ 0
-    go none t p v e = absurd (omega (arith, e))
-    go (some x) true p v e = rw p
-    go (some x) false p v e = absurd (omega (arith, e))
+    number : (i : Option Item) (s : Option ℕ) (t : Bool) → ℕ
+    number i s t = first order (cause 1 false ∷ cause 3 (not t) ∷ cause 5 (both i s) ∷ cause 6 (isNone (over length (over (λ (e : Item). e .bytes) i))) ∷ [])
 
--- an allocation or a resize that nothing earlier refuses, where no handle is live twice
-pub space : (q : Request) (l : Ledger) → ((h : ℕ) → liveIn h (l .line) ≤ 1) → earlier q l ≡ 0 → (step (callOf q) l) .answer .number ≡ cond (fits q (l .line)) 0 5
-space q l o e = space-nested q l o (nothing-sooner q l e)
+    last-two : (u v : Bool) → (stepWith (first order (cause 1 false ∷ cause 3 false ∷ cause 5 (not u && not v) ∷ cause 6 false ∷ [])) (callOf (resized h c)) l) .answer .number ≡ cond (u || v) 0 5
+    last-two true v = refl
+    last-two false true = refl
+    last-two false false = refl
+
+    go : (i : Option Item) (s : Option ℕ) (t : Bool)
+        → first beforeNoBay (cause 1 false ∷ cause 3 (not t) ∷ cause 5 (both i s) ∷ cause 6 (isNone (over length (over (λ (e : Item). e .bytes) i))) ∷ []) ≡ 0
+        → (stepWith (number i s t) (callOf (resized h c)) l) .answer .number ≡ cond (enough h (up4 c) s (maxS sumOf (l .bays)) i) 0 5
+    go none s t e = absurd (omega (arith, e))
+    go (some i) s true e = last-two (leb (up4 c - length (i .bytes)) (Option·getD s 0)) (leb (relocHeader + up4 c) (maxS sumOf (l .bays)))
+    go (some i) s false e = absurd (omega (arith, e))

@@ -1,4 +1,3 @@
 pub mod Ledger
-pub mod Nested
 pub mod Space
 pub mod Still

@@ -7,25 +7,27 @@ use lib.ListN.{length}
 use lib.Dec.{leb}
 use Rattle.block_type.specs.Limits.{up4, fixedNeed, relocNeed, relocHeader}
 use Rattle.calls.specs.Calls.{Call, allocate-relocatable, allocate-fixed, resize}
+use Rattle.calls.specs.Bays.{last, more}
+use Rattle.calls.specs.State.{Item, get, fsize}
 use Rattle.calls.specs.Table.{first, beforeNoBay, causes}
-use Rattle.ledger.specs.Ledger.{Entry, Bay, Line, last, more, Ledger, sumOf, find, fixedSize, facts}
+use Rattle.ledger.specs.Ledger.{Bay, Layout, Ledger, sumOf, facts}
 
 -- ---- where fixed blocks are
 
 pub record Spot : Type 0 where
   pub place : ℕ
-  pub amount : ℕ
+  pub size : ℕ
 
 abbrev pub spot : ℕ → ℕ → Spot
-spot p n = record { place = p; amount = n }
+spot p n = record { place = p; size = n }
 
 -- place and size of each, in address order
-abbrev pub fixedSpots : Line → List Spot
+abbrev pub fixedSpots : Layout → List Spot
 fixedSpots (last b) = []
-fixedSpots (more b x l) = spot (x .place) (fixedSize x) ∷ fixedSpots l
+fixedSpots (more b x l) = spot (x .place) (fsize x) ∷ fixedSpots l
 
 -- each bay's sum, in address order
-abbrev pub baySums : Line → List ℕ
+abbrev pub baySums : Layout → List ℕ
 baySums (last b) = sumOf b ∷ []
 baySums (more b x l) = sumOf b ∷ baySums l
 
@@ -46,17 +48,17 @@ callOf (resized h c) = resize h c
 -- ---- "Needed of a bay: what the block needs; in a resize 4 + a, but of its own bay a − b, or 0 for a ≤ b"
 
 -- of the bay in which the handle has the entry, or none
-abbrev pub resizeNeed : ℕ → Option Entry → ℕ
+abbrev pub resizeNeed : ℕ → Option Item → ℕ
 resizeNeed a none = relocHeader + a
 resizeNeed a (some e) = a - length (e .bytes)
 
 abbrev pub needOf : Request → Bay → ℕ
 needOf (relocatable c) b = relocNeed c
 needOf (fixed c) b = fixedNeed c
-needOf (resized h c) b = resizeNeed (up4 c) (find h (b .entries))
+needOf (resized h c) b = resizeNeed (up4 c) (get h (b .entries))
 
 -- some bay's sum reaches what is needed of that bay
-abbrev pub fits : Request → Line → Bool
+abbrev pub fits : Request → Layout → Bool
 fits q (last b) = leb (needOf q b) (sumOf b)
 fits q (more b x l) = leb (needOf q b) (sumOf b) || fits q l
 

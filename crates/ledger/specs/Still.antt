@@ -1,4 +1,4 @@
--- "No fixed block moves until it is freed": of the ledger, for every call and for every list of calls.
+-- "No fixed block moves until it is freed": the words in which the claim says it.
 use mathlib.Core.Path.{_≡_}
 use mathlib.Core.List.{List, [], _∷_}
 use Prim.Native.Nat.{_+_}

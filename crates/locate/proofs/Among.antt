@@ -13,10 +13,9 @@ use Rattle.structure.specs.Structure.{Block, free, fixed, reloc, size}
 use Rattle.access.specs.Edit as Edit
 use Rattle.row.specs.Row.{kindB}
 use Rattle.calls.specs.Calls.{Target, by-handle, by-pointer}
-use Rattle.zone.specs.PickBays.{Bays, last, more, over, orElse, findS, findF}
-use Rattle.zone.specs.Bay.{Item, get, items, Cell, free as gapCell, held}
-use Rattle.zone.specs.OnBays.{Fixed, pointer, content}
-use Rattle.zone.specs.ZoneBays.{zoneBays}
+use Rattle.calls.specs.Bays.{Bays, last, more, over, orElse, findS, findF}
+use Rattle.calls.specs.State.{Item, get, Fixed, pointer, content}
+use Rattle.zone.specs.Bay.{items, Cell, free as gapCell, held}
 use Rattle.zone.specs.Group.{inFront, group}
 use Rattle.locate.specs.Locate.{placeAmong, dataAmong}
 
@@ -61,7 +60,7 @@ abbrev pub orNone : ℕ → List ℕ → Option (List ℕ)
 orNone k d = cond (eqb k 0) none (some d)
 
 abbrev in-bays : Target → Bays (List Cell) Fixed → Option (List ℕ)
-in-bays t s = content zoneBays t s
+in-bays t s = content items t s
 
 front-free : (t : Target) (n : ℕ) (s : Bays (List Cell) Fixed) → in-bays t (inFront (gapCell n) s) ≡ in-bays t s
 front-free (by-handle h) n (last b) = refl
@@ -91,7 +90,7 @@ here true k j d e l = rw (ne-eqb k 0 l)
 here false k j d e l = refl
 
 -- the data of the named block are what the calls find in the bays
-pub content-among : (t : Target) (at : ℕ) (bs : List Block) → content zoneBays t (group at bs) ≡ orNone (placeAmong t at bs) (dataAmong t at bs)
+pub content-among : (t : Target) (at : ℕ) (bs : List Block) → content items t (group at bs) ≡ orNone (placeAmong t at bs) (dataAmong t at bs)
 unfolding placeAmong dataAmong
 content-among (by-handle h) at [] = refl
 content-among (by-pointer p) at [] = refl
@@ -102,7 +101,7 @@ content-among (by-pointer p) at (fixed d ∷ bs) = found (eqb p (at + 2)) ∙ ap
     ∙ here (eqb p (at + 2)) (at + 2) _ d _ (λ e. omega arith)
   where
     found : (t : Bool) → over (λ (x : Fixed). x .bytes) (cond t (some (record { place = at; bytes = d })) (findF (λ (x : Fixed). eqb p (pointer x)) (group (at + (2 + length d)) bs)))
-        ≡ cond t (some d) (content zoneBays (by-pointer p) (group (at + (2 + length d)) bs))
+        ≡ cond t (some d) (content items (by-pointer p) (group (at + (2 + length d)) bs))
     found true = refl
     found false = refl
 content-among (by-handle h) at (reloc k d ∷ bs) = front-held h (record { handle = k; bytes = d }) (group (at + (4 + length d)) bs)

@@ -22,8 +22,8 @@ use Rattle.structure.proofs.Sound.{valid-zone}
 use Rattle.row.specs.Row.{Sound, bytesOf}
 use Rattle.row.proofs.Laws.{enc-of}
 use Rattle.calls.specs.Calls.{Target, by-handle, by-pointer}
-use Rattle.zone.specs.OnBays.{content}
-use Rattle.zone.specs.ZoneBays.{zoneBays}
+use Rattle.calls.specs.State.{content}
+use Rattle.zone.specs.Bay.{items}
 use Rattle.zone.specs.Group.{group}
 use Rattle.locate.specs.Locate.{names, headerOf, heldBy, placeAmong, dataAmong, targetPlace, targetData, Located, ill-formed, absent, present}
 use Rattle.locate.proofs.Among.{content-among}
@@ -158,10 +158,10 @@ located-small s t number at size (present y wf a l k n) =
     let live : targetPlace t (zoneOf s) ≡ 0 → ⊥ = λ e. l (a ∙ e) in
     (omega (arith, target-fits s y wf t live, target-small s y wf t live), omega (arith, target-fits s y wf t live, target-small s y wf t live))
 
-pub content-none : (t : Target) (s : List ℕ) → targetPlace t (zoneOf s) ≡ 0 → content zoneBays t (group (start (decode s)) (decode s .blocks)) ≡ none
+pub content-none : (t : Target) (s : List ℕ) → targetPlace t (zoneOf s) ≡ 0 → content items t (group (start (decode s)) (decode s .blocks)) ≡ none
 unfolding targetPlace decode
 content-none t s e = content-among t (start (decode s)) (decode s .blocks) ∙ (rw e)
 
-pub content-some : (t : Target) (s : List ℕ) → (targetPlace t (zoneOf s) ≡ 0 → ⊥) → content zoneBays t (group (start (decode s)) (decode s .blocks)) ≡ some (targetData t (zoneOf s))
+pub content-some : (t : Target) (s : List ℕ) → (targetPlace t (zoneOf s) ≡ 0 → ⊥) → content items t (group (start (decode s)) (decode s .blocks)) ≡ some (targetData t (zoneOf s))
 unfolding targetPlace targetData decode
 content-some t s l = content-among t (start (decode s)) (decode s .blocks) ∙ (rw (ne-eqb (placeAmong t (start (decode s)) (decode s .blocks)) 0 l))

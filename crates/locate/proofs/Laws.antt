@@ -26,11 +26,11 @@ use Rattle.access.specs.Edit.{IsZone, is-zone}
 use Rattle.access.proofs.Zone.{whole-of}
 use Rattle.row.specs.Row.{blocksOf, Sound, Row, row, Stepped}
 use Rattle.row.proofs.Laws.{row-end}
-use Rattle.calls.specs.Calls.{Target, by-handle, by-pointer, absentNumber}
-use Rattle.locate.specs.declared.Block.{Block}
-use Rattle.locate.specs.declared.Block.the-variants.{Handle, Pointer}
+use Rattle.calls.specs.Calls.{Target, by-handle, by-pointer}
+use Rattle.locate.specs.declared.Target.{Target as CodeTarget}
+use Rattle.locate.specs.declared.Target.the-variants.{Handle, Pointer}
 use Rattle.locate.specs.Named.{targetOf}
-use Rattle.locate.specs.Locate.{placeAmong, dataAmong, targetPlace, targetData, Located, ill-formed, absent, present}
+use Rattle.locate.specs.Locate.{placeAmong, dataAmong, targetPlace, targetData, absentNumber, Located, ill-formed, absent, present}
 use Rattle.locate.proofs.Among.{handle-place, handle-data, pointer-place, pointer-data}
 
 -- ---- by handle
@@ -150,7 +150,7 @@ module _ (s : List ℕ) (ok : Bool) (e : ok ≡ wellFormed s) (q : not ok ≡ fa
 
 -- ---- a block by its name
 
-module _ (z : List ℕ) (b : Block) (v n : ℕ) where
+module _ (z : List ℕ) (b : CodeTarget) (v n : ℕ) where
   pub named-handle : b ≡ Handle n → v ≡ targetPlace (by-handle n) z → v ≡ targetPlace (targetOf b) z
   named-handle q e = rw q e
 

@@ -9,7 +9,7 @@ use Rattle.block_type.specs.Limits.{freeHeader, fixedHeader, relocHeader}
 use Rattle.bigendian.specs.BigEndian.{Bytes}
 use Rattle.format.specs.WellFormed.{wellFormed, zoneOf}
 use Rattle.structure.specs.Structure.{Block, free, fixed, reloc, size, start, decodeZone}
-use Rattle.calls.specs.Calls.{Target, by-handle, by-pointer, absentNumber}
+use Rattle.calls.specs.Calls.{Target, by-handle, by-pointer}
 
 -- whether t names the block that starts at offset `at`; a pointer names a fixed block by where its data begin
 abbrev pub names : Target → ℕ → Block → Bool
@@ -45,6 +45,11 @@ targetPlace t z = placeAmong t (start (decodeZone z)) (decodeZone z .blocks)
 
 unfoldable pub targetData : Target → List ℕ → List ℕ
 targetData t z = dataAmong t (start (decodeZone z)) (decodeZone z .blocks)
+
+-- the refusal where no block is so named
+abbrev pub absentNumber : Target → ℕ
+absentNumber (by-handle h) = 6
+absentNumber (by-pointer p) = 7
 
 -- the refusal of a block in a buffer: 1, 6 or 7; 0 for none
 unfoldable pub blockNumber : Target → List ℕ → ℕ

@@ -7,13 +7,13 @@ ghost use lib.Dec.{eqb};
 ghost use Rattle.block_type.specs.Limits.{fixedCode, fixedHeader};
 ghost use Rattle.format.specs.WellFormed.{typeOf};
 ghost use Rattle.access.specs.Edit.{IsZone};
-ghost use Rattle.calls.specs.Calls.{by-handle, by-pointer, absentNumber};
-ghost use Rattle.locate.specs.Locate.{targetPlace, targetData, Located};
+ghost use Rattle.calls.specs.Calls.{by-handle, by-pointer};
+ghost use Rattle.locate.specs.Locate.{targetPlace, targetData, absentNumber, Located};
 ghost use Rattle.locate.specs.Named.{targetOf};
 use block_type::BlockType;
 
 // A block is named by its handle, or by its pointer where it is fixed.
-pub enum Block {
+pub enum Target {
     Handle(u32),
     Pointer(u32),
 }
@@ -63,23 +63,23 @@ fn by_pointer(z: &[u8], p: u32) -> Span
 }
 
 // The data of a block, in the bytes of a well-formed zone with none beyond its length.
-fn span_of(z: &[u8], block: Block) -> Span
+fn span_of(z: &[u8], block: Target) -> Span
     requires { ⌜ IsZone (now z) ⌝ }
     ensures { λ r. ⌜ (r .at ≡ targetPlace (targetOf block) (now (z .entry))) × (r .size ≡ length (targetData (targetOf block) (now (z .entry)))) ⌝ }
 {
     match block {
-        Block::Handle(h) => by_handle(z, h),
-        Block::Pointer(p) => by_pointer(z, p),
+        Target::Handle(h) => by_handle(z, h),
+        Target::Pointer(p) => by_pointer(z, p),
     }
 }
 
 // The refusal where no block is so named.
-fn absent_number(block: Block) -> u32
+fn absent_number(block: Target) -> u32
     ensures { λ r. ⌜ r ≡ absentNumber (targetOf block) ⌝ }
 {
     match block {
-        Block::Handle(_) => 6,
-        Block::Pointer(_) => 7,
+        Target::Handle(_) => 6,
+        Target::Pointer(_) => 7,
     }
 }
 
@@ -91,7 +91,7 @@ pub struct Found {
 }
 
 // The data of a block in any buffer: refused with 1, 6 or 7.
-pub fn find(zone: &[u8], block: Block) -> Found
+pub fn find(zone: &[u8], block: Target) -> Found
     ensures { λ r. ⌜ Located (now (zone .entry)) (targetOf block) (r .number) (r .at) (r .size) ⌝ }
 {
     let k = zone_check::check(zone);

@@ -1,71 +1,30 @@
 -- Where a view starts and how long it is: by the table and the block's master or pointer, as by a walk through the blocks.
-use mathlib.Core.Path.{_≡_, refl, ap, ap₂, sym, _∙_}
-use mathlib.Core.Bool.{Bool, true, false, cond, not}
-use mathlib.Core.Option.{Option, none, some, Option·getD}
-use mathlib.Core.List.{List, [], _∷_}
+use mathlib.Core.Path.{_≡_, refl, ap, sym, _∙_}
+use mathlib.Core.Bool.{Bool, true, false, cond}
+use mathlib.Core.List.{List}
 use Prim.Native.Nat.{ℕ, _+_, _-_, _≤_}
 use native.Mathlib.Omega.{arith}
 use lib.ListN.{length, drop, length-take}
 use lib.Seq.{take-take}
-use lib.Dec.{eqb, leb}
-use borrow.Author.Tests.{leb-false, ne-eqb}
+use lib.Dec.{eqb}
+use borrow.Author.Tests.{ne-eqb}
 use Rattle.bigendian.specs.BigEndian.{Bytes, fromBE}
 use Rattle.format.specs.WellFormed.{wellFormed, zoneOf, firstField, lengthField, masterAt, isMaster, splitBlocks}
 use Rattle.format.proofs.Walk.{drop-take}
 use Rattle.format.proofs.Count.{occurs}
 use Rattle.format.proofs.Live.{handles}
-use Rattle.calls.specs.Calls.{Target, by-handle, by-pointer, view, absentNumber}
-use Rattle.calls.specs.Table.{Cause, cause, below, isNone, first, order}
-use Rattle.zone.specs.Bays.{over}
-use Rattle.zone.specs.Work.{content}
-use Rattle.zone.specs.Call.{zoneIn, numberOf}
+use Rattle.calls.specs.Calls.{Target, by-handle, by-pointer, view}
+use Rattle.zone.specs.Call.{numberOf}
 use Rattle.zone.specs.View.{dataAt, viewStart, viewLength}
 use Rattle.access.specs.Edit as Edit
 use Rattle.access.specs.Edit.{IsZone, is-zone}
 use Rattle.access.proofs.PlaceLaws.{by-count, place-no, handle-fits}
-use Rattle.locate.specs.Locate.{targetPlace, targetData}
+use Rattle.locate.specs.Locate.{targetPlace, absentNumber}
 use Rattle.locate.proofs.Laws.{place-by-handle}
 use Rattle.stretch.specs.Stretch as Walked
 use Rattle.stretch.specs.Stretch.{stretchNumber}
-use Rattle.stretch.proofs.Answers.{Case, ill, lost, past, short, fits, the-case, absent-some}
+use Rattle.stretch.proofs.Answers.{Case, ill, lost, past, short, fits, the-case, absent-some, view-number}
 use Rattle.stretch_write.proofs.Hardware.{target-is}
-
-module _ (i n : ℕ) where
-  -- 6 and 7, by what is found
-  abbrev absent : Target → Option (List ℕ) → Cause
-  absent (by-handle h) o = cause 6 (isNone (over length o))
-  absent (by-pointer p) o = cause 7 (isNone (over length o))
-
-  abbrev number : Target → Bool → Option (List ℕ) → ℕ
-  number t w o = first order (cause 1 (not w) ∷ absent t o ∷ cause 8 (below (Option·getD (over length o) 0) (i + n)) ∷ [])
-
-  lost-is : (t : Target) → number t true none ≡ absentNumber t
-  lost-is (by-handle h) = refl
-  lost-is (by-pointer p) = refl
-
-  some-is : (t : Target) (d : List ℕ) (u : Bool) → leb (i + n) (length d) ≡ u → number t true (some d) ≡ cond u 0 8
-  some-is (by-handle h) d true e = rw e
-  some-is (by-handle h) d false e = rw e
-  some-is (by-pointer p) d true e = rw e
-  some-is (by-pointer p) d false e = rw e
-
-  number-tied : (t : Target) (s : List ℕ) → stretchNumber t i n n s ≡ numberOf (view t i n) s
-  number-tied (by-handle h) s = go (the-case (by-handle h) i n n s)
-    where
-      go : Case (by-handle h) i n n s → stretchNumber (by-handle h) i n n s ≡ numberOf (view (by-handle h) i n) s
-      go (ill e k) = k ∙ sym (ap (λ (w : Bool). number (by-handle h) w (content (by-handle h) (zoneIn s .bays))) e)
-      go (lost e o k) = k ∙ sym (ap₂ (number (by-handle h)) e o ∙ lost-is (by-handle h))
-      go (past e o a k) = k ∙ sym (ap₂ (number (by-handle h)) e o ∙ some-is (by-handle h) (targetData (by-handle h) (zoneOf s)) false a)
-      go (short e o a b k) = absurd (omega (arith, leb-false n n b))
-      go (fits e l o a b k) = k ∙ sym (ap₂ (number (by-handle h)) e o ∙ some-is (by-handle h) (targetData (by-handle h) (zoneOf s)) true a)
-  number-tied (by-pointer p) s = go (the-case (by-pointer p) i n n s)
-    where
-      go : Case (by-pointer p) i n n s → stretchNumber (by-pointer p) i n n s ≡ numberOf (view (by-pointer p) i n) s
-      go (ill e k) = k ∙ sym (ap (λ (w : Bool). number (by-pointer p) w (content (by-pointer p) (zoneIn s .bays))) e)
-      go (lost e o k) = k ∙ sym (ap₂ (number (by-pointer p)) e o ∙ lost-is (by-pointer p))
-      go (past e o a k) = k ∙ sym (ap₂ (number (by-pointer p)) e o ∙ some-is (by-pointer p) (targetData (by-pointer p) (zoneOf s)) false a)
-      go (short e o a b k) = absurd (omega (arith, leb-false n n b))
-      go (fits e l o a b k) = k ∙ sym (ap₂ (number (by-pointer p)) e o ∙ some-is (by-pointer p) (targetData (by-pointer p) (zoneOf s)) true a)
 
 -- ---- the place
 
@@ -98,15 +57,15 @@ module _ (t : Target) (i n : ℕ) (s : List ℕ) (y : Bytes s) where
   start-tied = go (the-case t i n n s)
     where
       go : Case t i n n s → cond (eqb (stretchNumber t i n n s) 0) (targetPlace t (zoneOf s) + i) 0 ≡ cond (eqb (numberOf (view t i n) s) 0) (dataAt t s + i) 0
-      go (fits e l o a b k) = rw (← number-tied i n t s, k) (ap (_+ i) (place-tied t s y e l))
-      go (ill e k) = rw (← number-tied i n t s, k)
-      go (lost e o k) = rw (← number-tied i n t s, k, ne-eqb (absentNumber t) 0 (absent-some t))
-      go (past e o a k) = rw (← number-tied i n t s, k)
-      go (short e o a b k) = rw (← number-tied i n t s, k)
+      go (fits e l o a b k) = rw (view-number t i n s, k) (ap (_+ i) (place-tied t s y e l))
+      go (ill e k) = rw (view-number t i n s, k)
+      go (lost e o k) = rw (view-number t i n s, k, ne-eqb (absentNumber t) 0 (absent-some t))
+      go (past e o a k) = rw (view-number t i n s, k)
+      go (short e o a b k) = rw (view-number t i n s, k)
 
   pub length-tied : Walked.viewLength t i n s ≡ viewLength t i n s
   unfolding Walked.viewLength
-  length-tied = ap (λ (k : ℕ). cond (eqb k 0) n 0) (number-tied i n t s)
+  length-tied = ap (λ (k : ℕ). cond (eqb k 0) n 0) (sym (view-number t i n s))
 
   -- of a part that starts at o in the zone
   pub part-start : {A : Type 0} (b : A) (o : ℕ) (p : A × ℕ) → p ≡ (b, o + Walked.viewStart t i n s) → p ≡ (b, o + viewStart t i n s)

@@ -4,8 +4,7 @@ ghost use mathlib.Core.Path.{_≡_};
 ghost use mathlib.Core.Bool.{cond};
 ghost use Prim.Native.Nat.{_+_};
 ghost use lib.ListN.{length};
-ghost use Rattle.calls.specs.Calls.{allocate-relocatable, allocate-fixed, free-handle, free-pointer, resize, size, read, write, view, compact, sums, check, length-of, enlarge, shrink, roster};
-ghost use Rattle.calls.specs.Calls.{told, shows, answersTwo, summed};
+ghost use Rattle.calls.specs.Calls.{allocate-relocatable, allocate-fixed, free-handle, free-pointer, resize, size, read, write, view, compact, sums, check, length-of, enlarge, shrink, roster, told, shows, toldTwo};
 ghost use Rattle.zone.specs.Promise.{Promise, InitPromise};
 ghost use Rattle.locate.specs.Named.{targetOf};
 ghost use Rattle.zone.specs.View.{viewStart, viewLength};
@@ -13,7 +12,7 @@ ghost use Rattle.zone.specs.Roster.{rosterAnswer};
 pub use calls::Told;
 pub use census::Counts;
 pub use census::census;
-pub use locate::Block;
+pub use locate::Target;
 pub use stretch::Stretch;
 pub use tell::Sums;
 pub use walker::Described;
@@ -87,7 +86,7 @@ pub fn shrink(zone: &mut [u8], k: u32) -> Told
 }
 
 // The data size of a block.
-pub fn size(zone: &[u8], block: Block) -> Told
+pub fn size(zone: &[u8], block: Target) -> Told
     ensures { λ r. ⌜ Promise (size (targetOf block)) (now (zone .entry)) (told (r .number) (r .value)) (now (zone .entry)) ⌝ }
 {
     stretch::size(zone, block)
@@ -118,14 +117,14 @@ pub fn view<'a>(zone: &'a [u8], s: Stretch) -> &'a [u8]
 
 // The total of free bytes and the largest bay's sum; 0 for each when refused.
 pub fn sum(zone: &[u8]) -> Sums
-    ensures { λ r. ⌜ Promise sums (now (zone .entry)) (summed (r .number) (r .total) (r .largest)) (now (zone .entry)) ⌝ }
+    ensures { λ r. ⌜ Promise sums (now (zone .entry)) (toldTwo (r .number) (r .total) (r .largest)) (now (zone .entry)) ⌝ }
 {
     tell::sum(zone)
 }
 
 // Yes or no, and the number of live handles; 0 for no.
 pub fn check(zone: &[u8]) -> Checked
-    ensures { λ r. ⌜ Promise check (now (zone .entry)) (answersTwo (cond (r .ok) 1 0) (r .count)) (now (zone .entry)) ⌝ }
+    ensures { λ r. ⌜ Promise check (now (zone .entry)) (toldTwo 0 (cond (r .ok) 1 0) (r .count)) (now (zone .entry)) ⌝ }
 {
     tell::check(zone)
 }

@@ -10,14 +10,15 @@ use mir.Val.{Fits}
 use mir.Syntax.{w32}
 use Rattle.bigendian.specs.BigEndian.{Bytes, slice}
 use Rattle.format.specs.WellFormed.{lengthField}
-use Rattle.calls.specs.Calls.{Target, by-handle, by-pointer, Answer, size, read, write, view, check, answersTwo, shows}
+use Rattle.calls.specs.Calls.{Target, by-handle, by-pointer, Answer, size, read, write, view, check, toldTwo, shows}
 use Rattle.zone.specs.Promise.{Promise}
 use Rattle.locate.proofs.Data.{target-fits}
 use Rattle.tell.proofs.Opened.{fields-of}
 use Rattle.zone.specs.View as View
 use Rattle.nafelode.proofs.ViewPlace.{start-tied, length-tied}
 use Rattle.stretch.specs.Stretch.{viewStart, viewLength, Planned, refused, granted}
-use Rattle.stretch.proofs.Laws.{accepted, planned-order, planned-fits, view-start, view-length}
+use Rattle.stretch.proofs.Answers.{accepted}
+use Rattle.stretch.proofs.Laws.{planned-order, planned-fits, view-start, view-length}
 use Rattle.stretch.proofs.Outcomes.{view-there}
 use Rattle.nafelode.proofs.Laws.{view-promised}
 use Rattle.nafelode_c.specs.Named.{named}
@@ -92,8 +93,8 @@ module _ (s : List ℕ) (t : Target) (i n number start end : ℕ) (p : Planned s
 
 -- ---- check
 
-pub check-yes : (s : List ℕ) (ok : Bool) (n : ℕ) → ok ≡ true → Promise check s (answersTwo (cond ok 1 0) n) s → Promise check s (answersTwo 1 n) s
+pub check-yes : (s : List ℕ) (ok : Bool) (n : ℕ) → ok ≡ true → Promise check s (toldTwo 0 (cond ok 1 0) n) s → Promise check s (toldTwo 0 1 n) s
 check-yes s ok n e p = rw e at p
 
-pub check-no : (s : List ℕ) (ok : Bool) (n : ℕ) → ok ≡ false → Promise check s (answersTwo (cond ok 1 0) n) s → Promise check s (answersTwo 0 n) s
+pub check-no : (s : List ℕ) (ok : Bool) (n : ℕ) → ok ≡ false → Promise check s (toldTwo 0 (cond ok 1 0) n) s → Promise check s (toldTwo 0 0 n) s
 check-no s ok n e p = rw e at p

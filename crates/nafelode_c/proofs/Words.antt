@@ -13,9 +13,8 @@ use Rattle.format.specs.WellFormed.{wellFormed}
 use Rattle.structure.specs.Structure.{Block, free, fixed, reloc, size, sizes, start, decode}
 use Rattle.structure.proofs.Sound.{valid}
 use Rattle.walk.specs.Walker.{freeTotal}
-use Rattle.calls.specs.Calls.{sums, check, answersTwo, summed}
-use Rattle.zone.specs.OnBytes.{Result, callBytes}
-use Rattle.zone.proofs.Tied.{call-same}
+use Rattle.calls.specs.Calls.{sums, check, toldTwo}
+use Rattle.zone.specs.Call.{call}
 use Rattle.zone.specs.Promise.{Promise}
 use Rattle.zone.specs.Walker.{Described, Walked, codeOf, describe, walked, walkStart, walkStep}
 use Rattle.tell.proofs.Opened.{fields-of}
@@ -31,23 +30,23 @@ free-sizes (free n ∷ bs) = omega (arith, free-sizes bs)
 free-sizes (fixed d ∷ bs) = omega (arith, free-sizes bs)
 free-sizes (reloc h d ∷ bs) = omega (arith, free-sizes bs)
 
-pub total-small : (s : List ℕ) → Bytes s → (callBytes sums s) .answer .value ≤ 1048576
+pub total-small : (s : List ℕ) → Bytes s → (call sums s) .answer .value ≤ 1048576
 total-small s y = go (wellFormed s) refl
   where
-    go : (t : Bool) → wellFormed s ≡ t → (callBytes sums s) .answer .value ≤ 1048576
+    go : (t : Bool) → wellFormed s ≡ t → (call sums s) .answer .value ≤ 1048576
     go true h = rw h (omega (arith, total-is (start (decode s)) (decode s .blocks), free-sizes (decode s .blocks), valid s y h .short))
     go false h = rw h (omega arith)
 
 module _ (s : List ℕ) (y : Bytes s) where
-  module _ (n total largest : ℕ) (p : Promise sums s (summed n total largest) s) where
+  module _ (n total largest : ℕ) (p : Promise sums s (toldTwo n total largest) s) where
     pub total-word : Fits w32 total
-    total-word = record { fits = omega (arith, p .answer .value, ap (λ (r : Result). r .answer .value) (call-same sums s y), total-small s y) }
+    total-word = record { fits = omega (arith, p .answer .value, total-small s y) }
 
     pub largest-word : Fits w32 largest
-    largest-word = record { fits = omega (arith, p .answer .second, ap (λ (r : Result). r .answer .second) (call-same sums s y), largest-total s, total-small s y) }
+    largest-word = record { fits = omega (arith, p .answer .second, largest-total s, total-small s y) }
 
-  pub count-word : (b n : ℕ) → Promise check s (answersTwo b n) s → Fits w32 n
-  count-word b n p = record { fits = omega (arith, p .answer .second, ap (λ (r : Result). r .answer .second) (call-same check s y), check-few s y) }
+  pub count-word : (b n : ℕ) → Promise check s (toldTwo 0 b n) s → Fits w32 n
+  count-word b n p = record { fits = omega (arith, p .answer .second, check-few s y) }
 
 -- ---- the walker
 

@@ -5,7 +5,7 @@ ghost use mathlib.Core.Path.{_≡_};
 ghost use Prim.Native.Nat.{_+_, _≤_};
 ghost use lib.ListN.{length};
 ghost use Rattle.format.specs.WellFormed.{lengthField};
-ghost use Rattle.calls.specs.Calls.{told, shows, answersTwo, summed, allocate-relocatable, allocate-fixed, free-handle, free-pointer, resize, size, read, write, view, compact, sums, check, length-of, enlarge, shrink, roster};
+ghost use Rattle.calls.specs.Calls.{told, shows, toldTwo, allocate-relocatable, allocate-fixed, free-handle, free-pointer, resize, size, read, write, view, compact, sums, check, length-of, enlarge, shrink, roster};
 ghost use Rattle.bigendian.specs.BigEndian.{slice};
 ghost use Rattle.zone.specs.Promise.{Promise, InitPromise};
 ghost use Rattle.zone.specs.Census.{counted, census};
@@ -14,8 +14,8 @@ ghost use Rattle.locate.specs.Named.{targetOf};
 ghost use Rattle.zone.specs.View.{viewStart, viewLength};
 ghost use Rattle.zone.specs.Roster.{rosterAnswer};
 ghost use Rattle.nafelode_c.specs.Named.{named};
-use nafelode::Block;
 use nafelode::Stretch;
+use nafelode::Target;
 use nafelode::Walker;
 
 // The refusal number, 0 if the call is done, and the value, 0 when refused.
@@ -65,13 +65,13 @@ pub struct CensusCounts {
 }
 
 // The block that a kind and a number name.
-fn block_of(kind: u32, block: u32) -> Block
+fn block_of(kind: u32, block: u32) -> Target
     ensures { λ r. ⌜ targetOf r ≡ named kind block ⌝ }
 {
     if kind == 0 {
-        return Block::Handle(block);
+        return Target::Handle(block);
     }
-    Block::Pointer(block)
+    Target::Pointer(block)
 }
 
 // Makes a zone of `length` bytes with so many masters at the start of the buffer; bytes beyond `length` stay.
@@ -277,7 +277,7 @@ pub extern "C" fn nafelode_compact(zone: &mut [u8]) -> Told
 // Refused: 1 zone not well-formed.
 #[no_mangle]
 pub extern "C" fn nafelode_sum(zone: &[u8]) -> Sums
-    ensures { λ r. ⌜ Promise sums (now (zone .entry)) (summed (r .number) (r .total) (r .largest)) (now (zone .entry)) ⌝ }
+    ensures { λ r. ⌜ Promise sums (now (zone .entry)) (toldTwo (r .number) (r .total) (r .largest)) (now (zone .entry)) ⌝ }
 {
     let t = nafelode::sum(zone);
     let total = t.total as u32;
@@ -292,7 +292,7 @@ pub extern "C" fn nafelode_sum(zone: &[u8]) -> Sums
 // Whether the buffer holds a well-formed zone, and how many handles are live. Never refused.
 #[no_mangle]
 pub extern "C" fn nafelode_check(zone: &[u8]) -> Checked
-    ensures { λ r. ⌜ Promise check (now (zone .entry)) (answersTwo (r .yes) (r .count)) (now (zone .entry)) ⌝ }
+    ensures { λ r. ⌜ Promise check (now (zone .entry)) (toldTwo 0 (r .yes) (r .count)) (now (zone .entry)) ⌝ }
 {
     let k = nafelode::check(zone);
     let count = k.count as u32;

@@ -6,7 +6,8 @@ use native.Mathlib.Omega.{arith}
 use lib.ListN.{length, take, drop, length-append, length-drop}
 use lib.Seq.{take-at, length-take-le, drop-drop}
 use Rattle.records.specs.Records.{Line, Ran, ran, text, runRecord, output, afterInput}
-use Rattle.records.specs.Shown.{Put, Step, Run}
+use Rattle.records.specs.Shown.{Run}
+use Rattle.records.specs.Putting.{Put, Step}
 use Rattle.records.proofs.Printing.{text-most}
 use Rattle.records.proofs.Split.{output-none, after-none, output-cons, after-cons}
 

@@ -10,7 +10,8 @@ use Rattle.bigendian.specs.BigEndian.{overwrite}
 use Rattle.memory.proofs.Writes.{write-none}
 use Rattle.initialize.proofs.Write.{write-more}
 use Rattle.records.specs.Records.{decimal, Line, skip, line, text}
-use Rattle.records.specs.Shown.{lineOf, Put}
+use Rattle.records.specs.Shown.{lineOf}
+use Rattle.records.specs.Putting.{Put}
 use Rattle.records.proofs.Decimal.{digits-one, digits-some, digits-most, decimal-step}
 
 -- ---- how many digits

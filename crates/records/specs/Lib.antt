@@ -1,2 +1,4 @@
 pub mod Records
+pub mod Book
 pub mod Shown
+pub mod Putting

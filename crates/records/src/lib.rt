@@ -4,11 +4,11 @@ ghost use mathlib.Core.List.{[], _∷_};
 ghost use Prim.Native.Nat.{_+_, _<_, _≤_, _%_};
 ghost use lib.ListN.{length, getD};
 ghost use Rattle.calls.specs.Calls.{by-handle, write};
-ghost use Rattle.records.specs.Records.{actions, nothing, act, read-byte, call, ran, runRecord, decimal, text};
-ghost use Rattle.records.specs.Records.{line as shownLine, skip as shownSkip};
-ghost use Rattle.records.specs.Shown.{lineOf, Put, Step, Run};
-use nafelode::Block;
+ghost use Rattle.records.specs.Records.{actions, nothing, act, read-byte, call, ran, runRecord, decimal, text, line as shownLine, skip as shownSkip};
+ghost use Rattle.records.specs.Shown.{lineOf, Run};
+ghost use Rattle.records.specs.Putting.{Put, Step};
 use nafelode::Stretch;
+use nafelode::Target;
 use nafelode::Told;
 
 // The line of a record: `skip`, or the refusal number, 0 if done, and the value.
@@ -34,7 +34,7 @@ fn write_byte(zone: &mut [u8], h: u32, i: u32, d: u32) -> Line
 {
     let byte = [(d % 256) as u8; 1];
     let stretch = Stretch {
-        block: Block::Handle(h),
+        block: Target::Handle(h),
         offset: i,
         count: 1,
     };
@@ -58,7 +58,7 @@ fn read_byte(zone: &[u8], h: u32, i: u32) -> Line
 {
     let mut byte = [0u8; 1];
     let stretch = Stretch {
-        block: Block::Handle(h),
+        block: Target::Handle(h),
         offset: i,
         count: 1,
     };
@@ -183,7 +183,7 @@ fn put_skip(out: &mut [u8], at: usize) -> usize
 }
 
 // Puts a line's text at `at`. Answers where the next goes.
-pub fn print_line(line: Line, out: &mut [u8], at: usize) -> usize
+fn print_line(line: Line, out: &mut [u8], at: usize) -> usize
     requires { ⌜ at + length (text (lineOf (line .skip) (line .number) (line .value))) ≤ length (now out) ⌝ }
     ensures { λ r. ⌜ Put (text (lineOf (line .skip) (line .number) (line .value))) at (now (out .entry)) (now (out .exit)) r ⌝ }
 {

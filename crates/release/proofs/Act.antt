@@ -69,7 +69,7 @@ module _ (z : List ℕ) (w : IsZone z) (h from to : ℕ) (sp : SpanIn z h from t
       let b = free-bytes h (decodeZone z) v from to p in
       let i = index h (decodeZone z) v from to p in
       let q : to - from ≡ sizes (p .mid) = omega (arith, p .is-to) in
-      let k : head ≡ headOf (decodeZone z .links) = eh ∙ sym (head-is z w′) in
+      let k : head ≡ headOf (decodeZone z .chain) = eh ∙ sym (head-is z w′) in
       let x = encodeBlock (free (to - from)) in
       let n₁ = length-toBE 2 h in
       let n₂ = length-toBE 4 head in

@@ -213,7 +213,7 @@ module _ (h : ℕ) (s : Structure) (v : Valid s) (from to : ℕ) (p : Span h (st
       (ap₂ (λ (o : ℕ) (bs : List Block). placeOf g o bs) start-same (p .result) ∙ place-same g ne)
       (rw (ne-eqb g h ne))
 
-  value-self : value s′ h ≡ headOf (s .links)
+  value-self : value s′ h ≡ headOf (s .chain)
   unfolding freed nextOf
   value-self =
       ap₂ (λ (a b : ℕ). a + b)
@@ -221,7 +221,7 @@ module _ (h : ℕ) (s : Structure) (v : Valid s) (from to : ℕ) (p : Span h (st
       (rw (eq-eqb h h refl))
       ∙ zero-add _
 
-  values-same : (i : ℕ) → h ≡ 16 + 4 * i → i < count s → values s′ ≡ set (values s) i (headOf (s .links))
+  values-same : (i : ℕ) → h ≡ 16 + 4 * i → i < count s → values s′ ≡ set (values s) i (headOf (s .chain))
   values-same i e l =
       ap (λ (k : ℕ). map (value s′) (offsets 16 k)) count-same
       ∙ values-set (value s) (value s′) h 16 (count s) i e l value-other
@@ -264,7 +264,7 @@ module _ (h : ℕ) (s : Structure) (v : Valid s) (from to : ℕ) (p : Span h (st
   length-values : length (values s) ≡ count s
   length-values = length-map (offsets 16 (count s)) (value s) ∙ length-offsets 16 (count s)
 
-  first-link : headOf (s′ .links) ≡ h
+  first-link : headOf (s′ .chain) ≡ h
   unfolding freed
   first-link = refl
 
@@ -273,10 +273,10 @@ module _ (h : ℕ) (s : Structure) (v : Valid s) (from to : ℕ) (p : Span h (st
   tiles-same = ap (λ (b : List Block). join (map encodeBlock b)) (p .result)
 
   -- three writes make the bytes of the freed structure
-  pub free-bytes : overwrite (overwrite (overwrite (encode s) 12 (toBE 2 h)) h (toBE 4 (headOf (s .links)))) from (encodeBlock (free n)) ≡ encode (freed h s)
+  pub free-bytes : overwrite (overwrite (overwrite (encode s) 12 (toBE 2 h)) h (toBE 4 (headOf (s .chain)))) from (encodeBlock (free n)) ≡ encode (freed h s)
   free-bytes =
       let i = index .0 in
-      let l = len s in let f = start s in let m = count s in let c = headOf (s .links) in
+      let l = len s in let f = start s in let m = count s in let c = headOf (s .chain) in
       let r = join (map encodeBlock (s .blocks)) in
       let vs′ = set (values s) i c in
       let e₁ = ap (λ (x : List ℕ). overwrite x 12 (toBE 2 h)) (encode-lay s) ∙ lay-chain l f m c h (values s) r in

@@ -28,7 +28,7 @@ unfolding words wordsL
 words-values f [] = refl
 words-values f (h ∷ hs) = rw (words-values f hs)
 
-pub encode-lay : (s : Structure) → encode s ≡ lay (len s) (start s) (count s) (headOf (s .links)) (values s) (join (map encodeBlock (s .blocks)))
+pub encode-lay : (s : Structure) → encode s ≡ lay (len s) (start s) (count s) (headOf (s .chain)) (values s) (join (map encodeBlock (s .blocks)))
 unfolding encode header lay
 encode-lay s = rw (words-values (value s) (offsets 16 (count s))) (simp append-assoc)
 

@@ -31,7 +31,7 @@ release h (fixed d ∷ bs) = fixed d ∷ release h bs
 release h (reloc k d ∷ bs) = cond (eqb h k) (gap (4 + length d) bs) (reloc k d ∷ release h bs)
 
 unfoldable pub freed : ℕ → Structure → Structure
-freed h s = record { links = h ∷ s .links; blocks = release h (s .blocks) }
+freed h s = record { chain = h ∷ s .chain; blocks = release h (s .blocks) }
 
 -- the blocks that become one, from one offset up to another, where the first block is at offset at
 pub record Span (h at : ℕ) (bs : List Block) (from to : ℕ) : Type 0 where

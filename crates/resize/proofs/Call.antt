@@ -13,7 +13,7 @@ use Rattle.block_type.specs.Limits.{up4}
 use Rattle.format.specs.WellFormed.{wellFormed, lengthField}
 use Rattle.structure.specs.Structure.{decodeZone, decode, encode}
 use Rattle.calls.specs.Calls.{told, resize}
-use Rattle.zone.specs.OnBytes.{result, callBytes}
+use Rattle.zone.specs.Call.{result, call}
 use Rattle.call_laws.proofs.Plan.{bytes-of}
 use Rattle.resize.specs.Resized.{resizedTo, resizeCode, resizeOut}
 use Rattle.resize.specs.Ways.{WayIn, PlannedIn, planned-in, Planned, refused, planned}
@@ -55,7 +55,7 @@ module _ (s : List ℕ) (h c number l way a b at n st e : ℕ) (t : Bool) where
       pub call-way : WayIn (take l s) h way a b at n st e t
       call-way = ready z .ways
 
-      pub call-end : (y : List ℕ) → ((i : ℕ) → Fits w8 (getD s i 0)) → y ≡ encode (resizedTo h a (decodeZone (take l s))) → result (told 0 0) (y ++ drop l s) ≡ callBytes (resize h c) s
+      pub call-end : (y : List ℕ) → ((i : ℕ) → Fits w8 (getD s i 0)) → y ≡ encode (resizedTo h a (decodeZone (take l s))) → result (told 0 0) (y ++ drop l s) ≡ call (resize h c) s
       call-end y g q =
           let r = ready z in
           done s h c l a y (r .well) (r .is-len) (sym (r .is-number) ∙ z) (r .is-a) q ∙ resize-is s h c (bytes-of s g)
@@ -70,5 +70,5 @@ module _ (s : List ℕ) (h c number l way a b at n st e : ℕ) (t : Bool) where
             let k : number ≡ resizeCode h c (decodeZone (take (lengthField s) s)) = q ∙ ap (λ (m : ℕ). resizeCode h c (decodeZone (take m s))) el in
             rw (w, ← k, ne-eqb number 0 ne)
 
-    pub call-no : ((i : ℕ) → Fits w8 (getD s i 0)) → (number ≡ 0 → ⊥) → result (told number 0) s ≡ callBytes (resize h c) s
+    pub call-no : ((i : ℕ) → Fits w8 (getD s i 0)) → (number ≡ 0 → ⊥) → result (told number 0) s ≡ call (resize h c) s
     call-no g ne = flat-no ne ∙ resize-is s h c (bytes-of s g)

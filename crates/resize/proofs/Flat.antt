@@ -15,7 +15,7 @@ use Rattle.structure.specs.Structure.{Structure, start, placeOf, decode, encode
 use Rattle.access.specs.Edit.{placeIn, dataOf}
 use Rattle.find_bay.specs.Spots.{Spot, Choice, none, some}
 use Rattle.calls.specs.Calls.{told, resize}
-use Rattle.zone.specs.OnBytes.{result, callBytes}
+use Rattle.zone.specs.Call.{result, call}
 use Rattle.resize_in_place.specs.InPlace.{resizedIn}
 use Rattle.resize_in_place.proofs.Call.{resize-6, resize-3, resize-here}
 use Rattle.resize_layout.specs.Layout.{laidOut}
@@ -65,13 +65,13 @@ module _ (s : List ℕ) (h c : ℕ) (y : Bytes s) (wf : wellFormed s ≡ true) w
   d = decode s
 
   abbrev Same : Type 0
-  Same = resizeOut s h c ≡ callBytes (resize h c) s
+  Same = resizeOut s h c ≡ call (resize h c) s
 
-  stops : (k : ℕ) → resizeCode h c (decode s) ≡ suc k → callBytes (resize h c) s ≡ result (told (suc k) 0) s → Same
+  stops : (k : ℕ) → resizeCode h c (decode s) ≡ suc k → call (resize h c) s ≡ result (told (suc k) 0) s → Same
   unfolding resizeOut
   stops k e q = (rw (wf, e, ne-eqb (suc k) 0 (λ x. omega arith))) ∙ sym q
 
-  goes-to : (u : Structure) → resizeCode h c (decode s) ≡ 0 → resizedTo h (up4 c) (decode s) ≡ u → callBytes (resize h c) s ≡ result (told 0 0) (encode u ++ drop (lengthField s) s) → Same
+  goes-to : (u : Structure) → resizeCode h c (decode s) ≡ 0 → resizedTo h (up4 c) (decode s) ≡ u → call (resize h c) s ≡ result (told 0 0) (encode u ++ drop (lengthField s) s) → Same
   unfolding resizeOut
   goes-to u e r q = (rw (wf, e, r)) ∙ sym q
 
@@ -112,10 +112,10 @@ module _ (s : List ℕ) (h c : ℕ) (y : Bytes s) (wf : wellFormed s ≡ true) w
       go (yes e) = stops 5 (code-6 h c d e) (resize-6 s h c y wf (place-is ∙ e))
       go (no ne) = small ne (leb c relocLimit) refl
 
-pub resize-is : (s : List ℕ) (h c : ℕ) → Bytes s → resizeOut s h c ≡ callBytes (resize h c) s
+pub resize-is : (s : List ℕ) (h c : ℕ) → Bytes s → resizeOut s h c ≡ call (resize h c) s
 unfolding resizeOut
 resize-is s h c y = go (wellFormed s) refl
   where
-    go : (t : Bool) → wellFormed s ≡ t → resizeOut s h c ≡ callBytes (resize h c) s
+    go : (t : Bool) → wellFormed s ≡ t → resizeOut s h c ≡ call (resize h c) s
     go true e = in-well s h c y e
     go false e = rw e

@@ -24,8 +24,7 @@ use Rattle.compact_bay.proofs.Squeeze.{used-sizes}
 use Rattle.surgery.proofs.Sound.{valid-sound}
 use Rattle.surgery.proofs.Replace.{sizes-parts}
 use Rattle.surgery.proofs.Carved.{part-bytes}
-use Rattle.surgery.proofs.Spots.{IsBay, bay-is}
-use Rattle.surgery.proofs.Spots.{hole-is as hole-at}
+use Rattle.surgery.proofs.Spots.{IsBay, bay-is, hole-is as hole-at}
 use Rattle.allocate_relocatable.specs.Site.{HoleOf, there, made}
 use Rattle.allocate_relocatable.proofs.PlanLaws.{hole-found, hole-none}
 use Rattle.resize.specs.Ways.{FoundBay, SpotIn, spot-in, HoleIn, hole-in}

@@ -13,7 +13,7 @@ use Rattle.find_bay.specs.Spots.{Choice, none, some, bays, firstFit}
 use Rattle.bay_spots.specs.Choose.{firstBy}
 use Rattle.bay_changes.specs.OwnBay.{ownBlocks}
 use Rattle.calls.specs.Calls.{told}
-use Rattle.zone.specs.OnBytes.{Result, result}
+use Rattle.zone.specs.Call.{Result, result}
 use Rattle.resize_in_place.specs.InPlace.{leadAfter, resizedIn}
 use Rattle.resize_layout.specs.Layout.{laidOut}
 use Rattle.resize_move.specs.Relocated.{relocated}

@@ -4,7 +4,7 @@ ghost use Prim.Native.Nat.{_+_, _<_};
 ghost use Rattle.structure.specs.Structure.{encode, decodeZone};
 ghost use Rattle.access.specs.Edit.{IsZone};
 ghost use Rattle.calls.specs.Calls.{told, resize};
-ghost use Rattle.zone.specs.OnBytes.{result, callBytes};
+ghost use Rattle.zone.specs.Call.{result, call};
 ghost use Rattle.resize.specs.Resized.{resizedTo};
 ghost use Rattle.resize.specs.Ways.{SpotIn, HoleIn, Grows, Moves, WayIn, Chosen, PlannedIn, Planned};
 use block_type::BlockType;
@@ -223,7 +223,7 @@ fn act(
 
 // Gives the block of a handle c data bytes. Answers the refusal number, 0 if done.
 pub fn resize(zone: &mut [u8], h: u32, c: u32) -> Told
-    ensures { λ r. ⌜ result (told (r .number) (r .value)) (now (zone .exit)) ≡ callBytes (resize h c) (now (zone .entry)) ⌝ }
+    ensures { λ r. ⌜ result (told (r .number) (r .value)) (now (zone .exit)) ≡ call (resize h c) (now (zone .entry)) ⌝ }
 {
     let p = plan_zone(zone, h, c);
     let number = p.number;

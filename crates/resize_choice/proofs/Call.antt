@@ -19,25 +19,27 @@ use Rattle.access.specs.Edit.{placeIn, dataOf, edit, store}
 use Rattle.find_bay.specs.Spots.{freeTotal, Spot, put, Choice, none as noSpot, some as theSpot, bays, firstFit, gapOf, settle, settleIn}
 use Rattle.release.specs.Release.{release}
 use Rattle.surgery.proofs.Spots.{bay-is}
-use Rattle.calls.specs.Calls.{told, refusal, resize}
-use Rattle.zone.specs.PickBays.{Bays, onLow, mapS, orElse}
+use Rattle.calls.specs.Calls.{told, resize}
+use Rattle.calls.specs.Bays.{Bays, mapS, orElse}
+use Rattle.zone.specs.PickBays.{onLow}
 use Rattle.zone.specs.Bay as Bay
-use Rattle.zone.specs.Bay.{Item, itemSize, Cell, sized, resized}
-use Rattle.zone.specs.OnBays.{Fixed, own, reaches, placeLow, orRefuse, done, withBays, step}
-use Rattle.zone.specs.ZoneBays.{zoneBays}
+use Rattle.calls.specs.State.{Item, itemSize, sized, Fixed, done, withBays}
+use Rattle.zone.specs.Bay.{Cell, resized}
+use Rattle.zone.specs.Search.{own, reaches, placeLow}
 use Rattle.zone.specs.Group.{flatten}
-use Rattle.zone.specs.OnBytes.{Zone, inBays, result, callBytes}
+use Rattle.zone.specs.Work.{Zone}
+use Rattle.zone.specs.Call.{inBays, result, call}
 use Rattle.zone.proofs.Sound.{Sound}
 use Rattle.zone.proofs.GroupLaws.{flatten-group}
 use Rattle.zone.proofs.Resize.{length-sized}
 use Rattle.zone.proofs.Run.{well-whole}
-use Rattle.call_laws.proofs.Outcome.{call-same, call-done}
+use Rattle.call_laws.proofs.Outcome.{step, none-lent, call-same, call-done}
 use Rattle.bay_spots.proofs.Spots.{blocksIn, Paired, neither, both, firstBy}
 use Rattle.bay_spots.proofs.Low.{BayAt, low-fit}
 use Rattle.bay_changes.proofs.Own.{ownBlocks}
 use Rattle.free_handle.proofs.Flat.{flat-release}
 use Rattle.resize_in_place.proofs.Cells.{has-own}
-use Rattle.resize_in_place.proofs.Call.{with, once}
+use Rattle.resize_in_place.proofs.Call.{found-as, step-is, once}
 use Rattle.resize_layout.proofs.Parts.{occurs-two}
 use Rattle.resize_move.specs.Relocated.{relocated}
 use Rattle.resize_move.proofs.NoRoom.{no-own-bay}
@@ -74,7 +76,7 @@ module _ (s : List ℕ) (h c : ℕ) (y : Bytes s) (wf : wellFormed s ≡ true) (
   flat : flatten (z .bays) ≡ u .blocks
   flat = flatten-group (start u) (u .blocks)
 
-  none-own : onLow (own zoneBays h a) (Bay.reshape h a) (z .bays) ≡ none
+  none-own : onLow (own h a) (Bay.reshape h a) (z .bays) ≡ none
   none-own = no-own-bay h a (Bay.reshape h a) (z .bays) (well-whole s y wf .sound) (ap (λ (bs : List Block). firstBy (ownBlocks h a) (bays bs)) flat ∙ no)
 
   -- the block grows
@@ -87,10 +89,10 @@ module _ (s : List ℕ) (h c : ℕ) (y : Bytes s) (wf : wellFormed s ≡ true) (
           (omega (arith, leb-true a (length d) e, ap (λ (bs : List Block). length (dataOf h bs)) flat)) none-own)
       go false e = leb-false a (length d) e
 
-  step-is : (o : Option (Bays (List Cell) Fixed)) → placeLow zoneBays i freed ≡ o → step zoneBays (resize h c) z ≡ orRefuse 5 z o (λ b. done 0 (withBays b z))
-  step-is o e =
-      ap₂ (with s h c y wf) (found-item h (start u) (u .blocks) (omega (arith, one))) (le-leb c relocLimit few)
-      ∙ ap₂ (λ (p q : Option (Bays (List Cell) Fixed)). orRefuse 5 z (orElse p q) (λ b. done 0 (withBays b z))) none-own e
+  placed-is : (o : Option (Bays (List Cell) Fixed)) → placeLow i freed ≡ o → step (resize h c) z ≡ found-as s h c y wf o
+  placed-is o e =
+      step-is s h c y wf (record { handle = h; bytes = d }) (found-item h (start u) (u .blocks) (omega (arith, one))) (le-leb c relocLimit few)
+      ∙ ap₂ (λ (p q : Option (Bays (List Cell) Fixed)). found-as s h c y wf (orElse p q)) none-own e
 
   need-is : itemSize i ≡ 4 + a
   need-is = ap (4 +_) (length-sized a d)
@@ -98,19 +100,19 @@ module _ (s : List ℕ) (h c : ℕ) (y : Bytes s) (wf : wellFormed s ≡ true) (
   line-freed : flatten freed ≡ release h (u .blocks)
   line-freed = flat-release h (start u) false (u .blocks) (v .tiled) (omega (arith, one))
 
-  spots : Paired (BayAt Sound (reaches zoneBays (itemSize i)) (Bay.put i) [] freed) (placeLow zoneBays i freed) (firstFit (4 + a) (bays (release h (u .blocks))))
+  spots : Paired (BayAt Sound (reaches (itemSize i)) (Bay.put i) [] freed) (placeLow i freed) (firstFit (4 + a) (bays (release h (u .blocks))))
   spots =
-      subst (Paired (BayAt Sound (reaches zoneBays (itemSize i)) (Bay.put i) [] freed) (placeLow zoneBays i freed))
+      subst (Paired (BayAt Sound (reaches (itemSize i)) (Bay.put i) [] freed) (placeLow i freed))
       (ap₂ (λ (n : ℕ) (bs : List Block). firstFit n (bays bs)) need-is line-freed)
       (low-fit Sound (itemSize i) (Bay.put i) freed (all-freed h (z .bays) (well-whole s y wf .sound)))
 
   -- "no bay": 5
-  pub resize-5 : firstFit (4 + up4 c) (bays (release h (decode s .blocks))) ≡ noSpot → callBytes (resize h c) s ≡ result (told 5 0) s
-  resize-5 e = go (placeLow zoneBays i freed) (firstFit (4 + a) (bays (release h (u .blocks)))) refl e spots
+  pub resize-5 : firstFit (4 + up4 c) (bays (release h (decode s .blocks))) ≡ noSpot → call (resize h c) s ≡ result (told 5 0) s
+  resize-5 e = go (placeLow i freed) (firstFit (4 + a) (bays (release h (u .blocks)))) refl e spots
     where
-      go : (o : Option (Bays (List Cell) Fixed)) (ch : Choice) → placeLow zoneBays i freed ≡ o → ch ≡ noSpot
-          → Paired (BayAt Sound (reaches zoneBays (itemSize i)) (Bay.put i) [] freed) o ch → callBytes (resize h c) s ≡ result (told 5 0) s
-      go none noSpot p q neither = call-same s y wf (resize h c) (refusal 5) (step-is none p)
+      go : (o : Option (Bays (List Cell) Fixed)) (ch : Choice) → placeLow i freed ≡ o → ch ≡ noSpot
+          → Paired (BayAt Sound (reaches (itemSize i)) (Bay.put i) [] freed) o ch → call (resize h c) s ≡ result (told 5 0) s
+      go none noSpot p q neither = call-same s y wf (resize h c) (told 5 0) (placed-is none p)
       go (some w) (theSpot k) p q (both r) = let x : _≡_ {A = ℕ} 0 1 = cc in let b : ⊥ = omega arith in absurd b
 
   module _ (q : Spot) (e : firstFit (4 + up4 c) (bays (release h (decode s .blocks))) ≡ theSpot q) where
@@ -137,16 +139,16 @@ module _ (s : List ℕ) (h c : ℕ) (y : Bytes s) (wf : wellFormed s ≡ true) (
         ∙ edit-put h d (replicate (itemSize i - 4) 0) q (st .at) g (omega (arith, none-in)) (st .none)
         ∙ ap (λ (x : List ℕ). put q (put (st .at) (reloc h x ∷ g))) zeros)
 
-    pub resize-moved : callBytes (resize h c) s ≡ result (told 0 0) (encode (relocated h (4 + up4 c) (dataOf h (decode s .blocks)) (decode s)) ++ drop (lengthField s) s)
+    pub resize-moved : call (resize h c) s ≡ result (told 0 0) (encode (relocated h (4 + up4 c) (dataOf h (decode s .blocks)) (decode s)) ++ drop (lengthField s) s)
     unfolding relocated store
-    resize-moved = go (placeLow zoneBays i freed) (firstFit (4 + a) (bays (release h (u .blocks)))) refl e spots
+    resize-moved = go (placeLow i freed) (firstFit (4 + a) (bays (release h (u .blocks)))) refl e spots
       where
-        go : (o : Option (Bays (List Cell) Fixed)) (ch : Choice) → placeLow zoneBays i freed ≡ o → ch ≡ theSpot q
-            → Paired (BayAt Sound (reaches zoneBays (itemSize i)) (Bay.put i) [] freed) o ch
-            → callBytes (resize h c) s ≡ result (told 0 0) (encode (relocated h (4 + a) d u) ++ drop (lengthField s) s)
+        go : (o : Option (Bays (List Cell) Fixed)) (ch : Choice) → placeLow i freed ≡ o → ch ≡ theSpot q
+            → Paired (BayAt Sound (reaches (itemSize i)) (Bay.put i) [] freed) o ch
+            → call (resize h c) s ≡ result (told 0 0) (encode (relocated h (4 + a) d u) ++ drop (lengthField s) s)
         go none noSpot p f neither = let x : _≡_ {A = ℕ} 0 1 = cc in let b : ⊥ = omega arith in absurd b
         go (some w) (theSpot k) p f (both r) =
-            call-done s y wf (resize h c) tt (done 0 (withBays w z)) (step-is (some w) p) refl (relocated h (4 + a) d u) (λ j. record { links = u .links; blocks = line j })
+            call-done s y wf (resize h c) none-lent (done 0 (withBays w z)) (placed-is (some w) p) refl (relocated h (4 + a) d u) (λ j. record { chain = u .chain; blocks = line j })
           where
             same : k ≡ q
             same = cc

@@ -18,10 +18,11 @@ use Rattle.access.specs.Edit.{dataOf, edit}
 use Rattle.find_bay.specs.Spots.{freeTotal, Spot, spot, put, holes, Choice, none as noSpot, some as theSpot, firstFit, used, gapOf, carve, orElse, settle}
 use Rattle.surgery.proofs.Spots.{hole-is}
 use Rattle.zone.specs.PickBays as Bays
-use Rattle.zone.specs.PickBays.{Bays, last, more, findS, mapS, AllS}
+use Rattle.calls.specs.Bays.{Bays, last, more, findS, mapS}
+use Rattle.zone.specs.PickBays.{AllS}
 use Rattle.zone.specs.Bay as Bay
-use Rattle.zone.specs.Bay.{Item, itemSize, get, Cell, free as gapCell, held, baySum, items, gap, packed, fit, sized}
-use Rattle.zone.specs.OnBays.{Fixed}
+use Rattle.calls.specs.State.{Item, itemSize, get, sized, Fixed}
+use Rattle.zone.specs.Bay.{Cell, free as gapCell, held, baySum, items, gap, packed, fit}
 use Rattle.zone.specs.Group.{inFront, group}
 use Rattle.zone.proofs.Sound.{Sound, release-sound}
 use Rattle.bay_spots.proofs.Spots.{blocksIn, sum-flat, packed-flat, gap-flat, Paired, neither, both}

@@ -1,15 +1,15 @@
 -- The call resize: its first two refusals, and a block that changes its size where it stands.
 use mathlib.Core.Path.{_≡_, refl, sym, ap, ap₂, _∙_, subst}
-use mathlib.Core.Bool.{Bool, true, false, cond}
+use mathlib.Core.Bool.{Bool, true, false, cond, _&&_, not}
 use mathlib.Core.Option.{Option, none, some, Option·getD}
 use mathlib.Core.List.{List, [], _∷_, _++_, append-assoc}
 use Prim.Native.Nat.{ℕ, _+_, _-_, _<_, _≤_}
 use native.Mathlib.Omega.{arith}
 use lib.ListN.{length, drop}
-use lib.Dec.{leb}
+use lib.Dec.{eqb, leb}
 use borrow.Author.Tests.{le-leb, lt-leb}
 use Rattle.bigendian.specs.BigEndian.{Bytes}
-use Rattle.block_type.specs.Limits.{relocLimit, up4}
+use Rattle.block_type.specs.Limits.{relocHeader, relocLimit, up4}
 use Rattle.format.specs.WellFormed.{wellFormed, zoneOf, lengthField}
 use Rattle.format.proofs.Count.{occurs, one-same, occurs-append}
 use Rattle.structure.specs.Structure.{Block, reloc, Structure, start, encode, decode}
@@ -21,20 +21,26 @@ use Rattle.find_bay.specs.Spots.{Spot, put, Choice, none as noSpot, some as the
 use Rattle.release.proofs.Find.{leadOf, Mid, mid-of}
 use Rattle.surgery.proofs.Sound.{handle-once, tiled-left, tiled-right}
 use Rattle.surgery.proofs.Spots.{IsBay}
-use Rattle.calls.specs.Calls.{told, refusal, resize}
-use Rattle.zone.specs.PickBays.{Bays, onLow, over, orElse, mapS}
+use Rattle.calls.specs.Calls.{told, resize}
+use Rattle.calls.specs.Bays.{Bays, over, orElse, mapS, maxS}
+use Rattle.zone.specs.PickBays.{onLow}
 use Rattle.zone.specs.Bay as Bay
-use Rattle.zone.specs.Bay.{Item, Cell, growHere, sized}
-use Rattle.zone.specs.OnBays.{Fixed, Out, own, lookup, placeLow, resizeIn, orRefuse, done, refuse, withBays}
-use Rattle.zone.specs.ZoneBays.{zoneBays}
+use Rattle.calls.specs.State.{Item, sized, Fixed, Out, says, done, withBays, ownSum}
+use Rattle.calls.specs.Table.{cause, below, isNone, first, order}
+use Rattle.zone.specs.Bay.{Cell, baySum, items, growHere}
+use Rattle.zone.specs.Search.{own, lookup, placeLow, resizeIn}
 use Rattle.zone.specs.Group.{flatten}
-use Rattle.zone.specs.OnBytes.{Zone, inBays, inLine, result, callBytes}
+use Rattle.zone.specs.Work as Work
+use Rattle.zone.specs.Work.{Zone}
+use Rattle.zone.specs.Call.{inBays, inLine, result, call}
 use Rattle.zone.proofs.Sound.{Sound}
 use Rattle.zone.proofs.BaysLaws.{Both, absent, present}
 use Rattle.zone.proofs.Bytes.{whereS}
 use Rattle.zone.proofs.GroupLaws.{flatten-group}
+use Rattle.zone.proofs.Found.{Found, lost, got, resize-found, Named, unnamed, named, block-named}
+use Rattle.zone.proofs.Grouped.{single-live}
 use Rattle.zone.proofs.Run.{well-whole}
-use Rattle.call_laws.proofs.Outcome.{call-same, call-done}
+use Rattle.call_laws.proofs.Outcome.{step, none-lent, call-same, call-done}
 use Rattle.bay_spots.proofs.Spots.{blocksIn, Paired, neither, both, firstBy}
 use Rattle.bay_spots.proofs.Low.{BayAt, low-spot}
 use Rattle.bay_changes.proofs.Own.{ownBlocks, count-flat, own-flat}
@@ -132,21 +138,52 @@ module _ (s : List ℕ) (h c : ℕ) (y : Bytes s) (wf : wellFormed s ≡ true) w
   flat : flatten (z .bays) ≡ u .blocks
   flat = flatten-group (start u) (u .blocks)
 
-  -- what the call does, by what the handle names, whether c is small, and the bays that it leaves
-  abbrev pub with : Option Item → Bool → Out (List Cell)
-  with o t = orRefuse 6 z o (λ e. cond t (orRefuse 5 z (resizeIn zoneBays h (up4 c) e (z .bays)) (λ b. done 0 (withBays b z))) (refuse 3 z))
+  abbrev bytesOf : Option Item → Option (List ℕ)
+  bytesOf o = over (λ (e : Item). e .bytes) o
 
-  pub live : (placeIn (zoneOf s) h ≡ 0 → ⊥) → (e : Item) × (lookup zoneBays h z ≡ some e)
-  live ne = go (lookup zoneBays h z) (whereS h (start u) (z .bays)) refl refl (found-strip h (start u) (z .bays))
+  -- the refusal, by what the handle names, whether c is small, and whether no bay is as required
+  abbrev number : Option Item → Bool → Bool → ℕ
+  number o t n = first order (cause 1 false ∷ cause 3 (not t) ∷ cause 5 n ∷ cause 6 (isNone (over length (bytesOf o))) ∷ [])
+
+  -- the call, by the refusal and the new bays
+  abbrev call-as : ℕ → Bays (List Cell) Fixed → Out (List Cell)
+  call-as n b = cond (eqb n 0) (done 0 (withBays b z)) (says (told n 0) z)
+
+  -- the call, by what the handle names, and whether c is small
+  abbrev with : Option Item → Bool → Out (List Cell)
+  with o t =
+      call-as (number o t (below (ownSum items baySum h (z .bays)) (a - Option·getD (over length (bytesOf o)) 0) && below (maxS baySum (z .bays)) (relocHeader + a)))
+      (Work.resizeIn h a (Option·getD (bytesOf o) []) (z .bays))
+
+  -- the call, by the bays that are found for a live handle and a small c
+  abbrev pub found-as : Option (Bays (List Cell) Fixed) → Out (List Cell)
+  found-as none = says (told 5 0) z
+  found-as (some b) = done 0 (withBays b z)
+
+  pub step-is : (e : Item) → lookup h z ≡ some e → leb c relocLimit ≡ true → step (resize h c) z ≡ found-as (resizeIn h a e (z .bays))
+  step-is e q t = go (block-named h (z .bays)) refl
     where
-      go : (o : Option Item) (w : Option ℕ) → lookup zoneBays h z ≡ o → whereS h (start u) (z .bays) ≡ w → Both (λ (e : Item) (q : ℕ). 4 ≤ q) o w → (e : Item) × (lookup zoneBays h z ≡ some e)
+      settled : {n : Bool} {b : Bays (List Cell) Fixed} {o : Option (Bays (List Cell) Fixed)} → Found b n o → call-as (number (some e) true n) b ≡ found-as o
+      settled lost = refl
+      settled got = refl
+
+      go : {o : Option Item} → Named h o → lookup h z ≡ o → step (resize h c) z ≡ found-as (resizeIn h a e (z .bays))
+      go unnamed p = let k : _≡_ {A = ℕ} 0 1 = cc in absurd (omega arith)
+      go (named {d = d}) p =
+          let i : record { handle = h; bytes = d } ≡ e = cc in
+          ap₂ with p t ∙ settled (resize-found h a d (z .bays) (single-live z (well-whole s y wf) h) p) ∙ ap (λ (j : Item). found-as (resizeIn h a j (z .bays))) i
+
+  live : (placeIn (zoneOf s) h ≡ 0 → ⊥) → (e : Item) × (lookup h z ≡ some e)
+  live ne = go (lookup h z) (whereS h (start u) (z .bays)) refl refl (found-strip h (start u) (z .bays))
+    where
+      go : (o : Option Item) (w : Option ℕ) → lookup h z ≡ o → whereS h (start u) (z .bays) ≡ w → Both (λ (e : Item) (q : ℕ). 4 ≤ q) o w → (e : Item) × (lookup h z ≡ some e)
       go none none p q absent = absurd (ne (place-is s y h wf ∙ ap (λ (o : Option ℕ). Option·getD o 0) q))
       go (some e) (some k) p q (present l) = (e, p)
 
-  pub gone : placeIn (zoneOf s) h ≡ 0 → lookup zoneBays h z ≡ none
-  gone e = go (lookup zoneBays h z) (whereS h (start u) (z .bays)) refl refl (found-strip h (start u) (z .bays))
+  gone : placeIn (zoneOf s) h ≡ 0 → lookup h z ≡ none
+  gone e = go (lookup h z) (whereS h (start u) (z .bays)) refl refl (found-strip h (start u) (z .bays))
     where
-      go : (o : Option Item) (w : Option ℕ) → lookup zoneBays h z ≡ o → whereS h (start u) (z .bays) ≡ w → Both (λ (e : Item) (q : ℕ). 4 ≤ q) o w → lookup zoneBays h z ≡ none
+      go : (o : Option Item) (w : Option ℕ) → lookup h z ≡ o → whereS h (start u) (z .bays) ≡ w → Both (λ (e : Item) (q : ℕ). 4 ≤ q) o w → lookup h z ≡ none
       go none none p q absent = p
       go (some i) (some k) p q (present l) =
           let r : placeIn (zoneOf s) h ≡ k = place-is s y h wf ∙ ap (λ (o : Option ℕ). Option·getD o 0) q in
@@ -154,12 +191,12 @@ module _ (s : List ℕ) (h c : ℕ) (y : Bytes s) (wf : wellFormed s ≡ true) w
           absurd x
 
   -- "handle not live": 6
-  pub resize-6 : placeIn (zoneOf s) h ≡ 0 → callBytes (resize h c) s ≡ result (refusal 6) s
-  resize-6 e = call-same s y wf (resize h c) (refusal 6) (ap (λ (o : Option Item). with o (leb c relocLimit)) (gone e))
+  pub resize-6 : placeIn (zoneOf s) h ≡ 0 → call (resize h c) s ≡ result (told 6 0) s
+  resize-6 e = call-same s y wf (resize h c) (told 6 0) (ap (λ (o : Option Item). with o (leb c relocLimit)) (gone e))
 
   -- "size above the limit": 3
-  pub resize-3 : (placeIn (zoneOf s) h ≡ 0 → ⊥) → 32760 < c → callBytes (resize h c) s ≡ result (refusal 3) s
-  resize-3 ne l = call-same s y wf (resize h c) (refusal 3) (ap₂ with (live ne .1) (lt-leb c relocLimit l))
+  pub resize-3 : (placeIn (zoneOf s) h ≡ 0 → ⊥) → 32760 < c → call (resize h c) s ≡ result (told 3 0) s
+  resize-3 ne l = call-same s y wf (resize h c) (told 3 0) (ap₂ with (live ne .1) (lt-leb c relocLimit l))
 
   module _ (ne : placeIn (zoneOf s) h ≡ 0 → ⊥) (small : c ≤ 32760) where
     m : Mid h (start u) (u .blocks)
@@ -167,12 +204,12 @@ module _ (s : List ℕ) (h c : ℕ) (y : Bytes s) (wf : wellFormed s ≡ true) w
     m = mid-of h (start u) (u .blocks) (let k : (placeIn (zoneOf s) h ≡ 0 → ⊥) = ne in omega arith)
 
     -- the own bay has room: the bays w
-    pub resize-own : (w : Bays (List Cell) Fixed) → onLow (own zoneBays h (up4 c)) (Bay.reshape h (up4 c)) (z .bays) ≡ some w → (r : Structure) → inLine (withBays w z) ≡ r
-        → callBytes (resize h c) s ≡ result (told 0 0) (encode r ++ drop (lengthField s) s)
+    pub resize-own : (w : Bays (List Cell) Fixed) → onLow (own h (up4 c)) (Bay.reshape h (up4 c)) (z .bays) ≡ some w → (r : Structure) → inLine (withBays w z) ≡ r
+        → call (resize h c) s ≡ result (told 0 0) (encode r ++ drop (lengthField s) s)
     resize-own w e r q =
-        call-done s y wf (resize h c) tt (done 0 (withBays w z))
-        (ap₂ with (live ne .1) (le-leb c relocLimit small)
-        ∙ ap (λ (o : Option (Bays (List Cell) Fixed)). orRefuse 5 z (orElse o (placeLow zoneBays (Bay.resized (up4 c) (live ne .0)) (mapS (Bay.release h) (z .bays)))) (λ b. done 0 (withBays b z))) e)
+        call-done s y wf (resize h c) none-lent (done 0 (withBays w z))
+        (step-is (live ne .0) (live ne .1) (le-leb c relocLimit small)
+        ∙ ap (λ (o : Option (Bays (List Cell) Fixed)). found-as (orElse o (placeLow (Bay.resized a (live ne .0)) (mapS (Bay.release h) (z .bays))))) e)
         refl r q
 
     pub once : occurs h (handlesOf (u .blocks)) ≡ 1
@@ -182,11 +219,11 @@ module _ (s : List ℕ) (h c : ℕ) (y : Bytes s) (wf : wellFormed s ≡ true) w
         omega (arith, handle-once u v h, o, one-same h h refl)
 
     -- there is room right after the block
-    pub resize-here : up4 c ≤ length (dataOf h (u .blocks)) + leadAfter h (u .blocks) → callBytes (resize h c) s ≡ result (told 0 0) (encode (resizedIn h (up4 c) u) ++ drop (lengthField s) s)
+    pub resize-here : up4 c ≤ length (dataOf h (u .blocks)) + leadAfter h (u .blocks) → call (resize h c) s ≡ result (told 0 0) (encode (resizedIn h (up4 c) u) ++ drop (lengthField s) s)
     unfolding resizedIn
     resize-here l =
-        go (onLow (own zoneBays h a) (Bay.reshape h a) (z .bays)) (firstBy (ownBlocks h a) (bays (flatten (z .bays)))) refl refl
-        (low-spot Sound (own zoneBays h a) (ownBlocks h a) (own-flat h a) (Bay.reshape h a) (z .bays) (well-whole s y wf .sound))
+        go (onLow (own h a) (Bay.reshape h a) (z .bays)) (firstBy (ownBlocks h a) (bays (flatten (z .bays)))) refl refl
+        (low-spot Sound (own h a) (ownBlocks h a) (own-flat h a) (Bay.reshape h a) (z .bays) (well-whole s y wf .sound))
       where
         room : a ≤ length (dataOf h (flatten (z .bays))) + leadAfter h (flatten (z .bays))
         room = subst (λ (bs : List Block). a ≤ length (dataOf h bs) + leadAfter h bs) (sym flat) l
@@ -194,12 +231,12 @@ module _ (s : List ℕ) (h c : ℕ) (y : Bytes s) (wf : wellFormed s ≡ true) w
         one : occurs h (handlesOf (flatten (z .bays))) ≡ 1
         one = ap (λ (bs : List Block). occurs h (handlesOf bs)) flat ∙ once
 
-        go : (o : Option (Bays (List Cell) Fixed)) (ch : Choice) → onLow (own zoneBays h a) (Bay.reshape h a) (z .bays) ≡ o → firstBy (ownBlocks h a) (bays (flatten (z .bays))) ≡ ch
-            → Paired (BayAt Sound (own zoneBays h a) (Bay.reshape h a) [] (z .bays)) o ch
-            → callBytes (resize h c) s ≡ result (told 0 0) (encode (resizedIn h a u) ++ drop (lengthField s) s)
+        go : (o : Option (Bays (List Cell) Fixed)) (ch : Choice) → onLow (own h a) (Bay.reshape h a) (z .bays) ≡ o → firstBy (ownBlocks h a) (bays (flatten (z .bays))) ≡ ch
+            → Paired (BayAt Sound (own h a) (Bay.reshape h a) [] (z .bays)) o ch
+            → call (resize h c) s ≡ result (told 0 0) (encode (resizedIn h a u) ++ drop (lengthField s) s)
         go none noSpot e q neither = absurd (has-own h a (Bay.reshape h a) (z .bays) one room e)
         go (some w) (theSpot p) e q (both r) =
-            resize-own w e (record { links = u .links; blocks = atSize h a (u .blocks) }) (λ i. record { links = u .links; blocks = line i })
+            resize-own w e (record { chain = u .chain; blocks = atSize h a (u .blocks) }) (λ i. record { chain = u .chain; blocks = line i })
           where
             mine : Owns h a (flatten (z .bays)) p (r .bay)
             mine = owns h a (flatten (z .bays)) p (r .bay) (omega (arith, one)) (low-bay (ownBlocks h a) (flatten (z .bays)) p q .0) (r .inside) (sym (own-flat h a (r .bay)) ∙ r .passes)

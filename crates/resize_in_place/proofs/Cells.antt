@@ -17,10 +17,11 @@ use Rattle.find_bay.specs.Spots.{gapOf, freeTotal}
 use Rattle.compact_bay.proofs.Squeeze.{handles-append}
 use Rattle.release.proofs.Find.{leadOf}
 use Rattle.surgery.proofs.Sound.{firstFree}
-use Rattle.zone.specs.PickBays.{Bays, last, more, over, onLow}
-use Rattle.zone.specs.Bay.{Item, Cell, free as gapCell, held, gap, sized, resized, growInto, inPlace}
-use Rattle.zone.specs.OnBays.{Fixed, own}
-use Rattle.zone.specs.ZoneBays.{zoneBays}
+use Rattle.calls.specs.Bays.{Bays, last, more, over}
+use Rattle.zone.specs.PickBays.{onLow}
+use Rattle.calls.specs.State.{Item, sized, Fixed}
+use Rattle.zone.specs.Bay.{Cell, free as gapCell, held, gap, resized, growInto, inPlace}
+use Rattle.zone.specs.Search.{own}
 use Rattle.zone.specs.Group.{flatten}
 use Rattle.bay_spots.proofs.Spots.{blocksIn, flat-split}
 use Rattle.bay_changes.proofs.Own.{ownBlocks, own-flat}
@@ -145,9 +146,9 @@ module _ (h : ℕ) where
 
     -- where there is room right after the block, its bay has room
     pub has-own : (f : List Cell → List Cell) (s : Bays (List Cell) Fixed) → occurs h (handlesOf (flatten s)) ≡ 1
-        → a ≤ length (dataOf h (flatten s)) + leadAfter h (flatten s) → onLow (own zoneBays h a) f s ≡ none → ⊥
+        → a ≤ length (dataOf h (flatten s)) + leadAfter h (flatten s) → onLow (own h a) f s ≡ none → ⊥
     unfolding dataOf leadAfter handlesOf
-    has-own f (last b) e l x = no-some (own zoneBays h a b) (last (f b)) none (own-flat h a b ∙ own-true (blocksIn b) e l) x
+    has-own f (last b) e l x = no-some (own h a b) (last (f b)) none (own-flat h a b ∙ own-true (blocksIn b) e l) x
     has-own f (more b x s) e l y = go (occurs h (handlesOf (blocksIn b))) refl (has-own f s)
       where
         flat : flatten (more b x s) ≡ blocksIn b ++ (fixed (x .bytes) ∷ flatten s)
@@ -159,12 +160,12 @@ module _ (h : ℕ) where
             ∙ occurs-append h (handlesOf (blocksIn b)) (handlesOf (fixed (x .bytes) ∷ flatten s))) ∙ e
 
         go : (n : ℕ) → occurs h (handlesOf (blocksIn b)) ≡ n
-            → (occurs h (handlesOf (flatten s)) ≡ 1 → a ≤ length (dataOf h (flatten s)) + leadAfter h (flatten s) → onLow (own zoneBays h a) f s ≡ none → ⊥) → ⊥
+            → (occurs h (handlesOf (flatten s)) ≡ 1 → a ≤ length (dataOf h (flatten s)) + leadAfter h (flatten s) → onLow (own h a) f s ≡ none → ⊥) → ⊥
         go zero q k =
             k (omega (arith, occ))
             (omega (arith, l, ap (λ (bs : List Block). length (dataOf h bs)) flat, ap length (data-skip (blocksIn b) (fixed (x .bytes) ∷ flatten s) q), ap (leadAfter h) flat, lead-skip (blocksIn b) (fixed (x .bytes) ∷ flatten s) q))
-            (no-over (own zoneBays h a b) (more b x) (more (f b) x s) (onLow (own zoneBays h a) f s) y)
+            (no-over (own h a b) (more b x) (more (f b) x s) (onLow (own h a) f s) y)
         go (suc n) q k =
-            no-some (own zoneBays h a b) (more (f b) x s) (over (more b x) (onLow (own zoneBays h a) f s))
+            no-some (own h a b) (more (f b) x s) (over (more b x) (onLow (own h a) f s))
             (own-flat h a b ∙ own-true (blocksIn b) (omega (arith, occ))
             (omega (arith, l, ap (λ (bs : List Block). length (dataOf h bs)) flat, ap length (data-keep (blocksIn b) (fixed (x .bytes) ∷ flatten s) (omega arith)), ap (leadAfter h) flat, lead-keep (blocksIn b) (fixed (x .bytes) ∷ flatten s) refl (omega arith)))) y

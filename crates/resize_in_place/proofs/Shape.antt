@@ -14,7 +14,7 @@ use Rattle.access.specs.Edit.{dataOf}
 use Rattle.find_bay.specs.Spots.{gapOf, freeTotal}
 use Rattle.release.proofs.Find.{leadOf}
 use Rattle.surgery.proofs.Sound.{firstFree}
-use Rattle.zone.specs.Bay.{sized}
+use Rattle.calls.specs.State.{sized}
 use Rattle.resize_in_place.specs.InPlace.{pastLead, leadAfter, atSize}
 
 -- a block without the handle

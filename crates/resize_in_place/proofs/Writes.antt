@@ -28,7 +28,7 @@ use Rattle.surgery.proofs.Image.{encode-img, img-rest}
 use Rattle.surgery.proofs.Sound.{valid-sound, lastFree, tiled-right}
 use Rattle.surgery.proofs.Replace.{replaced, place-same, place-mid, sizes-parts}
 use Rattle.surgery.proofs.Carved.{part-bytes}
-use Rattle.zone.specs.Bay.{sized}
+use Rattle.calls.specs.State.{sized}
 use Rattle.zone.proofs.Resize.{length-sized}
 use Rattle.resize_in_place.specs.InPlace.{pastLead, leadAfter, leadIn, atSize, resizedIn, LiveIn, live-in, Here}
 use Rattle.resize_in_place.proofs.Shape.{size-at, lead-at, lead-split, lead-four}
@@ -55,9 +55,9 @@ module _ (s : Structure) (v : Valid s) (pre mid mid′ post : List Block) (h : �
     (hs : handlesOf mid ≡ h ∷ []) (hs′ : handlesOf mid′ ≡ h ∷ []) (none : occurs h (handlesOf pre) ≡ 0)
     (stays : placeOf h (start s) (s .blocks) ≡ placeOf h (start s + sizes pre) mid′) where
   abbrev s′ : Structure
-  s′ = record { links = s .links; blocks = pre ++ (mid′ ++ post) }
+  s′ = record { chain = s .chain; blocks = pre ++ (mid′ ++ post) }
 
-  ct : length (handlesOf mid′) + length (s .links) ≡ length (handlesOf mid) + length (s .links)
+  ct : length (handlesOf mid′) + length (s .chain) ≡ length (handlesOf mid) + length (s .chain)
   ct = rw (hs, hs′)
 
   only : (k : ℕ) (bs : List Block) → handlesOf bs ≡ h ∷ [] → occurs k (handlesOf bs) ≡ one k h
@@ -65,20 +65,20 @@ module _ (s : Structure) (v : Valid s) (pre mid mid′ post : List Block) (h : �
   only k bs q = ap (occurs k) q ∙ add-zero (one k h)
 
   holds : (k : ℕ) → value s k ≡ value s′ k
-  holds k = ap (λ (x : ℕ). x + nextOf k (s .links)) (go (ℕ-discrete k h))
+  holds k = ap (λ (x : ℕ). x + nextOf k (s .chain)) (go (ℕ-discrete k h))
     where
       here : placeOf h (start s) (s .blocks) ≡ placeOf h (start s′) (pre ++ (mid′ ++ post))
-      here = stays ∙ sym (place-mid s v pre mid mid′ post (s .links) e sz so ct h none (omega (arith, only h mid′ hs′, one-same h h refl)))
+      here = stays ∙ sym (place-mid s v pre mid mid′ post (s .chain) e sz so ct h none (omega (arith, only h mid′ hs′, one-same h h refl)))
 
       go : Dec (k ≡ h) → placeOf k (start s) (s .blocks) ≡ placeOf k (start s′) (pre ++ (mid′ ++ post))
       go (yes p) = subst (λ (j : ℕ). placeOf j (start s) (s .blocks) ≡ placeOf j (start s′) (pre ++ (mid′ ++ post))) (sym p) here
-      go (no p) = sym (place-same s v pre mid mid′ post (s .links) e sz so ct k (only k mid hs ∙ one-other k h p) (only k mid′ hs′ ∙ one-other k h p))
+      go (no p) = sym (place-same s v pre mid mid′ post (s .chain) e sz so ct k (only k mid hs ∙ one-other k h p) (only k mid′ hs′ ∙ one-other k h p))
 
   pub in-place : overwrite (encode s) (start s + sizes pre) (bytesOf mid′) ≡ encode s′
   in-place =
       ap (λ (x : List ℕ). overwrite x (start s + sizes pre) (bytesOf mid′)) (encode-img s)
-      ∙ img-rest (len s) (start s) (count s) (headOf (s .links)) (sizes pre) (start s + sizes pre) (value s) (bytesOf (s .blocks)) (bytesOf mid′) refl
-      ∙ replaced s v pre mid mid′ post (s .links) e sz so ct (value s) (λ k p. holds k)
+      ∙ img-rest (len s) (start s) (count s) (headOf (s .chain)) (sizes pre) (start s + sizes pre) (value s) (bytesOf (s .blocks)) (bytesOf mid′) refl
+      ∙ replaced s v pre mid mid′ post (s .chain) e sz so ct (value s) (λ k p. holds k)
 
 -- ---- the block of a live handle
 
@@ -181,7 +181,7 @@ module _ (z : List ℕ) (i : IsZone z) (h at b f : ℕ) (ea : at ≡ placeIn z h
     blocks-written =
         ap (λ (x : List ℕ). overwrite x o (bytesOf mid′)) (sym (encode-zone z w))
         ∙ in-place s v (m .pre) mid mid′ rest h parts size-new sound-new (handle-of d f) (handle-of (sized a d) g) (m .none) stays
-        ∙ ap (λ (bs : List Block). encode (record { links = s .links; blocks = bs })) (sym blocks-are)
+        ∙ ap (λ (bs : List Block). encode (record { chain = s .chain; blocks = bs })) (sym blocks-are)
 
     -- ---- the bytes
 
@@ -289,18 +289,6 @@ module _ (z : List ℕ) (i : IsZone z) (h at b f : ℕ) (ea : at ≡ placeIn z h
             ∙ (simp append-assoc) ∙ new-is (v4 ++ zeros (g - 4)) q)
 
 -- ---- what the code's proof cites
-
-pub here-of : (z : List ℕ) (h at b f a : ℕ) → IsZone z → at ≡ placeIn z h → (at ≡ 0 → ⊥) → b ≡ length (dataIn z h) → f ≡ leadIn z h → a % 4 ≡ 0 → a ≤ 32760 → a ≤ b + f → Here z h at b f a
-here-of z h at b f a i ea live eb ef four high fits = record {
-  known = live-in i ea live eb ef;
-  low = is-low z i h at b f ea live eb ef;
-  end = end-in z i h at b f ea live eb ef;
-  short = is-short z i h at b f ea live eb ef;
-  four = four;
-  four-end = is-four z i h at b f ea live eb ef;
-  high = high;
-  fits = fits;
-}
 
 module _ (z : List ℕ) (h at b f a : ℕ) (x : Here z h at b f a) (keep : ℕ) (ek : keep ≡ min a b) (z₁ z₂ : List ℕ)
     (e₁ : z₁ ≡ overwrite z (at + keep) (replicate (at + b + f - (at + keep)) 0)) (e₂ : z₂ ≡ overwrite z₁ (at - 4) (toBE 2 (32768 + (4 + a) / 2))) where

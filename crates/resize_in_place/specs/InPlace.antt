@@ -10,7 +10,7 @@ use Rattle.structure.specs.Structure.{Block, free, fixed, reloc, Structure, dec
 use Rattle.access.specs.Edit.{IsZone, placeIn, dataIn}
 use Rattle.find_bay.specs.Spots.{gapOf}
 use Rattle.release.specs.Release.{leadOf}
-use Rattle.zone.specs.Bay.{sized}
+use Rattle.calls.specs.State.{sized}
 
 -- what stands behind a free block in front
 unfoldable pub pastLead : List Block → List Block
@@ -37,7 +37,7 @@ atSize h a (fixed d ∷ bs) = fixed d ∷ atSize h a bs
 atSize h a (reloc k d ∷ bs) = cond (eqb h k) (reloc k (sized a d) ∷ (gapOf (length d + leadOf bs - a) ++ pastLead bs)) (reloc k d ∷ atSize h a bs)
 
 unfoldable pub resizedIn : ℕ → ℕ → Structure → Structure
-resizedIn h a s = record { links = s .links; blocks = atSize h a (s .blocks) }
+resizedIn h a s = record { chain = s .chain; blocks = atSize h a (s .blocks) }
 
 -- handle h is live in z: its b data bytes lie at `at`, and f free bytes follow
 pub data LiveIn (z : List ℕ) (h at b f : ℕ) : Type 0 where

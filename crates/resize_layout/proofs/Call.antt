@@ -19,13 +19,15 @@ use Rattle.find_bay.specs.Spots.{Spot, put, Choice, none as noSpot, some as the
 use Rattle.release.proofs.Find.{leadOf}
 use Rattle.surgery.proofs.Sound.{handle-once}
 use Rattle.calls.specs.Calls.{told, resize}
-use Rattle.zone.specs.PickBays.{Bays, onLow, over}
+use Rattle.calls.specs.Bays.{Bays, over}
+use Rattle.zone.specs.PickBays.{onLow}
 use Rattle.zone.specs.Bay as Bay
-use Rattle.zone.specs.Bay.{Item, Cell, free as gapCell, held, alter, items, baySize, total, gap, packed, sized, resized, growInto, inPlace, growHere}
-use Rattle.zone.specs.OnBays.{Fixed, own}
-use Rattle.zone.specs.ZoneBays.{zoneBays}
+use Rattle.calls.specs.State.{Item, alter, total, sized, Fixed}
+use Rattle.zone.specs.Bay.{Cell, free as gapCell, held, items, baySize, gap, packed, resized, growInto, inPlace, growHere}
+use Rattle.zone.specs.Search.{own}
 use Rattle.zone.specs.Group.{flatten}
-use Rattle.zone.specs.OnBytes.{Zone, inBays, result, callBytes}
+use Rattle.zone.specs.Work.{Zone}
+use Rattle.zone.specs.Call.{inBays, result, call}
 use Rattle.zone.proofs.Sound.{Sound}
 use Rattle.zone.proofs.GroupLaws.{flatten-group}
 use Rattle.zone.proofs.Run.{well-whole}
@@ -116,13 +118,13 @@ module _ (s : List ℕ) (h c : ℕ) (y : Bytes s) (wf : wellFormed s ≡ true) (
     same : firstBy (ownBlocks h a) (bays (flatten (z .bays))) ≡ theSpot q
     same = ap (λ (bs : List Block). firstBy (ownBlocks h a) (bays bs)) flat ∙ eq
 
-    go : (o : Option (Bays (List Cell) Fixed)) (ch : Choice) → onLow (own zoneBays h a) (Bay.reshape h a) (z .bays) ≡ o → firstBy (ownBlocks h a) (bays (flatten (z .bays))) ≡ ch
-        → Paired (BayAt Sound (own zoneBays h a) (Bay.reshape h a) [] (z .bays)) o ch
-        → callBytes (resize h c) s ≡ result (told 0 0) (encode (laidOut h a t) ++ drop (lengthField s) s)
+    go : (o : Option (Bays (List Cell) Fixed)) (ch : Choice) → onLow (own h a) (Bay.reshape h a) (z .bays) ≡ o → firstBy (ownBlocks h a) (bays (flatten (z .bays))) ≡ ch
+        → Paired (BayAt Sound (own h a) (Bay.reshape h a) [] (z .bays)) o ch
+        → call (resize h c) s ≡ result (told 0 0) (encode (laidOut h a t) ++ drop (lengthField s) s)
     unfolding laidOut
     go none noSpot e f neither = let x : _≡_ {A = ℕ} 0 1 = (let g : _≡_ {A = Choice} noSpot (theSpot q) = sym f ∙ same in cc) in let k : ⊥ = omega arith in absurd k
     go (some w) (theSpot p) e f (both r) =
-        resize-own s h c y wf ne few w e (laidOut h a t) (λ i. record { links = t .links; blocks = line i })
+        resize-own s h c y wf ne few w e (laidOut h a t) (λ i. record { chain = t .chain; blocks = line i })
       where
         mine : Owns h a (flatten (z .bays)) p (r .bay)
         mine =
@@ -135,7 +137,7 @@ module _ (s : List ℕ) (h c : ℕ) (y : Bytes s) (wf : wellFormed s ≡ true) (
             ∙ ap (put p) (laid-bay h a (flatten (z .bays)) p (r .bay) mine (subst (λ (bs : List Block). length (dataOf h bs) + leadAfter h bs < a) (sym flat) l) ∙ ap (layout h a) (sym (r .inside)))
             ∙ ap (λ (ch : Choice). layoutIn h a ch (t .blocks)) (sym f ∙ ap (λ (bs : List Block). firstBy (ownBlocks h a) (bays bs)) flat)
 
-    pub resize-layout : callBytes (resize h c) s ≡ result (told 0 0) (encode (laidOut h (up4 c) (decode s)) ++ drop (lengthField s) s)
+    pub resize-layout : call (resize h c) s ≡ result (told 0 0) (encode (laidOut h (up4 c) (decode s)) ++ drop (lengthField s) s)
     resize-layout =
-        go (onLow (own zoneBays h a) (Bay.reshape h a) (z .bays)) (firstBy (ownBlocks h a) (bays (flatten (z .bays)))) refl refl
-        (low-spot Sound (own zoneBays h a) (ownBlocks h a) (own-flat h a) (Bay.reshape h a) (z .bays) (well-whole s y wf .sound))
+        go (onLow (own h a) (Bay.reshape h a) (z .bays)) (firstBy (ownBlocks h a) (bays (flatten (z .bays)))) refl refl
+        (low-spot Sound (own h a) (ownBlocks h a) (own-flat h a) (Bay.reshape h a) (z .bays) (well-whole s y wf .sound))

@@ -31,7 +31,7 @@ use Rattle.surgery.proofs.Replace.{sizes-parts}
 use Rattle.surgery.proofs.Carved.{part-bytes}
 use Rattle.surgery.proofs.Plain.{grown}
 use Rattle.surgery.proofs.Spots.{IsBay, bay-tidied, bay-valid, bay-start}
-use Rattle.zone.specs.Bay.{sized}
+use Rattle.calls.specs.State.{sized}
 use Rattle.bay_changes.proofs.Own.{ownBlocks}
 use Rattle.bay_changes.proofs.Edges.{low-bay}
 use Rattle.own_bay.proofs.Numbers.{place-low}
@@ -174,7 +174,7 @@ module _ (s : Structure) (val : Valid s) (h from end sum b a : ℕ) (x : Own s h
       )
 
   abbrev s₁ : Structure
-  s₁ = record { links = s .links; blocks = put p (squeeze mid) }
+  s₁ = record { chain = s .chain; blocks = put p (squeeze mid) }
 
   v₁ : Valid s₁
   v₁ = bay-valid s val p edges
@@ -215,7 +215,7 @@ module _ (s : Structure) (val : Valid s) (h from end sum b a : ℕ) (x : Own s h
   at-is =
       let q = master-is s₁ v₁ h (subst (λ (k : ℕ). Master k h) (sym (bay-start s val p edges)) master) in
       let w : placeOf h (start s₁) (s₁ .blocks) ≡ start s₁ + sizes (p .before ++ ante) + 4 = ap (placeOf h (start s₁)) blocks₁ ∙ place-at h (start s₁) (p .before ++ ante) dat ((post ++ gapOf spare) ++ p .after) none-before in
-      omega (arith, q, w, next-none h (s .links) (omega (arith, occ-all, handle-once s val h)), sizes-append (p .before) ante, from₁)
+      omega (arith, q, w, next-none h (s .chain) (omega (arith, occ-all, handle-once s val h)), sizes-append (p .before) ante, from₁)
 
   end-in : end ≤ length (encode s)
   end-in = omega (arith, length-is s val, x .is-from, x .is-end, ap sizes (edges .parts), sizes-parts (p .before) mid (p .after))
@@ -264,12 +264,6 @@ module _ (s : Structure) (val : Valid s) (h from end sum b a : ℕ) (x : Own s h
     grown-is : grownBytes (bytesOf olds) low high run gain ≡ bytesOf news
     grown-is = grown-blocks ante post h spare gain dat sound-old low high run el eh er
 
-  long-bytes : length (bytesOf news) ≡ end - from
-  unfolding sizes
-  long-bytes =
-      bytes-long news sound-new
-      ∙ omega (arith, sizes-append ante (reloc h (dat ++ replicate gain 0) ∷ (post ++ gapOf (spare - gain))), sizes-append post (gapOf (spare - gain)), gap-sizes (spare - gain), long-new, span, room-is, x .grows, b-is)
-
   new-low : Low from news
   new-low = low-data from h dat (dat ++ replicate gain 0) ante (post ++ gapOf spare) (post ++ gapOf (spare - gain)) (low-tail from spare (spare - gain) post) (lows s₁ v₁ olds (ap (put p) (squeezed h a mid once)) from₁)
 
@@ -278,7 +272,7 @@ module _ (s : Structure) (val : Valid s) (h from end sum b a : ℕ) (x : Own s h
   laid =
       ap (λ (k : ℕ). setAll k news (overwrite (encode s₁) k (bytesOf news))) from₁
       ∙ grown s₁ v₁ (p .before) ante post (p .after) h spare gain dat (ap (put p) (squeezed h a mid once)) room-is sound-new
-      ∙ sym (ap (λ (bs : List Block). encode (record { links = s .links; blocks = bs })) (ap (λ (c : Choice). layoutIn h a c (s .blocks)) (x .is-bay) ∙ ap (put p) (layout-is h a mid once (omega (arith, x .grows, b-is)))))
+      ∙ sym (ap (λ (bs : List Block). encode (record { chain = s .chain; blocks = bs })) (ap (λ (c : Choice). layoutIn h a c (s .blocks)) (x .is-bay) ∙ ap (put p) (layout-is h a mid once (omega (arith, x .grows, b-is)))))
 
 -- ---- in the bytes of a zone
 

@@ -14,7 +14,7 @@ use Rattle.access.specs.Edit.{dataOf}
 use Rattle.find_bay.specs.Spots.{freeTotal, used, gapOf}
 use Rattle.compact_bay.specs.Tidy.{Low}
 use Rattle.compact_bay.proofs.Squeeze.{handles-append}
-use Rattle.zone.specs.Bay.{sized}
+use Rattle.calls.specs.State.{sized}
 use Rattle.bay_changes.proofs.Own.{ownBlocks}
 use Rattle.resize_layout.specs.Layout.{sizeOnly}
 

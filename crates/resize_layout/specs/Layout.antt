@@ -12,7 +12,7 @@ use Rattle.bigendian.specs.BigEndian.{slice, overwrite}
 use Rattle.row.specs.Row.{Sound, blocksOf, bytesOf}
 use Rattle.compact_bay.specs.Tidy.{Low, setAll}
 use Rattle.grow_bay.specs.Grow.{grownBytes}
-use Rattle.zone.specs.Bay.{sized}
+use Rattle.calls.specs.State.{sized}
 use Rattle.bay_spots.specs.Choose.{firstBy}
 use Rattle.bay_changes.specs.OwnBay.{ownBlocks}
 
@@ -31,7 +31,7 @@ layoutIn h a none bs = bs
 layoutIn h a (some p) bs = put p (layout h a (p .inside))
 
 unfoldable pub laidOut : ℕ → ℕ → Structure → Structure
-laidOut h a s = record { links = s .links; blocks = layoutIn h a (firstBy (ownBlocks h a) (bays (s .blocks))) (s .blocks) }
+laidOut h a s = record { chain = s .chain; blocks = layoutIn h a (firstBy (ownBlocks h a) (bays (s .blocks))) (s .blocks) }
 
 -- the own bay of handle h, from one offset up to another, has room for its growth from b to a data bytes
 pub record Own (s : Structure) (h from end sum b a : ℕ) : Type 0 where

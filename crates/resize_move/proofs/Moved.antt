@@ -42,13 +42,13 @@ module _ (s : Structure) (v : Valid s) (h from to at n need : ℕ) (d : List ℕ
   post = x .post
 
   abbrev fs : Structure
-  fs = record { links = h ∷ s .links; blocks = release h (s .blocks) }
+  fs = record { chain = h ∷ s .chain; blocks = release h (s .blocks) }
 
-  freed-is : freed h s ≡ record { links = h ∷ s .links; blocks = release h (s .blocks) }
+  freed-is : freed h s ≡ record { chain = h ∷ s .chain; blocks = release h (s .blocks) }
   unfolding freed
   freed-is = refl
 
-  vf : Valid (record { links = h ∷ s .links; blocks = release h (s .blocks) })
+  vf : Valid (record { chain = h ∷ s .chain; blocks = release h (s .blocks) })
   vf = subst Valid freed-is (free-valid h s v from to sp)
 
   -- ---- the handles
@@ -101,14 +101,14 @@ module _ (s : Structure) (v : Valid s) (h from to at n need : ℕ) (d : List ℕ
         long-two (sp .pre) (free (sizes (sp .mid)) ∷ sp .post),
       )
 
-  start-f : start (record { links = h ∷ s .links; blocks = release h (s .blocks) }) ≡ start s
+  start-f : start (record { chain = h ∷ s .chain; blocks = release h (s .blocks) }) ≡ start s
   start-f = omega (arith, count-less)
 
   abbrev new : List Block
   new = carvedFrom need h n
 
   abbrev s₂ : Structure
-  s₂ = record { links = s .links; blocks = pre ++ (carvedFrom need h n ++ post) }
+  s₂ = record { chain = s .chain; blocks = pre ++ (carvedFrom need h n ++ post) }
 
   count₂ : relocCount (pre ++ (carvedFrom need h n ++ post)) ≡ relocCount (s .blocks)
   unfolding handlesOf
@@ -125,7 +125,7 @@ module _ (s : Structure) (v : Valid s) (h from to at n need : ℕ) (d : List ℕ
         long-two pre ((free n ∷ []) ++ post),
       )
 
-  start₂ : start (record { links = s .links; blocks = pre ++ (carvedFrom need h n ++ post) }) ≡ start s
+  start₂ : start (record { chain = s .chain; blocks = pre ++ (carvedFrom need h n ++ post) }) ≡ start s
   start₂ = omega (arith, count₂)
 
   place₂ : placeOf h (start s₂) (pre ++ (carvedFrom need h n ++ post)) ≡ at + 4
@@ -135,7 +135,7 @@ module _ (s : Structure) (v : Valid s) (h from to at n need : ℕ) (d : List ℕ
   data₂ = data-at h pre (replicate (need - 4) 0) (gapOf (n - need) ++ post) none-pre
 
   v₂ : Valid s₂
-  v₂ = carved-valid fs vf pre post need h n (s .links) (x .hole) refl (x .low) (x .fits) (x .four) (x .high)
+  v₂ = carved-valid fs vf pre post need h n (s .chain) (x .hole) refl (x .low) (x .fits) (x .four) (x .high)
 
   -- ---- the writes one after the other, as the calls do them
 
@@ -146,7 +146,7 @@ module _ (s : Structure) (v : Valid s) (h from to at n need : ℕ) (d : List ℕ
   C = bytesOf (carvedFrom need h n)
 
   abbrev k : ℕ
-  k = headOf (s .links)
+  k = headOf (s .chain)
 
   stored : overwrite (encode s₂) (at + 4) d ≡ encode (movedTo h need n d pre post s)
   stored =
@@ -158,7 +158,7 @@ module _ (s : Structure) (v : Valid s) (h from to at n need : ℕ) (d : List ℕ
       let o : at ≡ start fs + sizes pre = omega (arith, x .is-at, start-f) in
       ap (λ (y : List ℕ). overwrite (carvedBytes y need h k at n) (at + 4) d) (free-bytes h s v from to sp ∙ ap encode freed-is)
       ∙ ap (λ (y : List ℕ). overwrite y (at + 4) d)
-      (ap (λ (i : ℕ). carvedBytes (encode fs) need h k i n) o ∙ carved fs vf pre post need h n (s .links) (x .hole) refl (x .low) (x .fits) (x .four) (x .high))
+      (ap (λ (i : ℕ). carvedBytes (encode fs) need h k i n) o ∙ carved fs vf pre post need h n (s .chain) (x .hole) refl (x .low) (x .fits) (x .four) (x .high))
       ∙ stored
 
   -- ---- in the layout

@@ -10,10 +10,11 @@ use Rattle.format.proofs.Count.{occurs}
 use Rattle.structure.specs.Structure.{Block, free, fixed, reloc}
 use Rattle.structure.specs.Valid.{handlesOf}
 use Rattle.find_bay.specs.Spots.{Spot, baysFrom, bays, Choice, none, some}
-use Rattle.zone.specs.PickBays.{Bays, onLow, AllS}
+use Rattle.calls.specs.Bays.{Bays}
+use Rattle.zone.specs.PickBays.{onLow, AllS}
 use Rattle.zone.specs.Bay.{Cell}
-use Rattle.zone.specs.OnBays.{Fixed, own}
-use Rattle.zone.specs.ZoneBays.{zoneBays}
+use Rattle.calls.specs.State.{Fixed}
+use Rattle.zone.specs.Search.{own}
 use Rattle.zone.specs.Group.{flatten}
 use Rattle.zone.proofs.Sound.{Sound}
 use Rattle.bay_spots.proofs.Spots.{firstBy, Paired, neither, both}
@@ -57,9 +58,9 @@ unfolding handlesOf occurs
 no-room h a bs p l e t = no-own h a (bays bs) p (omega (arith, in-bays h [] [] bs)) e t
 
 -- and none of the bays is changed as the own one
-pub no-own-bay : (h a : ℕ) (f : List Cell → List Cell) (s : Bays (List Cell) Fixed) → AllS Sound s → firstBy (ownBlocks h a) (bays (flatten s)) ≡ none → onLow (own zoneBays h a) f s ≡ absent
-no-own-bay h a f s d e = go (onLow (own zoneBays h a) f s) (firstBy (ownBlocks h a) (bays (flatten s))) e (low-spot Sound (own zoneBays h a) (ownBlocks h a) (own-flat h a) f s d)
+pub no-own-bay : (h a : ℕ) (f : List Cell → List Cell) (s : Bays (List Cell) Fixed) → AllS Sound s → firstBy (ownBlocks h a) (bays (flatten s)) ≡ none → onLow (own h a) f s ≡ absent
+no-own-bay h a f s d e = go (onLow (own h a) f s) (firstBy (ownBlocks h a) (bays (flatten s))) e (low-spot Sound (own h a) (ownBlocks h a) (own-flat h a) f s d)
   where
-    go : (o : Option (Bays (List Cell) Fixed)) (c : Choice) → c ≡ none → Paired (BayAt Sound (own zoneBays h a) f [] s) o c → o ≡ absent
+    go : (o : Option (Bays (List Cell) Fixed)) (c : Choice) → c ≡ none → Paired (BayAt Sound (own h a) f [] s) o c → o ≡ absent
     go absent none q neither = refl
     go (present u) (some p) q (both r) = let z : _≡_ {A = ℕ} 0 1 = cc in let x : ⊥ = omega arith in absurd x

@@ -32,7 +32,7 @@ pub record Move (s : Structure) (h from to at n need : ℕ) (d : List ℕ) : Typ
 
 -- the structure after it: the new block is zero behind d
 abbrev pub movedTo : ℕ → ℕ → ℕ → List ℕ → List Block → List Block → Structure → Structure
-movedTo h need n d pre post s = store h 0 d (record { links = s .links; blocks = pre ++ (carvedFrom need h n ++ post) })
+movedTo h need n d pre post s = store h 0 d (record { chain = s .chain; blocks = pre ++ (carvedFrom need h n ++ post) })
 
 -- the writes: the new block, its data, the master, the old place
 abbrev pub movedBytes : List ℕ → ℕ → ℕ → ℕ → ℕ → ℕ → ℕ → List ℕ → List ℕ

@@ -16,7 +16,7 @@ use Rattle.resize_move.specs.Move.{Apart}
 unfoldable pub relocated : ℕ → ℕ → List ℕ → Structure → Structure
 relocated h need d s =
     store h 0 d
-    (record { links = s .links; blocks = settleIn need h (firstFit need (bays (release h (s .blocks)))) (release h (s .blocks)) })
+    (record { chain = s .chain; blocks = settleIn need h (firstFit need (bays (release h (s .blocks)))) (release h (s .blocks)) })
 
 -- the bay q that is taken once the old place is free is the bay p of the blocks as they are: it is not the block's own
 pub record OtherBay (h need : ℕ) (bs : List Block) (p q : Spot) : Type 0 where

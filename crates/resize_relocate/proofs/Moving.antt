@@ -88,11 +88,11 @@ data-inside h p x e l = data-none h (p .before) (x ++ p .after) e ∙ data-first
 -- ---- the move into the free block of n bytes in the bay p, which has the blocks mid and then r around the hole
 
 module _ (s : Structure) (p q r : Spot) (h b need at n : ℕ) (mid : List Block) (o : OtherBay h need (s .blocks) p q)
-    (v : Valid (record { links = s .links; blocks = put p mid })) (none : occurs h (handlesOf mid) ≡ 0) (sz : sizes mid ≡ sizes (p .inside)) (hole : mid ≡ put r (free n ∷ []))
-    (ea : at ≡ start (record { links = s .links; blocks = put p mid }) + sizes (p .before) + sizes (r .before)) (fits : need ≤ n) (low : 4 ≤ need) (high : need ≤ 32764) (four : need % 4 ≡ 0)
+    (v : Valid (record { chain = s .chain; blocks = put p mid })) (none : occurs h (handlesOf mid) ≡ 0) (sz : sizes mid ≡ sizes (p .inside)) (hole : mid ≡ put r (free n ∷ []))
+    (ea : at ≡ start (record { chain = s .chain; blocks = put p mid }) + sizes (p .before) + sizes (r .before)) (fits : need ≤ n) (low : 4 ≤ need) (high : need ≤ 32764) (four : need % 4 ≡ 0)
     (live : 0 < occurs h (handlesOf (put p mid))) (eb : b ≡ length (dataOf h (put p mid))) (small : b + 4 ≤ need) (set : settle need h (p .inside) ≡ put r (carvedFrom need h n)) where
   abbrev s₁ : Structure
-  s₁ = record { links = s .links; blocks = put p mid }
+  s₁ = record { chain = s .chain; blocks = put p mid }
 
   parts : put p mid ≡ (p .before ++ r .before) ++ ((free n ∷ []) ++ (r .after ++ p .after))
   parts = ap (put p) hole ∙ regroup (p .before) (r .before) (free n ∷ []) (r .after) (p .after)
@@ -193,4 +193,4 @@ module _ (s : Structure) (p q r : Spot) (h b need at n : ℕ) (mid : List Block)
       let sp₁ = span-here from to sp in
       ap (λ (u : Structure). movedBytes (encode s₁) h from to at n need (dataOf h (u .blocks))) back
       ∙ moved-bytes s₁ v h from to at n need (dataOf h (put p mid)) (move from to sp₁)
-      ∙ ap (λ (x : List Block). encode (store h 0 (dataOf h (put p mid)) (record { links = s .links; blocks = x }))) (sym new-blocks)
+      ∙ ap (λ (x : List Block). encode (store h 0 (dataOf h (put p mid)) (record { chain = s .chain; blocks = x }))) (sym new-blocks)

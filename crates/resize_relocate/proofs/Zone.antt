@@ -56,10 +56,10 @@ module _ (s : Structure) (v : Valid s) (h b need a e at n : ℕ) (t : Bool) (x :
   -- in a hole that is there
   module _ (r : Spot) (er : firstFit need (holes mid) ≡ some r) (ea : at ≡ a + sizes (r .before)) (en : n ≡ freeTotal (r .inside)) where
     abbrev s₀ : Structure
-    s₀ = record { links = s .links; blocks = put p mid }
+    s₀ = record { chain = s .chain; blocks = put p mid }
 
     same : s ≡ s₀
-    same = λ i. record { links = s .links; blocks = bay .parts i }
+    same = λ i. record { chain = s .chain; blocks = bay .parts i }
 
     v₀ : Valid s₀
     v₀ = subst Valid same v
@@ -101,7 +101,7 @@ module _ (s : Structure) (v : Valid s) (h b need a e at n : ℕ) (t : Bool) (x :
     r₁ = spot (used mid) (free n ∷ []) []
 
     abbrev s₁ : Structure
-    s₁ = record { links = s .links; blocks = put p (squeeze mid) }
+    s₁ = record { chain = s .chain; blocks = put p (squeeze mid) }
 
     v₁ : Valid s₁
     v₁ = bay-valid s v p bay

@@ -23,10 +23,10 @@ use Rattle.access.proofs.PutLaws.{data-fits}
 use Rattle.access.proofs.Size.{size-none}
 use Rattle.release.proofs.Act.{len-write, write-write}
 use Rattle.calls.specs.Calls.{Card, Answer, roster, shows, lists}
-use Rattle.zone.specs.OnBytes.{callBytes}
-use Rattle.zone.specs.PickBays.{Bays}
+use Rattle.zone.specs.Call.{call}
+use Rattle.calls.specs.Bays.{Bays}
 use Rattle.zone.specs.Bay.{Cell}
-use Rattle.zone.specs.OnBays.{Fixed}
+use Rattle.calls.specs.State.{Fixed}
 use Rattle.zone.specs.Group.{group}
 use Rattle.zone.specs.Roster.{cardBytes, cardsIn}
 use Rattle.tell.proofs.Opened.{well, fields-of}
@@ -164,10 +164,10 @@ baysOf s = group (start (decode s)) (decode s .blocks)
 
 module _ (s : List ℕ) (y : Bytes s) (h : wellFormed s ≡ true) where
   -- the answer where the second buffer is long enough, and where it is not
-  accepted : (entry : List ℕ) → 8 * countOf s ≤ length entry → (callBytes (roster entry) s) .answer ≡ lists (countOf s) (bayCards (baysOf s)) (drop (8 * countOf s) entry)
+  accepted : (entry : List ℕ) → 8 * countOf s ≤ length entry → (call (roster entry) s) .answer ≡ lists (countOf s) (bayCards (baysOf s)) (drop (8 * countOf s) entry)
   accepted entry l = rw (h, ← count-live s y h, le-leb (8 * countOf s) (length entry) l)
 
-  too-short : (entry : List ℕ) → length entry < 8 * countOf s → (callBytes (roster entry) s) .answer ≡ shows 10 entry
+  too-short : (entry : List ℕ) → length entry < 8 * countOf s → (call (roster entry) s) .answer ≡ shows 10 entry
   too-short entry l = rw (h, ← count-live s y h, lt-leb (8 * countOf s) (length entry) l)
 
 pub plan-1 : (s : List ℕ) (have : ℕ) (ok : Bool) → ok ≡ wellFormed s → not ok ≡ true → Planned s have 1 0 0

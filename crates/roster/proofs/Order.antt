@@ -18,9 +18,9 @@ use Rattle.structure.proofs.Table.{count-is}
 use Rattle.access.specs.Edit.{dataOf, placeIn, dataIn, IsZone}
 use Rattle.access.proofs.Zone.{whole-of}
 use Rattle.calls.specs.Calls.{Card}
-use Rattle.zone.specs.PickBays.{Bays, last, more, concatS}
-use Rattle.zone.specs.Bay.{Item, Cell, free as gapCell, held, items}
-use Rattle.zone.specs.OnBays.{Fixed, card}
+use Rattle.calls.specs.Bays.{Bays, last, more, concatS}
+use Rattle.calls.specs.State.{Item, Fixed, card}
+use Rattle.zone.specs.Bay.{Cell, free as gapCell, held, items}
 use Rattle.zone.specs.Group.{inFront, group}
 use Rattle.roster.specs.Listed.{cardOf, cardsOf, allCards}
 

@@ -15,13 +15,10 @@ use Rattle.structure.specs.Valid.{handlesOf}
 use Rattle.structure.proofs.Sound.{valid}
 use Rattle.structure.proofs.Round.{offset-le}
 use Rattle.calls.specs.Calls.{Card, roster}
-use Rattle.zone.specs.OnBays.{step}
-use Rattle.zone.specs.ZoneBays.{zoneBays}
-use Rattle.zone.specs.OnBytes.{callBytes, inBays}
+use Rattle.zone.specs.Call.{call}
 use Rattle.zone.specs.Group.{group}
 use Rattle.zone.specs.Roster.{cardsIn}
 use Rattle.zone.specs.Promise.{Promise}
-use Rattle.zone.proofs.Tied.{promise-of}
 use Rattle.tell.proofs.Outcomes.{unchanged}
 use Rattle.tell.proofs.CheckLaws.{liveS}
 use Rattle.roster.specs.Listed.{Rostered, rosterAnswer}
@@ -51,11 +48,11 @@ abbrev hasRoom : List ℕ → List ℕ → Bool
 hasRoom zone entry = leb (recordSize * liveS (group (start (decode zone)) (decode zone .blocks))) (length entry)
 
 -- the definition's records are those of the blocks
-records-are : (zone entry : List ℕ) → wellFormed zone ≡ true → 0 ≡ (callBytes (roster entry) zone) .answer .number
-    → (callBytes (roster entry) zone) .answer .records ≡ blockCards (decode zone .blocks)
+records-are : (zone entry : List ℕ) → wellFormed zone ≡ true → 0 ≡ (call (roster entry) zone) .answer .number
+    → (call (roster entry) zone) .answer .records ≡ blockCards (decode zone .blocks)
 records-are zone entry w z = go (hasRoom zone entry) refl
   where
-    go : (t : Bool) → hasRoom zone entry ≡ t → (callBytes (roster entry) zone) .answer .records ≡ blockCards (decode zone .blocks)
+    go : (t : Bool) → hasRoom zone entry ≡ t → (call (roster entry) zone) .answer .records ≡ blockCards (decode zone .blocks)
     go true e = rw (w, e) (sym (cards-are (start (decode zone)) (decode zone .blocks)))
     go false e = let x : ⊥ = omega (arith, rw (w, e) at z) in absurd x
 
@@ -68,23 +65,16 @@ entries-are zone entry exit v y w r h =
 
 -- ---- the promise of a call
 
-no-second : (zone entry : List ℕ) → _≡_ {A = ℕ} 0 ((callBytes (roster entry) zone) .answer .second)
+no-second : (zone entry : List ℕ) → _≡_ {A = ℕ} 0 ((call (roster entry) zone) .answer .second)
 no-second zone entry = go (wellFormed zone) refl (hasRoom zone entry) refl
   where
-    go : (t : Bool) → wellFormed zone ≡ t → (u : Bool) → hasRoom zone entry ≡ u → _≡_ {A = ℕ} 0 ((callBytes (roster entry) zone) .answer .second)
+    go : (t : Bool) → wellFormed zone ≡ t → (u : Bool) → hasRoom zone entry ≡ u → _≡_ {A = ℕ} 0 ((call (roster entry) zone) .answer .second)
     go true w true e = rw (w, e)
     go true w false e = rw (w, e)
     go false w u e = rw w
 
-same-next : (zone entry : List ℕ) → (step zoneBays (roster entry) (inBays (length zone) (decode zone))) .next ≡ inBays (length zone) (decode zone)
-same-next zone entry = go (hasRoom zone entry) refl
-  where
-    go : (u : Bool) → hasRoom zone entry ≡ u → (step zoneBays (roster entry) (inBays (length zone) (decode zone))) .next ≡ inBays (length zone) (decode zone)
-    go true e = rw e
-    go false e = rw e
-
 pub roster-promise : (zone entry exit : List ℕ) (n v : ℕ) → Bytes zone → Rostered zone entry n v exit → Promise (roster entry) zone (rosterAnswer n v exit) zone
-roster-promise zone entry exit n v y r =
-    promise-of (roster entry) zone zone (rosterAnswer n v exit) y
-    (record { number = r .number; value = r .value; second = no-second zone entry; bytes = r .later; records = r .records })
-    (sym (unchanged (roster entry) zone y (same-next zone entry)))
+roster-promise zone entry exit n v y r = record {
+  answer = record { number = r .number; value = r .value; second = no-second zone entry; bytes = r .later; records = r .records };
+  bytes = sym (unchanged (roster entry) zone y refl);
+}

@@ -10,7 +10,7 @@ use Rattle.block_type.specs.Limits.{recordSize}
 use Rattle.format.specs.WellFormed.{wellFormed, countOf, lengthField, mastersField, offsets}
 use Rattle.access.specs.Edit.{placeIn, dataIn}
 use Rattle.calls.specs.Calls.{Card, roster, shows}
-use Rattle.zone.specs.OnBytes.{callBytes}
+use Rattle.zone.specs.Call.{call}
 use Rattle.zone.specs.Roster.{cardBytes, cardsIn}
 pub use Rattle.zone.specs.Roster.{rosterAnswer}
 
@@ -18,10 +18,10 @@ pub use Rattle.zone.specs.Roster.{rosterAnswer}
 -- refusal and the value are the definition's; behind the records the buffer is as it was, all of it when refused; the records are
 -- the definition's in some order
 pub record Rostered (zone entry : List ℕ) (n v : ℕ) (exit : List ℕ) : Type 0 where
-  pub number : n ≡ (callBytes (roster entry) zone) .answer .number
-  pub value : v ≡ (callBytes (roster entry) zone) .answer .value
-  pub later : drop (recordSize * v) exit ≡ (callBytes (roster entry) zone) .answer .bytes
-  pub records : List·Permᴰ (cardsIn v exit) ((callBytes (roster entry) zone) .answer .records)
+  pub number : n ≡ (call (roster entry) zone) .answer .number
+  pub value : v ≡ (call (roster entry) zone) .answer .value
+  pub later : drop (recordSize * v) exit ≡ (call (roster entry) zone) .answer .bytes
+  pub records : List·Permᴰ (cardsIn v exit) ((call (roster entry) zone) .answer .records)
 
 abbrev pub cardOf : ℕ → List ℕ → Card
 cardOf h d = record { handle = h; amount = length d }
@@ -42,5 +42,5 @@ pub record Entered (z s : List ℕ) (at h : ℕ) (y : List ℕ) (r : ℕ) : Type
 
 -- the refusal n for a second buffer of some length; or k records are to be written, and l is the zone's length
 pub data Planned (s : List ℕ) (have n k l : ℕ) : Type 0 where
-  refused : (n ≡ 0 → ⊥) → ((entry : List ℕ) → length entry ≡ have → shows n entry ≡ (callBytes (roster entry) s) .answer) → Planned s have n k l
+  refused : (n ≡ 0 → ⊥) → ((entry : List ℕ) → length entry ≡ have → shows n entry ≡ (call (roster entry) s) .answer) → Planned s have n k l
   ready : n ≡ 0 → wellFormed s ≡ true → Bytes s → l ≡ lengthField s → k ≡ countOf s → 8 * k ≤ have → Planned s have n k l

@@ -10,17 +10,17 @@ use borrow.Author.Tests.{eqb-true, eqb-false, ne-eqb}
 use Rattle.bigendian.specs.BigEndian.{Bytes}
 use Rattle.format.specs.WellFormed.{wellFormed, lengthField}
 use Rattle.structure.specs.Structure.{Structure, sizes, len, encode, decode}
-use Rattle.calls.specs.Calls.{told, answers, shrink}
+use Rattle.calls.specs.Calls.{told, shrink}
 use Rattle.find_bay.specs.Spots.{Spot}
 use Rattle.compact_bay.proofs.Squeeze.{used-sizes}
-use Rattle.zone.specs.PickBays.{onLast, lastS}
+use Rattle.calls.specs.Bays.{onLast, lastS}
+use Rattle.calls.specs.State.{Out, done}
 use Rattle.zone.specs.Bay.{Cell, baySum, takeHigh}
-use Rattle.zone.specs.OnBays.{Out, done, step}
-use Rattle.zone.specs.ZoneBays.{zoneBays}
-use Rattle.zone.specs.OnBytes.{Zone, inBays, inLine, result, replacing, callBytes}
+use Rattle.zone.specs.Work.{Zone}
+use Rattle.zone.specs.Call.{inBays, inLine, result, replacing, call}
 use Rattle.zone.proofs.Keep.{Whole, len-line}
 use Rattle.zone.proofs.Run.{beyond}
-use Rattle.call_laws.proofs.Outcome.{call-of, call-same, next-whole}
+use Rattle.call_laws.proofs.Outcome.{step, none-lent, call-of, call-same, next-whole}
 use Rattle.surgery.proofs.Replace.{sizes-parts}
 use Rattle.zone.specs.Group.{flatten}
 use Rattle.bay_changes.proofs.Edges.{high-bay}
@@ -42,10 +42,10 @@ module _ (s : List ℕ) (k : ℕ) (y : Bytes s) (wf : wellFormed s ≡ true) whe
   abbrev pub n : ℕ
   n = min (k / 4 * 4) (baySum (lastS (z .bays)))
 
-  abbrev pub next : Zone
-  next = record { buf = z .buf; len = z .len - n; m = z .m; chain = z .chain; bays = onLast (takeHigh n) (z .bays) }
+  abbrev next : Zone
+  next = record { buf = z .buf; len = z .len - n; chain = z .chain; bays = onLast (takeHigh n) (z .bays) }
 
-  pub step-is : (t : Bool) → eqb n 0 ≡ t → step zoneBays (shrink k) z ≡ cond t (done 0 z) (done n next)
+  step-is : (t : Bool) → eqb n 0 ≡ t → step (shrink k) z ≡ cond t (done 0 z) (done n next)
   step-is t e = ap (λ (t : Bool). cond t (done 0 z) (done n next)) e
 
   is-last : LastIs d (z .bays) n
@@ -74,41 +74,41 @@ module _ (s : List ℕ) (k : ℕ) (y : Bytes s) (wf : wellFormed s ≡ true) whe
     some-n : n ≡ 0 → ⊥
     some-n = eqb-false n 0 e
 
-    is-done : step zoneBays (shrink k) z ≡ done n next
+    is-done : step (shrink k) z ≡ done n next
     is-done = step-is false e
 
     line : inLine next ≡ stripped n d
-    line = (λ j. record { links = d .links; blocks = blocks-are j }) ∙ sym (stripped-is n d p (is-last .chosen))
+    line = (λ j. record { chain = d .chain; blocks = blocks-are j }) ∙ sym (stripped-is n d p (is-last .chosen))
       where
         blocks-are : flatten (onLast (takeHigh n) (z .bays)) ≡ p .before ++ takeOff n (p .inside)
         blocks-are = is-last .taken ∙ ap (p .before ++_) (take-flat n (omega (arith, some-n)) (lastS (z .bays)) ∙ ap (takeOff n) (sym (is-last .inside)))
 
     shorter : len (stripped n d) ≡ len d - n
     shorter =
-        let w : Whole next = subst (λ (o : Out (List Cell)). Whole (o .next)) is-done (next-whole s y wf (shrink k) tt) in
+        let w : Whole next = subst (λ (o : Out (List Cell)). Whole (o .next)) is-done (next-whole s y wf (shrink k) none-lent) in
         ap len (sym line) ∙ len-line next w
 
     left : (m l : ℕ) → n ≤ m → l ≡ m - n → replicate (m - l) 0 ++ drop (max m l) s ≡ replicate n 0 ++ drop m s
     left m l h q = let a : m - l ≡ n = omega arith in let b : max m l ≡ m = omega arith in rw (a, b)
 
-    cut : shrinkOut s k ≡ callBytes (shrink k) s
+    cut : shrinkOut s k ≡ call (shrink k) s
     cut =
         flat-done some-n
         ∙ ap (λ (t : List ℕ). result (told 0 n) (encode (stripped n d) ++ t)) (ap (replicate n 0 ++_) (sym (beyond s y wf)) ∙ sym (left (len d) (len (stripped n d)) small shorter))
         ∙ ap (λ (u : Structure). result (told 0 n) (replacing s d u)) (sym line)
         ∙ sym (call-of s y wf (shrink k) (done n next) is-done)
 
-  in-well : shrinkOut s k ≡ callBytes (shrink k) s
+  in-well : shrinkOut s k ≡ call (shrink k) s
   in-well = go (eqb n 0) refl
     where
-      go : (t : Bool) → eqb n 0 ≡ t → shrinkOut s k ≡ callBytes (shrink k) s
-      go true e = flat-same (eqb-true n 0 e) ∙ sym (call-same s y wf (shrink k) (answers 0) (step-is true e))
+      go : (t : Bool) → eqb n 0 ≡ t → shrinkOut s k ≡ call (shrink k) s
+      go true e = flat-same (eqb-true n 0 e) ∙ sym (call-same s y wf (shrink k) (told 0 0) (step-is true e))
       go false e = cut e
 
-pub shrink-is : (s : List ℕ) (k : ℕ) → Bytes s → shrinkOut s k ≡ callBytes (shrink k) s
+pub shrink-is : (s : List ℕ) (k : ℕ) → Bytes s → shrinkOut s k ≡ call (shrink k) s
 unfolding shrinkOut
 shrink-is s k y = go (wellFormed s) refl
   where
-    go : (t : Bool) → wellFormed s ≡ t → shrinkOut s k ≡ callBytes (shrink k) s
+    go : (t : Bool) → wellFormed s ≡ t → shrinkOut s k ≡ call (shrink k) s
     go true e = in-well s k y e
     go false e = rw e

@@ -12,7 +12,7 @@ use Rattle.bigendian.specs.BigEndian.{fromBE, slice}
 use Rattle.format.specs.WellFormed.{wellFormed, lengthField}
 use Rattle.structure.specs.Structure.{decodeZone, decode, encode}
 use Rattle.calls.specs.Calls.{told, shrink}
-use Rattle.zone.specs.OnBytes.{result, callBytes}
+use Rattle.zone.specs.Call.{result, call}
 use Rattle.call_laws.proofs.Plan.{bytes-of}
 use Rattle.shrink.proofs.Bays.{shrink-is}
 use Rattle.shrink.specs.Shrunk.{strips, stripped, shrinkOut}
@@ -58,7 +58,7 @@ module _ (s : List ℕ) (k number l n a e sum tail : ℕ) where
       call-word = record { fits = omega (arith, ask-sub (take l s) n a e sum tail call-site, ask-end (take l s) n a e sum tail call-site) }
 
       pub call-end : (y : List ℕ) → ((i : ℕ) → Fits w8 (getD s i 0)) → y ≡ encode (stripped n (decodeZone (take l s))) ++ replicate n 0
-          → result (told 0 n) (y ++ drop l s) ≡ callBytes (shrink k) s
+          → result (told 0 n) (y ++ drop l s) ≡ call (shrink k) s
       call-end y g q = done s k l n y (ready .well) (ready .is-len) (ready .is-strip) ne q ∙ shrink-is s k (bytes-of s g)
 
     flat-no : n ≡ 0 → result (told number 0) s ≡ shrinkOut s k
@@ -71,5 +71,5 @@ module _ (s : List ℕ) (k number l n a e sum tail : ℕ) where
             let i : strips (decodeZone (take (lengthField s) s)) k ≡ 0 = ap (λ (m : ℕ). strips (decodeZone (take m s)) k) (sym el) ∙ sym q ∙ z in
             rw (w, c, i)
 
-    pub call-no : ((i : ℕ) → Fits w8 (getD s i 0)) → n ≡ 0 → result (told number 0) s ≡ callBytes (shrink k) s
+    pub call-no : ((i : ℕ) → Fits w8 (getD s i 0)) → n ≡ 0 → result (told number 0) s ≡ call (shrink k) s
     call-no g z = flat-no z ∙ shrink-is s k (bytes-of s g)

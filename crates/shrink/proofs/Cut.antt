@@ -62,7 +62,7 @@ module _ (s : Structure) (v : Valid s) (pre : List Block) (k n : ℕ) (ws : s .b
   u = pre ++ gapOf (k - n)
 
   abbrev s′ : Structure
-  s′ = record { links = s .links; blocks = u }
+  s′ = record { chain = s .chain; blocks = u }
 
   abbrev zs : List ℕ
   zs = replicate n 0
@@ -71,14 +71,14 @@ module _ (s : Structure) (v : Valid s) (pre : List Block) (k n : ℕ) (ws : s .b
   sound = rw ws at (valid-sound s v)
 
   counts : count s ≡ count s′
-  counts = ap (λ (x : ℕ). x + length (s .links)) (ap relocCount ws ∙ same-count pre (free k ∷ []) (gapOf (k - n)) (no-handle k) (gap-handles (k - n)))
+  counts = ap (λ (x : ℕ). x + length (s .chain)) (ap relocCount ws ∙ same-count pre (free k ∷ []) (gapOf (k - n)) (no-handle k) (gap-handles (k - n)))
 
   lens : len s′ + n ≡ len s
   lens = omega (arith, counts, ap sizes ws, sizes-append pre (free k ∷ []), sizes-append pre (gapOf (k - n)), gap-sizes (k - n), one-size k)
 
   values : (h : ℕ) → value s h ≡ value s′ h
   values h =
-      ap (λ (x : ℕ). x + nextOf h (s .links))
+      ap (λ (x : ℕ). x + nextOf h (s .chain))
       (ap₂ (placeOf h) (ap (λ (m : ℕ). 16 + 4 * m) counts) ws ∙ same-place pre (free k ∷ []) (gapOf (k - n)) (no-handle k) (gap-handles (k - n)) h (start s′))
 
   gap-long : length (bytesOf (gapOf (k - n))) ≡ k - n
@@ -96,7 +96,7 @@ module _ (s : Structure) (v : Valid s) (pre : List Block) (k n : ℕ) (ws : s .b
 
   pub cut-end : (l : ℕ) → l + n ≡ len s → overwrite (overwrite (encode s) (start s + sizes pre) (bytesOf (gapOf (k - n)) ++ zs)) 0 (toBE 4 l) ≡ encode s′ ++ zs
   cut-end l el =
-      let c = headOf (s .links) in
+      let c = headOf (s .chain) in
       ap (λ (x : List ℕ). overwrite (overwrite x (start s + sizes pre) (bytesOf (gapOf (k - n)) ++ zs)) 0 (toBE 4 l)) (encode-img s)
       ∙ ap (λ (x : List ℕ). overwrite x 0 (toBE 4 l)) (img-rest (len s) (start s) (count s) c (sizes pre) (start s + sizes pre) (value s) (bytesOf (s .blocks)) (bytesOf (gapOf (k - n)) ++ zs) refl)
       ∙ lay-length (len s) l (start s) (count s) c (map (value s) (offsets 16 (count s))) (overwrite (bytesOf (s .blocks)) (sizes pre) (bytesOf (gapOf (k - n)) ++ zs))

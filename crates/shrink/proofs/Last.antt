@@ -6,9 +6,9 @@ use Prim.Native.Nat.{ℕ}
 use lib.Dec.{leb·zero}
 use Rattle.structure.specs.Structure.{Structure, Block, start}
 use Rattle.find_bay.specs.Spots.{freeTotal, Spot, Choice, none, some, bays}
-use Rattle.zone.specs.PickBays.{Bays, onLast, lastS}
+use Rattle.calls.specs.Bays.{Bays, onLast, lastS}
 use Rattle.zone.specs.Bay.{Cell, baySum, takeHigh}
-use Rattle.zone.specs.OnBays.{Fixed}
+use Rattle.calls.specs.State.{Fixed}
 use Rattle.zone.specs.Group.{group, flatten}
 use Rattle.zone.proofs.GroupLaws.{flatten-group}
 use Rattle.bay_spots.proofs.Spots.{blocksIn, sum-flat, orSpot, lastBy}

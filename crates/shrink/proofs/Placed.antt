@@ -23,7 +23,7 @@ use Rattle.shrink.specs.Shrunk.{lastBay, stripped}
 use Rattle.shrink.specs.Site.{Site, SiteIn, site-in}
 use Rattle.shrink.proofs.Cut.{cut-end}
 
-pub stripped-is : (n : ℕ) (s : Structure) (p : Spot) → lastBay s ≡ some p → stripped n s ≡ record { links = s .links; blocks = p .before ++ takeOff n (p .inside) }
+pub stripped-is : (n : ℕ) (s : Structure) (p : Spot) → lastBay s ≡ some p → stripped n s ≡ record { chain = s .chain; blocks = p .before ++ takeOff n (p .inside) }
 unfolding stripped
 stripped-is n s p e = rw e
 
@@ -56,7 +56,7 @@ module _ (s : Structure) (v : Valid s) (n a e sum tail : ℕ) (x : Site s n a e 
       ap (λ (y : List ℕ). overwrite y 0 (toBE 4 (e - n))) (open₁ .bytes ∙ ap (λ (o : ℕ). overwrite (encode (open₁ .zone)) o (bytesOf (gapOf (k - n)) ++ replicate n 0)) at)
       ∙ cut-end (open₁ .zone) (open₁ .valid) (open₁ .pre) k n whole (hole .low) (hole .fits) (hole .four) (hole .four-k) (omega (arith, hole .order, hole .inside, hole .short)) (e - n) length-of
       ∙ ap (_++ replicate n 0)
-      (ap₂ (λ (ls : List ℕ) (bs : List Block). encode (record { links = ls; blocks = bs })) (open₁ .same-links) (open₁ .off)
+      (ap₂ (λ (ls : List ℕ) (bs : List Block). encode (record { chain = ls; blocks = bs })) (open₁ .same-chain) (open₁ .off)
       ∙ ap encode (sym (stripped-is n s p (x .chosen))))
 
 -- ---- the same in the bytes of a zone

@@ -7,7 +7,7 @@ use lib.Dec.{eqb}
 use Rattle.format.specs.WellFormed.{wellFormed, lengthField}
 use Rattle.structure.specs.Structure.{Block, Structure, decode, encode}
 use Rattle.calls.specs.Calls.{told}
-use Rattle.zone.specs.OnBytes.{Result, result}
+use Rattle.zone.specs.Call.{Result, result}
 use Rattle.find_bay.specs.Spots.{freeTotal, Choice, none, some}
 use Rattle.bay_changes.specs.TakeOff.{takeOff}
 use Rattle.take_high.specs.Highest.{highFor}
@@ -30,7 +30,7 @@ strips s k = min (k / 4 * 4) (sumIn (lastBay s))
 
 -- the structure without the last n bytes of its last bay
 unfoldable pub stripped : ℕ → Structure → Structure
-stripped n s = record { links = s .links; blocks = offIn n (lastBay s) (s .blocks) }
+stripped n s = record { chain = s .chain; blocks = offIn n (lastBay s) (s .blocks) }
 
 -- the whole call
 unfoldable pub shrinkOut : List ℕ → ℕ → Result

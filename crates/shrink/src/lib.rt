@@ -6,7 +6,7 @@ ghost use lib.ListN.{replicate};
 ghost use Rattle.structure.specs.Structure.{encode, decodeZone};
 ghost use Rattle.access.specs.Edit.{IsZone};
 ghost use Rattle.calls.specs.Calls.{told, shrink};
-ghost use Rattle.zone.specs.OnBytes.{result, callBytes};
+ghost use Rattle.zone.specs.Call.{result, call};
 ghost use Rattle.shrink.specs.Shrunk.{stripped};
 ghost use Rattle.shrink.specs.Site.{SiteIn, PlannedIn, Planned};
 use calls::Told;
@@ -100,7 +100,7 @@ fn plan_zone(zone: &[u8], k: u32) -> Plan
 // Strips k bytes off the zone's end, rounded down to a multiple of 4, or as many as the last bay has free. Answers the refusal number,
 // 0 if done, and how many bytes were stripped.
 pub fn shrink(zone: &mut [u8], k: u32) -> Told
-    ensures { λ r. ⌜ result (told (r .number) (r .value)) (now (zone .exit)) ≡ callBytes (shrink k) (now (zone .entry)) ⌝ }
+    ensures { λ r. ⌜ result (told (r .number) (r .value)) (now (zone .exit)) ≡ call (shrink k) (now (zone .entry)) ⌝ }
 {
     let p = plan_zone(zone, k);
     let number = p.number;

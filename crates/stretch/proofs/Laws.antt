@@ -1,6 +1,5 @@
 -- The laws that the proofs of the functions cite.
 use mathlib.Core.Path.{_≡_, refl, sym, ap, _∙_}
-use mathlib.Core.Bool.{true}
 use mathlib.Core.List.{List, _++_}
 use Prim.Native.Nat.{ℕ, _+_, _-_, _<_, _≤_}
 use native.Mathlib.Omega.{arith}
@@ -9,16 +8,16 @@ use native.Mathlib.Decide.{ℕ-discrete}
 use lib.ListN.{length, take, drop, length-take, length-drop}
 use mir.Val.{Fits}
 use mir.Syntax.{w32}
-use borrow.Author.Tests.{ne-eqb, le-leb, lt-leb, leb-true}
+use borrow.Author.Tests.{ne-eqb, le-leb, lt-leb}
 use Rattle.bigendian.specs.BigEndian.{Bytes, overwrite}
-use Rattle.format.specs.WellFormed.{wellFormed, zoneOf}
+use Rattle.format.specs.WellFormed.{zoneOf}
 use Rattle.calls.specs.Calls as Calls
-use Rattle.calls.specs.Calls.{Target, Answer, read, view, told, shows, absentNumber}
-use Rattle.zone.specs.OnBytes.{callBytes}
-use Rattle.locate.specs.Locate.{targetPlace, targetData, Located, ill-formed, absent, present}
+use Rattle.calls.specs.Calls.{Target, Answer, read, view, told, shows}
+use Rattle.zone.specs.Call.{call}
+use Rattle.locate.specs.Locate.{targetPlace, targetData, absentNumber, Located, ill-formed, absent, present}
 use Rattle.locate.proofs.Data.{target-fits, target-room, target-part, located-small}
 use Rattle.stretch.specs.Stretch.{partNumber, stretchNumber, viewStart, viewLength, IsPart, Planned, refused, granted}
-use Rattle.stretch.proofs.Answers.{absent-some, block-1, block-absent, block-0, Case, ill, lost, past, short, fits, the-case, size-is, read-is, view-is}
+use Rattle.stretch.proofs.Answers.{absent-some, block-1, block-absent, block-0, Accepted, accepted, size-is, read-is, view-is}
 
 -- ---- a stretch by numbers
 
@@ -73,23 +72,6 @@ module _ (s : List ℕ) (t : Target) (number at size i n have r start end : ℕ)
           granted y (sym e ∙ x) x (b ∙ ap (_+ i) a) (omega arith)
       go (no x) = refuse p e x
 
--- what an accepted stretch is
-pub record Accepted (s : List ℕ) (t : Target) (i n have : ℕ) : Type 0 where
-  pub well : wellFormed s ≡ true
-  pub live : targetPlace t (zoneOf s) ≡ 0 → ⊥
-  pub room : i + n ≤ length (targetData t (zoneOf s))
-  pub long : n ≤ have
-
-pub accepted : (s : List ℕ) (t : Target) (i n have : ℕ) → stretchNumber t i n have s ≡ 0 → Accepted s t i n have
-accepted s t i n have z = go (the-case t i n have s)
-  where
-    go : Case t i n have s → Accepted s t i n have
-    go (ill e k) = absurd (omega arith)
-    go (lost e o k) = absurd (absent-some t (sym k ∙ z))
-    go (past e o a k) = absurd (omega arith)
-    go (short e o a b k) = absurd (omega arith)
-    go (fits e l o a b k) = record { well = e; live = l; room = leb-true (i + n) (length (targetData t (zoneOf s))) a; long = leb-true n have b }
-
 module _ (s : List ℕ) (t : Target) (i n have number start end : ℕ) where
   pub planned-order : Planned s t i n have number start end → start ≤ end
   planned-order (refused q l a b) = omega arith
@@ -112,7 +94,7 @@ module _ (s : List ℕ) (t : Target) (i n have number start end : ℕ) where
 pub size-word : (s : List ℕ) (t : Target) (number at k : ℕ) → Located s t number at k → Fits w32 k
 size-word s t number at k l = record { fits = omega (arith, located-small s t number at k l .1) }
 
-pub size-told : (s : List ℕ) (t : Target) (number at k : ℕ) → Located s t number at k → told number k ≡ (callBytes (Calls.size t) s) .answer
+pub size-told : (s : List ℕ) (t : Target) (number at k : ℕ) → Located s t number at k → told number k ≡ (call (Calls.size t) s) .answer
 size-told s t number at k (ill-formed y wf q a e) = rw (q, e) (sym (size-is t s ∙ (rw (block-1 t s wf))))
 size-told s t number at k (absent y wf l q a e) = rw (q, e) (sym (size-is t s ∙ (rw (block-absent t s wf l, ne-eqb (absentNumber t) 0 (absent-some t)))))
 size-told s t number at k (present y wf a l e q) = rw (q, e) (sym (size-is t s ∙ (rw (block-0 t s wf (λ x. l (a ∙ x))))))
@@ -125,7 +107,7 @@ module _ (s : List ℕ) (t : Target) (i n number start end : ℕ) (out : List �
   read-room (granted y k q a b) z = omega (arith, accepted s t i n (length out) k .long, length-take (end - start) (drop start s))
 
   pub read-done : (x : List ℕ) → x ≡ overwrite out 0 (take (end - start) (drop start s)) → Planned s t i n (length out) number start end → number ≡ 0
-      → shows 0 x ≡ (callBytes (read t i n out) s) .answer
+      → shows 0 x ≡ (call (read t i n out) s) .answer
   read-done x e (refused q l a b) z = absurd (l z)
   read-done x e (granted y k q a b) z =
       let c = accepted s t i n (length out) k in
@@ -134,14 +116,14 @@ module _ (s : List ℕ) (t : Target) (i n number start end : ℕ) (out : List �
       let g : x ≡ take n (drop i d) ++ drop n out = e ∙ (rw (part-is s t i n (length out) number start end y c a b, f, zero-add n)) in
       rw g (sym (read-is t i n s out ∙ (rw k)))
 
-  pub read-no : Planned s t i n (length out) number start end → (number ≡ 0 → ⊥) → shows number out ≡ (callBytes (read t i n out) s) .answer
+  pub read-no : Planned s t i n (length out) number start end → (number ≡ 0 → ⊥) → shows number out ≡ (call (read t i n out) s) .answer
   read-no (refused q l a b) z = sym (read-is t i n s out ∙ (rw (← q, ne-eqb number 0 z)))
   read-no (granted y k q a b) z = absurd (z q)
 
 -- ---- view
 
 module _ (s : List ℕ) (t : Target) (i n number start end : ℕ) where
-  pub view-bytes : Planned s t i n n number start end → take (end - start) (drop start s) ≡ (callBytes (view t i n) s) .answer .bytes
+  pub view-bytes : Planned s t i n n number start end → take (end - start) (drop start s) ≡ (call (view t i n) s) .answer .bytes
   view-bytes (refused q l a b) =
       let e : end - start ≡ 0 = omega arith in
       rw e (sym (ap (λ (r : Answer). r .bytes) (view-is t i n s) ∙ (rw (← q, ne-eqb number 0 l))))

@@ -12,19 +12,18 @@ use borrow.Author.Tests.{ne-eqb, le-leb}
 use Rattle.bigendian.specs.BigEndian.{Bytes, slice}
 use Rattle.format.specs.WellFormed.{zoneOf, lengthField}
 use Rattle.calls.specs.Calls.{Target, Answer, size, read, view, told}
-use Rattle.zone.specs.OnBytes.{callBytes}
+use Rattle.zone.specs.Call.{call}
 use Rattle.locate.specs.Locate.{targetPlace, targetData, blockNumber}
 use Rattle.locate.proofs.Data.{target-fits, target-part}
 use Rattle.stretch.specs.Stretch.{partNumber, stretchNumber, viewStart, viewLength}
-use Rattle.stretch.proofs.Answers.{size-is, read-is, view-is}
-use Rattle.stretch.proofs.Laws.{accepted}
+use Rattle.stretch.proofs.Answers.{accepted, size-is, read-is, view-is}
 
 module _ (t : Target) (i n : ℕ) (s : List ℕ) where
   abbrev d : List ℕ
   d = targetData t (zoneOf s)
 
   abbrev viewed : List ℕ
-  viewed = (callBytes (view t i n) s) .answer .bytes
+  viewed = (call (view t i n) s) .answer .bytes
 
   part-long : (have : ℕ) → stretchNumber t i n have s ≡ 0 → length (take n (drop i d)) ≡ n
   part-long have k = omega (arith, length-take n (drop i d), length-drop i d, accepted s t i n have k .room)
@@ -33,7 +32,7 @@ module _ (t : Target) (i n : ℕ) (s : List ℕ) where
 
   module _ (buf : List ℕ) where
     abbrev answer : Answer
-    answer = (callBytes (read t i n buf) s) .answer
+    answer = (call (read t i n buf) s) .answer
 
     abbrev number : ℕ
     number = stretchNumber t i n (length buf) s
@@ -94,7 +93,7 @@ module _ (t : Target) (i n : ℕ) (s : List ℕ) where
   -- ---- size
 
   -- where the data size is k, the stretches up to k are seen, and no others
-  pub size-bounds : (k : ℕ) → (callBytes (size t) s) .answer ≡ told 0 k → length viewed ≡ cond (leb (i + n) k) n 0
+  pub size-bounds : (k : ℕ) → (call (size t) s) .answer ≡ told 0 k → length viewed ≡ cond (leb (i + n) k) n 0
   unfolding stretchNumber partNumber
   size-bounds k e =
       let b : blockNumber t s ≡ 0 = ap (λ (a : Answer). a .number) (sym (size-is t s) ∙ e) in

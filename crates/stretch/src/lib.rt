@@ -3,22 +3,22 @@ ghost use mathlib.Core.Path.{_≡_};
 ghost use Prim.Native.Nat.{_+_, _≤_};
 ghost use lib.ListN.{length};
 ghost use Rattle.calls.specs.Calls.{size, read, view, told, shows};
-ghost use Rattle.zone.specs.OnBytes.{callBytes};
+ghost use Rattle.zone.specs.Call.{call};
 ghost use Rattle.locate.specs.Named.{targetOf};
 ghost use Rattle.stretch.specs.Stretch.{IsPart, Planned, viewStart, viewLength};
 use calls::Told;
-use locate::Block;
+use locate::Target;
 
 // `count` bytes of a block from an offset on.
 pub struct Stretch {
-    pub block: Block,
+    pub block: Target,
     pub offset: u32,
     pub count: u32,
 }
 
 // The data size of a block.
-pub fn size(zone: &[u8], block: Block) -> Told
-    ensures { λ r. ⌜ told (r .number) (r .value) ≡ (callBytes (size (targetOf block)) (now (zone .entry))) .answer ⌝ }
+pub fn size(zone: &[u8], block: Target) -> Told
+    ensures { λ r. ⌜ told (r .number) (r .value) ≡ (call (size (targetOf block)) (now (zone .entry))) .answer ⌝ }
 {
     let f = locate::find(zone, block);
     let number = f.number;
@@ -79,7 +79,7 @@ pub fn part_of(zone: &[u8], s: Stretch, have: usize) -> Part
 
 // Copies a stretch to the start of out. Answers the refusal number, 0 if done.
 pub fn read(zone: &[u8], s: Stretch, out: &mut [u8]) -> u32
-    ensures { λ r. ⌜ shows r (now (out .exit)) ≡ (callBytes (read (targetOf (s .block)) (s .offset) (s .count) (now (out .entry))) (now (zone .entry))) .answer ⌝ }
+    ensures { λ r. ⌜ shows r (now (out .exit)) ≡ (call (read (targetOf (s .block)) (s .offset) (s .count) (now (out .entry))) (now (zone .entry))) .answer ⌝ }
 {
     let part = part_of(zone, s, out.len());
     let number = part.number;
@@ -94,7 +94,7 @@ pub fn read(zone: &[u8], s: Stretch, out: &mut [u8]) -> u32
 
 // A stretch, as the part of the zone that it is; refused, the empty part at the zone's first byte.
 pub fn view<'a>(zone: &'a [u8], s: Stretch) -> &'a [u8]
-    ensures { λ r. ⌜ now r ≡ (callBytes (view (targetOf (s .block)) (s .offset) (s .count)) (now (zone .entry))) .answer .bytes ⌝ }
+    ensures { λ r. ⌜ now r ≡ (call (view (targetOf (s .block)) (s .offset) (s .count)) (now (zone .entry))) .answer .bytes ⌝ }
     ensures { λ r. ⌜ r .ptr ≡ (zone .entry .ptr .0, zone .entry .ptr .1 + viewStart (targetOf (s .block)) (s .offset) (s .count) (now (zone .entry))) ⌝ }
     ensures { λ r. ⌜ length (now r) ≡ viewLength (targetOf (s .block)) (s .offset) (s .count) (now (zone .entry)) ⌝ }
 {

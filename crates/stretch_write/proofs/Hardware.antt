@@ -9,13 +9,12 @@ use lib.Dec.{eqb}
 use borrow.Author.Tests.{eqb-true}
 use Rattle.format.specs.WellFormed.{zoneOf}
 use Rattle.structure.specs.Structure.{Block, free, fixed, reloc, size, start, decodeZone}
-use Rattle.calls.specs.Calls.{by-pointer, write}
-use Rattle.zone.specs.OnBytes.{Result}
+use Rattle.calls.specs.Calls.{by-pointer}
+use Rattle.zone.specs.Call.{Result}
 use Rattle.zone.specs.Hardware.{HardwareWrites}
-use Rattle.zone.proofs.Tied.{call-same}
 use Rattle.locate.specs.Locate.{placeAmong, targetPlace}
 use Rattle.stretch.specs.Stretch.{stretchNumber}
-use Rattle.stretch.proofs.Laws.{accepted}
+use Rattle.stretch.proofs.Answers.{accepted}
 use Rattle.stretch_write.proofs.Laws.{write-is}
 
 -- the data of the block that a pointer names begin at the pointer
@@ -36,8 +35,7 @@ target-is p z l = pointer-is p (start (decodeZone z)) (decodeZone z .blocks) l
 
 pub hardware-writes : HardwareWrites
 hardware-writes p i w s y done =
-    let eq = call-same (write (by-pointer p) i (length w) w) s y in
     let is = write-is (by-pointer p) i (length w) w s y in
-    let none : stretchNumber (by-pointer p) i (length w) (length w) s ≡ 0 = sym (ap (λ (r : Result). r .answer .number) is) ∙ ap (λ (r : Result). r .answer .number) eq ∙ done in
+    let none : stretchNumber (by-pointer p) i (length w) (length w) s ≡ 0 = sym (ap (λ (r : Result). r .answer .number) is) ∙ done in
     let here : targetPlace (by-pointer p) (zoneOf s) ≡ p = target-is p (zoneOf s) (accepted s (by-pointer p) i (length w) (length w) none .live) in
-    ap (λ (r : Result). r .bytes) (sym eq) ∙ ap (λ (r : Result). r .bytes) is ∙ (rw (none, here, take-length w))
+    ap (λ (r : Result). r .bytes) is ∙ (rw (none, here, take-length w))

@@ -1,31 +1,23 @@
 -- What a write comes to, in its own terms: a read of that stretch gives what was written.
-use mathlib.Core.Path.{_≡_, refl, sym, ap, _∙_, subst}
+use mathlib.Core.Path.{_≡_, refl, sym, ap, _∙_}
 use mathlib.Core.Bool.{Bool, true, false, cond, false≢true}
-use mathlib.Core.Option.{Option}
 use mathlib.Core.List.{List, [], _∷_, _++_, append-assoc}
 use Prim.Native.Nat.{ℕ, _+_, _≤_}
 use native.Mathlib.Omega.{arith}
 use lib.ListN.{length, take, drop}
 use lib.Seq.{sets, sets-eq, length-sets, take-at, drop-at, length-take-le}
-use lib.Dec.{leb}
 use borrow.Author.Tests.{ne-eqb, le-leb}
 use Rattle.bigendian.specs.BigEndian.{Bytes}
 use Rattle.format.specs.WellFormed.{wellFormed, zoneOf}
 use Rattle.structure.specs.Structure.{Block, free, fixed, reloc, Structure, size, start, decode}
-use Rattle.calls.specs.Calls.{Target, by-handle, by-pointer, Call, read, write, shows, absentNumber}
-use Rattle.zone.specs.Bay.{Cell}
-use Rattle.zone.specs.OnBays.{Out, orGive, rewrite, withBays, says, step}
-use Rattle.zone.specs.ZoneBays.{zoneBays}
-use Rattle.zone.specs.OnBytes.{Zone, inBays, inLine, Result, callBytes}
-use Rattle.zone.proofs.Keep.{Whole}
-use Rattle.zone.proofs.Clean.{fed-write}
-use Rattle.zone.proofs.Grouped.{whole-step, same-buffer}
-use Rattle.zone.proofs.Run.{Stored, call-is, stored-after, stored-well, stored-decode, well-whole, well-stored}
+use Rattle.calls.specs.Calls.{Target, by-handle, by-pointer, Call, read, write, shows}
+use Rattle.zone.specs.Call.{zoneIn, inLine, Result, call}
+use Rattle.zone.proofs.Run.{call-well}
+use Rattle.call_laws.proofs.Outcome.{stepAs, after-line}
+use Rattle.call_laws.proofs.Accepted as AtCall
 use Rattle.locate.specs.Locate.{names, headerOf, heldBy, placeAmong, dataAmong, targetPlace, targetData}
-use Rattle.locate.proofs.Data.{content-some}
 use Rattle.stretch.specs.Stretch.{partNumber, stretchNumber}
-use Rattle.stretch.proofs.Answers.{block-0, read-is}
-use Rattle.stretch.proofs.Laws.{Accepted, accepted}
+use Rattle.stretch.proofs.Answers.{block-0, Accepted, accepted, read-is}
 use Rattle.stretch_write.proofs.Refill.{refill, edited, flat-rewrite, after, start-same}
 use Rattle.stretch_write.proofs.Laws.{write-is}
 
@@ -75,12 +67,12 @@ module _ (f : List ℕ → List ℕ) where
 
 -- ---- a read after a write
 
-module _ (t : Target) (i n : ℕ) (src s : List ℕ) (y : Bytes s) (ys : Bytes src) (done : (callBytes (write t i n src) s) .answer .number ≡ 0) where
+module _ (t : Target) (i n : ℕ) (src s : List ℕ) (y : Bytes s) (ys : Bytes src) (done : (call (write t i n src) s) .answer .number ≡ 0) where
   abbrev c : Call
   c = write t i n src
 
   abbrev s′ : List ℕ
-  s′ = (callBytes c s) .bytes
+  s′ = (call c s) .bytes
 
   abbrev f : List ℕ → List ℕ
   f l = sets l i (take n src)
@@ -91,40 +83,14 @@ module _ (t : Target) (i n : ℕ) (src s : List ℕ) (y : Bytes s) (ys : Bytes s
   ok : Accepted s t i n (length src)
   ok = accepted s t i n (length src) zero-number
 
-  abbrev zone : Zone
-  zone = inBays (length s) (decode s)
-
-  abbrev u : Zone
-  u = (step zoneBays c zone) .next
-
-  w : Whole zone
-  w = well-whole s y (ok .well)
-
-  w′ : Whole u
-  w′ = whole-step c zone (fed-write i n src ys) w
-
-  stored′ : Stored s′ u
-  stored′ =
-      let k = well-stored s y (ok .well) in
-      subst (λ (r : Result). Stored (r .bytes) u) (sym (call-is s zone w k c)) (stored-after s zone u w w′ (same-buffer c zone) k)
-
   pub write-well : wellFormed s′ ≡ true
-  write-well = stored-well s′ u w′ stored′
-
-  abbrev filled : Zone
-  filled = withBays (rewrite zoneBays t f (zone .bays)) zone
-
-  abbrev inside : List ℕ → Out (List Cell)
-  inside v = cond (leb (i + n) (length v)) (cond (leb n (length src)) (says (shows 0 src) filled) (says (shows 10 src) zone)) (says (shows 8 src) zone)
-
-  next-is : u ≡ filled
-  next-is =
-      let d = targetData t (zoneOf s) in
-      let e : (inside d) .next ≡ filled = rw (le-leb (i + n) (length d) (ok .room), le-leb n (length src) (ok .long)) in
-      ap (λ (o : Option (List ℕ)). (orGive (says (shows (absentNumber t) src) zone) o inside) .next) (content-some t s (ok .live)) ∙ e
+  write-well = call-well s y (ok .well) c ys
 
   decode-is : decode s′ ≡ after t i (take n src) (decode s)
-  decode-is = stored-decode s′ u w′ stored′ ∙ ap inLine next-is ∙ (λ j. record { links = decode s .links; blocks = flat-rewrite t f (start (decode s)) (decode s .blocks) j })
+  decode-is =
+      after-line s y (ok .well) c ys
+      ∙ ap (λ (k : ℕ). inLine ((stepAs k c (zoneIn s)) .next)) (AtCall.accepted c s (λ n. refl) refl done .passed)
+      ∙ (λ j. record { chain = decode s .chain; blocks = flat-rewrite t f (start (decode s)) (decode s .blocks) j })
 
   place-is : targetPlace t (zoneOf s′) ≡ targetPlace t (zoneOf s)
   unfolding targetPlace decode
@@ -147,7 +113,7 @@ module _ (t : Target) (i n : ℕ) (src s : List ℕ) (y : Bytes s) (ys : Bytes s
       rw (block-0 t s′ write-well (λ e. ok .live (sym place-is ∙ e)), data-is, length-sets d i (take n src), le-leb (i + n) (length d) (ok .room), le-leb n have l)
 
   -- "write replaces bytes": the stretch holds the first n bytes of the second buffer
-  pub read-after-write : (buf : List ℕ) → n ≤ length buf → (callBytes (read t i n buf) s′) .answer ≡ shows 0 (take n src ++ drop n buf)
+  pub read-after-write : (buf : List ℕ) → n ≤ length buf → (call (read t i n buf) s′) .answer ≡ shows 0 (take n src ++ drop n buf)
   read-after-write buf l =
       let d = targetData t (zoneOf s) in
       let x = take n src in
@@ -159,7 +125,7 @@ module _ (t : Target) (i n : ℕ) (src s : List ℕ) (y : Bytes s) (ys : Bytes s
       read-is t i n s′ buf ∙ (rw (again (length buf) l, g))
 
 -- a refused write leaves every byte
-pub write-refused : (t : Target) (i n : ℕ) (src s : List ℕ) → Bytes s → ((callBytes (write t i n src) s) .answer .number ≡ 0 → ⊥) → (callBytes (write t i n src) s) .bytes ≡ s
+pub write-refused : (t : Target) (i n : ℕ) (src s : List ℕ) → Bytes s → ((call (write t i n src) s) .answer .number ≡ 0 → ⊥) → (call (write t i n src) s) .bytes ≡ s
 write-refused t i n src s y l =
     let k : stretchNumber t i n (length src) s ≡ 0 → ⊥ = λ e. l (ap (λ (r : Result). r .answer .number) (write-is t i n src s y) ∙ e) in
     ap (λ (r : Result). r .bytes) (write-is t i n src s y) ∙ (rw (ne-eqb (stretchNumber t i n (length src) s) 0 k))

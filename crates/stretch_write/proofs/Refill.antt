@@ -18,11 +18,11 @@ use Rattle.access.proofs.Store.{write-right, write-left, length-words, length-h
 use Rattle.row.specs.Row.{Sound, bytesOf}
 use Rattle.row.proofs.Laws.{enc-of}
 use Rattle.calls.specs.Calls.{Target, by-handle, by-pointer}
-use Rattle.zone.specs.PickBays.{Bays, last, more, mapS, onFixed}
+use Rattle.calls.specs.Bays.{Bays, last, more, mapS, onFixed}
 use Rattle.zone.specs.Bay as Bay
-use Rattle.zone.specs.Bay.{Item, Cell, free as gapCell, held}
-use Rattle.zone.specs.OnBays.{Fixed, alterFixed, rewrite}
-use Rattle.zone.specs.ZoneBays.{zoneBays}
+use Rattle.calls.specs.State.{Item, Fixed, alterFixed}
+use Rattle.zone.specs.Bay.{Cell, free as gapCell, held}
+use Rattle.zone.specs.Work.{rewrite}
 use Rattle.zone.specs.Group.{inFront, group, flatBay, flatten}
 use Rattle.locate.specs.Locate.{names, headerOf, heldBy, placeAmong, dataAmong}
 use Rattle.locate.proofs.Data.{among-low}
@@ -79,7 +79,7 @@ module _ (p : ℕ) (f : List ℕ → List ℕ) where
       go true = refl
       go false = refl
 
-pub flat-rewrite : (t : Target) (f : List ℕ → List ℕ) (at : ℕ) (bs : List Block) → flatten (rewrite zoneBays t f (group at bs)) ≡ edited t f at bs
+pub flat-rewrite : (t : Target) (f : List ℕ → List ℕ) (at : ℕ) (bs : List Block) → flatten (rewrite t f (group at bs)) ≡ edited t f at bs
 unfolding edited
 flat-rewrite (by-handle h) f at [] = refl
 flat-rewrite (by-handle h) f at (free n ∷ bs) = free-h h f n (group (at + n) bs) ∙ ap (free n ∷_) (flat-rewrite (by-handle h) f (at + n) bs)
@@ -260,7 +260,7 @@ same-fields p q r t = rw (p, q, r, t)
 
 module _ (t : Target) (off : ℕ) (src : List ℕ) (s : Structure) where
   abbrev pub after : Structure
-  after = record { links = s .links; blocks = edited t (f t off src) (start s) (s .blocks) }
+  after = record { chain = s .chain; blocks = edited t (f t off src) (start s) (s .blocks) }
 
   count-same : count after ≡ count s
   count-same = omega (arith, count-edited t (f t off src) (keep t off src) (start s) (s .blocks))
@@ -272,7 +272,7 @@ module _ (t : Target) (off : ℕ) (src : List ℕ) (s : Structure) where
   start-same = omega (arith, count-same)
 
   value-same : (g : ℕ) → value after g ≡ value s g
-  value-same g = ap (λ (x : ℕ). x + nextOf g (s .links))
+  value-same g = ap (λ (x : ℕ). x + nextOf g (s .chain))
       (ap (λ (o : ℕ). placeOf g o (edited t (f t off src) (start s) (s .blocks))) start-same ∙ place-edited t (f t off src) (keep t off src) (start s) (s .blocks) g (start s))
 
   header-same : header after ≡ header s

@@ -1,13 +1,13 @@
 // Write to a stretch of a block. All tests are made by a plan on `&[u8]`; the call then only copies.
 ghost use mathlib.Core.Path.{_≡_};
 ghost use Rattle.calls.specs.Calls.{write, shows};
-ghost use Rattle.zone.specs.OnBytes.{result, callBytes};
+ghost use Rattle.zone.specs.Call.{result, call};
 ghost use Rattle.locate.specs.Named.{targetOf};
 use stretch::Stretch;
 
 // Copies bytes from the start of src to a stretch. Answers the refusal number, 0 if done.
 pub fn write(zone: &mut [u8], s: Stretch, src: &[u8]) -> u32
-    ensures { λ r. ⌜ result (shows r (now (src .entry))) (now (zone .exit)) ≡ callBytes (write (targetOf (s .block)) (s .offset) (s .count) (now (src .entry))) (now (zone .entry)) ⌝ }
+    ensures { λ r. ⌜ result (shows r (now (src .entry))) (now (zone .exit)) ≡ call (write (targetOf (s .block)) (s .offset) (s .count) (now (src .entry))) (now (zone .entry)) ⌝ }
 {
     let part = stretch::part_of(zone, s, src.len());
     let number = part.number;

@@ -137,23 +137,23 @@ module _ (s : Structure) (v : Valid s) where
   abbrev e : List ℕ
   e = encode s
 
-  is-offset : (h : ℕ) → 0 < occurs h (handlesOf (s .blocks)) + occurs h (s .links) → Master (start s) h
+  is-offset : (h : ℕ) → 0 < occurs h (handlesOf (s .blocks)) + occurs h (s .chain) → Master (start s) h
   is-offset h l = let r = offset-is h 16 (count s) (omega (arith, v .owned h)) in record { low = r .0; fits = r .1; four = r .2 }
 
-  links-le : All (λ (k : ℕ). k ≤ 32768) (s .links)
-  links-le = all-of _ (s .links) (λ h l. let r = is-offset h (omega arith) in omega (arith, r .fits, v .few))
+  links-le : All (λ (k : ℕ). k ≤ 32768) (s .chain)
+  links-le = all-of _ (s .chain) (λ h l. let r = is-offset h (omega arith) in omega (arith, r .fits, v .few))
 
   value-le : (h : ℕ) → value s h < 4294967296
-  value-le h = omega (arith, place-le h (start s) (s .blocks), next-le 32768 h (s .links) links-le, v .short)
+  value-le h = omega (arith, place-le h (start s) (s .blocks), next-le 32768 h (s .chain) links-le, v .short)
 
-  pub heads : (t : List ℕ) → Head (encode s ++ t) (len s) (start s) (count s) (headOf (s .links)) ((words (value s) (offsets 16 (count s)) ++ join (map encodeBlock (s .blocks))) ++ t)
+  pub heads : (t : List ℕ) → Head (encode s ++ t) (len s) (start s) (count s) (headOf (s .chain)) ((words (value s) (offsets 16 (count s)) ++ join (map encodeBlock (s .blocks))) ++ t)
   unfolding encode header
-  heads t = rw (append-assoc (toBE 4 (len s) ++ (toBE 4 (start s) ++ (toBE 4 (count s) ++ (toBE 2 (headOf (s .links)) ++ 0 ∷ 0 ∷ [])))) _ t)
-      (head-of (len s) (start s) (count s) (headOf (s .links)) _ (omega (arith, v .short)) (omega (arith, v .short)) (omega (arith, v .few)) (omega (arith, head-le 32768 (s .links) links-le)))
+  heads t = rw (append-assoc (toBE 4 (len s) ++ (toBE 4 (start s) ++ (toBE 4 (count s) ++ (toBE 2 (headOf (s .chain)) ++ 0 ∷ 0 ∷ [])))) _ t)
+      (head-of (len s) (start s) (count s) (headOf (s .chain)) _ (omega (arith, v .short)) (omega (arith, v .short)) (omega (arith, v .few)) (omega (arith, head-le 32768 (s .chain) links-le)))
 
-  pub heads-self : Head (encode s) (len s) (start s) (count s) (headOf (s .links)) (words (value s) (offsets 16 (count s)) ++ join (map encodeBlock (s .blocks)))
+  pub heads-self : Head (encode s) (len s) (start s) (count s) (headOf (s .chain)) (words (value s) (offsets 16 (count s)) ++ join (map encodeBlock (s .blocks)))
   unfolding encode header
-  heads-self = head-of (len s) (start s) (count s) (headOf (s .links)) _ (omega (arith, v .short)) (omega (arith, v .short)) (omega (arith, v .few)) (omega (arith, head-le 32768 (s .links) links-le))
+  heads-self = head-of (len s) (start s) (count s) (headOf (s .chain)) _ (omega (arith, v .short)) (omega (arith, v .short)) (omega (arith, v .few)) (omega (arith, head-le 32768 (s .chain) links-le))
 
   length-header : length (header s) ≡ 16
   unfolding header
@@ -166,11 +166,11 @@ module _ (s : Structure) (v : Valid s) where
   placed : Placed e (start s) (start s) (s .blocks)
   placed = record {
     holds = λ h l. let m = is-offset h (omega arith) in
-        (m, omega (arith, master-is h m, next-none h (s .links) (omega (arith, v .owned h, offset-le h 16 (count s)))));
+        (m, omega (arith, master-is h m, next-none h (s .chain) (omega (arith, v .owned h, offset-le h 16 (count s)))));
     single = λ h. omega (arith, v .owned h, offset-le h 16 (count s));
   }
 
-  linked : Linked e (start s) (s .links)
+  linked : Linked e (start s) (s .chain)
   linked = record {
     holds = λ h l. let m = is-offset h (omega arith) in
         (m, omega (arith, master-is h m, place-none h (start s) (s .blocks) (omega (arith, v .owned h, offset-le h 16 (count s)))));
@@ -204,14 +204,14 @@ module _ (s : Structure) (v : Valid s) where
   relocs-is : relocs (splitBlocks (drop (start s) e)) ≡ relocCount (s .blocks)
   relocs-is = ap relocs blocks-is ∙ es .counts
 
-  left-is : count s - relocs (splitBlocks (drop (start s) e)) ≡ length (s .links)
+  left-is : count s - relocs (splitBlocks (drop (start s) e)) ≡ length (s .chain)
   left-is = omega (arith, relocs-is)
 
-  body-is : bodyOk e (start s) (count s) (headOf (s .links)) ≡ true
+  body-is : bodyOk e (start s) (count s) (headOf (s .chain)) ≡ true
   unfolding bodyOk
   body-is =
       rw (left-is, le-leb (relocs (splitBlocks (drop (start s) e))) (count s) (omega (arith, relocs-is)), blocks-is, es .walk)
-      (chain-links e (start s) (s .links) linked)
+      (chain-links e (start s) (s .chain) linked)
 
   zone-is : (t : List ℕ) → zoneOf (e ++ t) ≡ e
   zone-is t = rw (heads t .is-len) (take-at e t (len s) length-is)
@@ -225,7 +225,7 @@ module _ (s : Structure) (v : Valid s) where
       let h = heads t in
       rw (
         one-walk (e ++ t),
-        header-of (e ++ t) (len s) (start s) (count s) (headOf (s .links)) _ h len-four (omega (arith, length-append e t, length-is)) (v .short) (v .few) refl (omega arith),
+        header-of (e ++ t) (len s) (start s) (count s) (headOf (s .chain)) _ h len-four (omega (arith, length-append e t, length-is)) (v .short) (v .few) refl (omega arith),
         zone-is t,
         h .is-first,
         h .is-masters,
@@ -238,4 +238,4 @@ module _ (s : Structure) (v : Valid s) where
   decode-encode t =
       let h = heads-self in
       rw (zone-is t, h .is-first, h .is-masters, h .is-chain, left-is, blocks-is)
-      (λ i. record { links = chain-back e (start s) (s .links) linked i; blocks = es .back i })
+      (λ i. record { chain = chain-back e (start s) (s .chain) linked i; blocks = es .back i })

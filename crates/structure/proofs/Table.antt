@@ -217,14 +217,14 @@ module _ (z : List ℕ) (w : Whole z) where
       (tiles-bytes z (firstField z) false (firstField z) (drop (firstField z) z) (w .parts .walk) (bytes-drop (firstField z) z (w .bytes)) ∙ ap (λ (n : ℕ). drop n z) (w .begin))
       ∙ words-of z 16 (mastersField z) (w .bytes) (omega (arith, w .begin, w .within))
 
-  pub head-is : headOf (st .links) ≡ chainField z
+  pub head-is : headOf (st .chain) ≡ chainField z
   unfolding decodeZone
   head-is = head-chain z (firstField z) (mastersField z - relocs bs) (chainField z) (w .parts .ends)
 
   -- the bytes of a zone are those of its structure
   pub encode-zone : encode (decodeZone z) ≡ z
   unfolding encode header
-  encode-zone = glue z (w .bytes) (w .long) (w .zero14) (w .zero15) (len st) (start st) (count st) (headOf (st .links)) _ len-is start-is count-is head-is rest-is
+  encode-zone = glue z (w .bytes) (w .long) (w .zero14) (w .zero15) (len st) (start st) (count st) (headOf (st .chain)) _ len-is start-is count-is head-is rest-is
 
 -- ---- from the buffer to the zone
 

@@ -17,7 +17,7 @@ pub data Block : Type 0 where
 
 pub record Structure : Type 0 where
   -- the free masters, in the order of the chain
-  pub links : List ℕ
+  pub chain : List ℕ
   pub blocks : List Block
 
 -- ---- the bytes of a structure
@@ -47,7 +47,7 @@ relocCount (reloc h d ∷ bs) = suc (relocCount bs)
 
 -- m: "relocatable blocks plus chain length"
 abbrev pub count : Structure → ℕ
-count s = relocCount (s .blocks) + length (s .links)
+count s = relocCount (s .blocks) + length (s .chain)
 
 -- bkFst
 abbrev pub start : Structure → ℕ
@@ -77,7 +77,7 @@ nextOf h (k ∷ ks) = cond (eqb h k) (headOf ks) (nextOf h ks)
 -- "A live master holds the offset of the block's first data byte, a free one the next free master's offset or 0": a master
 -- is a block's or in the chain, so one of the two numbers is 0
 abbrev pub value : Structure → ℕ → ℕ
-value s h = placeOf h (start s) (s .blocks) + nextOf h (s .links)
+value s h = placeOf h (start s) (s .blocks) + nextOf h (s .chain)
 
 -- 4 bytes for each number
 unfoldable pub words : (ℕ → ℕ) → List ℕ → List ℕ
@@ -88,9 +88,9 @@ unfoldable pub join : List (List ℕ) → List ℕ
 join [] = []
 join (b ∷ bs) = b ++ join bs
 
--- "at 0 the length L (4 bytes); at 4 bkFst (4); at 8 m (4); at 12 hFstFree (2); at 14 two zero bytes"
+-- "at 0 the length L (4 bytes); at 4 bkFst, .. (4); at 8 m, .. (4); at 12 hFstFree, .. (2); at 14 two zero bytes"
 unfoldable pub header : Structure → List ℕ
-header s = toBE 4 (len s) ++ (toBE 4 (start s) ++ (toBE 4 (count s) ++ (toBE 2 (headOf (s .links)) ++ 0 ∷ 0 ∷ [])))
+header s = toBE 4 (len s) ++ (toBE 4 (start s) ++ (toBE 4 (count s) ++ (toBE 2 (headOf (s .chain)) ++ 0 ∷ 0 ∷ [])))
 
 -- "Masters follow, 4 bytes each, at 16 + 4i for i below m", then the blocks
 unfoldable pub encode : Structure → List ℕ
@@ -109,7 +109,7 @@ decodeBlock b = byType (typeOf b) (free (sizeOf b)) (fixed (drop fixedHeader b))
 -- of the bytes of a zone, with none beyond its length
 unfoldable pub decodeZone : List ℕ → Structure
 decodeZone z = record {
-  links = chain z (mastersField z - relocs (splitBlocks (drop (firstField z) z))) (chainField z);
+  chain = chain z (mastersField z - relocs (splitBlocks (drop (firstField z) z))) (chainField z);
   blocks = map decodeBlock (splitBlocks (drop (firstField z) z));
 }
 

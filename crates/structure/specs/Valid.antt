@@ -26,6 +26,6 @@ Tiled prev (reloc h d ∷ bs) = (length d % 4 ≡ 0) × (length d ≤ 32760) × 
 pub record Valid (s : Structure) : Type 0 where
   pub tiled : Tiled false (s .blocks)
   -- every master is one block's or in the chain once
-  pub owned : (h : ℕ) → occurs h (handlesOf (s .blocks)) + occurs h (s .links) ≡ occurs h (offsets 16 (count s))
+  pub owned : (h : ℕ) → occurs h (handlesOf (s .blocks)) + occurs h (s .chain) ≡ occurs h (offsets 16 (count s))
   pub few : count s ≤ 8188
   pub short : len s ≤ 1048576

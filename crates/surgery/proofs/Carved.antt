@@ -62,7 +62,7 @@ gap-length n = go (eqb n 0)
     go true = refl
     go false = refl
 
-module _ (s : Structure) (v : Valid s) (pre post : List Block) (need h n : ℕ) (ks : List ℕ) (e : s .blocks ≡ pre ++ ((free n ∷ []) ++ post)) (el : s .links ≡ h ∷ ks)
+module _ (s : Structure) (v : Valid s) (pre post : List Block) (need h n : ℕ) (ks : List ℕ) (e : s .blocks ≡ pre ++ ((free n ∷ []) ++ post)) (el : s .chain ≡ h ∷ ks)
     (low : 4 ≤ need) (fit : need ≤ n) (four : need % 4 ≡ 0) (high : need ≤ 32764) where
   abbrev new : List Block
   new = carvedFrom need h n
@@ -71,12 +71,12 @@ module _ (s : Structure) (v : Valid s) (pre post : List Block) (need h n : ℕ) 
   o = start s + sizes pre
 
   abbrev s′ : Structure
-  s′ = record { links = ks; blocks = pre ++ (new ++ post) }
+  s′ = record { chain = ks; blocks = pre ++ (new ++ post) }
 
   here : Tiled (lastFree false pre) (free n ∷ post)
   here = tiled-right false pre (free n ∷ post) (subst (Tiled false) e (v .tiled))
 
-  in-chain : occurs h (s .links) ≡ suc (occurs h ks)
+  in-chain : occurs h (s .chain) ≡ suc (occurs h ks)
   unfolding occurs
   in-chain = ap (occurs h) el ∙ omega (arith, one-same h h refl)
 
@@ -93,7 +93,7 @@ module _ (s : Structure) (v : Valid s) (pre post : List Block) (need h n : ℕ) 
   unfolding sizes
   sz = omega (arith, long-new, gap-sizes (n - need))
 
-  ct : length (handlesOf new) + length ks ≡ length (handlesOf (free n ∷ [])) + length (s .links)
+  ct : length (handlesOf new) + length ks ≡ length (handlesOf (free n ∷ [])) + length (s .chain)
   unfolding handlesOf
   ct = omega (arith, gap-length (n - need), ap length el)
 
@@ -109,7 +109,7 @@ module _ (s : Structure) (v : Valid s) (pre post : List Block) (need h n : ℕ) 
   unfolding placeOf
   place-new = rw (eq-eqb h h refl)
 
-  next-other : (k : ℕ) → (k ≡ h → ⊥) → nextOf k (s .links) ≡ nextOf k ks
+  next-other : (k : ℕ) → (k ≡ h → ⊥) → nextOf k (s .chain) ≡ nextOf k ks
   unfolding nextOf
   next-other k ne = ap (nextOf k) el ∙ (rw (ne-eqb k h ne))
 
@@ -138,7 +138,7 @@ module _ (s : Structure) (v : Valid s) (pre post : List Block) (need h n : ℕ) 
 
   pub carved : carvedBytes (encode s) need h (headOf ks) o n ≡ encode s′
   carved =
-      let l = len s in let f = start s in let m = count s in let c = headOf (s .links) in
+      let l = len s in let f = start s in let m = count s in let c = headOf (s .chain) in
       let r = bytesOf (s .blocks) in
       let r′ = overwrite r (sizes pre) (bytesOf new) in
       ap (λ (x : List ℕ). overwrite (overwrite (overwrite x o (bytesOf new)) 12 (toBE 2 (headOf ks))) h (toBE 4 (o + 4))) (encode-img s)

@@ -22,7 +22,7 @@ use Rattle.compact_bay.specs.Tidy.{setOne, setAll}
 abbrev pub img : ℕ → ℕ → ℕ → ℕ → (ℕ → ℕ) → List ℕ → List ℕ
 img l f m c g r = lay l f m c (map g (offsets 16 m)) r
 
-pub encode-img : (s : Structure) → encode s ≡ img (len s) (start s) (count s) (headOf (s .links)) (value s) (bytesOf (s .blocks))
+pub encode-img : (s : Structure) → encode s ≡ img (len s) (start s) (count s) (headOf (s .chain)) (value s) (bytesOf (s .blocks))
 encode-img s = encode-lay s
 
 -- g, but v at h

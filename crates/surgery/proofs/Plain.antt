@@ -21,9 +21,9 @@ use Rattle.surgery.proofs.Replace.{replaced, place-same, moved}
 module _ (s : Structure) (v : Valid s) (pre mid mid′ post : List Block) (e : s .blocks ≡ pre ++ (mid ++ post)) (sz : sizes mid′ ≡ sizes mid) (so : Sound mid′)
     (h : handlesOf mid ≡ []) (h′ : handlesOf mid′ ≡ []) where
   abbrev s′ : Structure
-  s′ = record { links = s .links; blocks = pre ++ (mid′ ++ post) }
+  s′ = record { chain = s .chain; blocks = pre ++ (mid′ ++ post) }
 
-  ct : length (handlesOf mid′) + length (s .links) ≡ length (handlesOf mid) + length (s .links)
+  ct : length (handlesOf mid′) + length (s .chain) ≡ length (handlesOf mid) + length (s .chain)
   ct = rw (h, h′)
 
   none : (k : ℕ) (b : List Block) → handlesOf b ≡ [] → occurs k (handlesOf b) ≡ 0
@@ -33,13 +33,13 @@ module _ (s : Structure) (v : Valid s) (pre mid mid′ post : List Block) (e : s
   pub plain : overwrite (encode s) (start s + sizes pre) (bytesOf mid′) ≡ encode s′
   plain =
       ap (λ (x : List ℕ). overwrite x (start s + sizes pre) (bytesOf mid′)) (encode-img s)
-      ∙ img-rest (len s) (start s) (count s) (headOf (s .links)) (sizes pre) (start s + sizes pre) (value s) (bytesOf (s .blocks)) (bytesOf mid′) refl
-      ∙ replaced s v pre mid mid′ post (s .links) e sz so ct (value s)
-      (λ k p. ap (λ (x : ℕ). x + nextOf k (s .links)) (sym (place-same s v pre mid mid′ post (s .links) e sz so ct k (none k mid h) (none k mid′ h′))))
+      ∙ img-rest (len s) (start s) (count s) (headOf (s .chain)) (sizes pre) (start s + sizes pre) (value s) (bytesOf (s .blocks)) (bytesOf mid′) refl
+      ∙ replaced s v pre mid mid′ post (s .chain) e sz so ct (value s)
+      (λ k p. ap (λ (x : ℕ). x + nextOf k (s .chain)) (sym (place-same s v pre mid mid′ post (s .chain) e sz so ct k (none k mid h) (none k mid′ h′))))
 
 -- a fixed block of need bytes at the high end of a free block of n
 pub fixed-placed : (s : Structure) → Valid s → (pre post : List Block) (n need : ℕ) → s .blocks ≡ pre ++ ((free n ∷ []) ++ post) → need ≤ n → 4 ≤ need → need % 4 ≡ 0 → n % 4 ≡ 0 → n ≤ 1048576 → need ≤ 32764
-    → overwrite (encode s) (start s + sizes pre) (bytesOf (gapOf (n - need) ++ fixed (replicate (need - 2) 0) ∷ [])) ≡ encode (record { links = s .links; blocks = pre ++ ((gapOf (n - need) ++ fixed (replicate (need - 2) 0) ∷ []) ++ post) })
+    → overwrite (encode s) (start s + sizes pre) (bytesOf (gapOf (n - need) ++ fixed (replicate (need - 2) 0) ∷ [])) ≡ encode (record { chain = s .chain; blocks = pre ++ ((gapOf (n - need) ++ fixed (replicate (need - 2) 0) ∷ []) ++ post) })
 unfolding sizes handlesOf
 fixed-placed s v pre post n need e fit low four fn lim high =
     let l = length-replicate {A = ℕ} (need - 2) 0 in
@@ -53,7 +53,7 @@ fixed-placed s v pre post n need e fit low four fn lim high =
 pub grown : (s : Structure) → Valid s → (pre a b post : List Block) (h n more : ℕ) (d : List ℕ) → s .blocks ≡ pre ++ ((a ++ (reloc h d ∷ (b ++ gapOf n))) ++ post)
     → more ≤ n → Sound (a ++ (reloc h (d ++ replicate more 0) ∷ (b ++ gapOf (n - more))))
     → setAll (start s + sizes pre) (a ++ (reloc h (d ++ replicate more 0) ∷ (b ++ gapOf (n - more)))) (overwrite (encode s) (start s + sizes pre) (bytesOf (a ++ (reloc h (d ++ replicate more 0) ∷ (b ++ gapOf (n - more))))))
-    ≡ encode (record { links = s .links; blocks = pre ++ ((a ++ (reloc h (d ++ replicate more 0) ∷ (b ++ gapOf (n - more)))) ++ post) })
+    ≡ encode (record { chain = s .chain; blocks = pre ++ ((a ++ (reloc h (d ++ replicate more 0) ∷ (b ++ gapOf (n - more)))) ++ post) })
 unfolding sizes handlesOf
 grown s v pre a b post h n more d e fit so =
     let old = a ++ (reloc h d ∷ (b ++ gapOf n)) in
@@ -64,4 +64,4 @@ grown s v pre a b post h n more d e fit so =
     let hb : (k : ℕ) → handlesOf (b ++ gapOf k) ≡ handlesOf b = λ k. handles-append b (gapOf k) ∙ ap (λ (x : List ℕ). handlesOf b ++ x) (gap-handles k) ∙ append-nil (handlesOf b) in
     let hs : handlesOf new ≡ handlesOf old =
     handles-append a (reloc h (d ++ replicate more 0) ∷ (b ++ gapOf (n - more))) ∙ ap (λ (x : List ℕ). handlesOf a ++ h ∷ x) (hb (n - more) ∙ sym (hb n)) ∙ sym (handles-append a (reloc h d ∷ (b ++ gapOf n))) in
-    moved s v pre old new post (s .links) e sz so hs refl
+    moved s v pre old new post (s .chain) e sz so hs refl

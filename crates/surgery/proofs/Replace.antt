@@ -36,7 +36,7 @@ sizes-parts a b c = sizes-append a (b ++ c) ∙ ap (λ (x : ℕ). sizes a + x) (
 
 module _ (s : Structure) (v : Valid s) (pre mid mid′ post : List Block) (ks : List ℕ) (e : s .blocks ≡ pre ++ (mid ++ post)) (sz : sizes mid′ ≡ sizes mid) (so : Sound mid′) where
   abbrev s′ : Structure
-  s′ = record { links = ks; blocks = pre ++ (mid′ ++ post) }
+  s′ = record { chain = ks; blocks = pre ++ (mid′ ++ post) }
 
   sound-parts : Sound (pre ++ (mid ++ post))
   sound-parts = subst Sound e (valid-sound s v)
@@ -53,7 +53,7 @@ module _ (s : Structure) (v : Valid s) (pre mid mid′ post : List Block) (ks : 
       (bytes-long mid (sound-left mid post sr) ∙ sym sz ∙ sym (bytes-long mid′ so))
       ∙ sym j′
 
-  module _ (ct : length (handlesOf mid′) + length ks ≡ length (handlesOf mid) + length (s .links)) where
+  module _ (ct : length (handlesOf mid′) + length ks ≡ length (handlesOf mid) + length (s .chain)) where
     count-same : count s′ ≡ count s
     count-same = omega (arith, ct, count-parts pre mid′ post, count-parts pre mid post, ap relocCount e)
 
@@ -92,7 +92,7 @@ module _ (s : Structure) (v : Valid s) (pre mid mid′ post : List Block) (ks : 
         ∙ sym (encode-img s′ ∙ lay-same len-same start-same count-same refl (ap (λ (m : ℕ). map (value s′) (offsets 16 m)) count-same) refl)
 
     pub replaced-valid : Tiled false (pre ++ (mid′ ++ post))
-        → ((k : ℕ) → occurs k (handlesOf mid′) + occurs k ks ≡ occurs k (handlesOf mid) + occurs k (s .links)) → Valid s′
+        → ((k : ℕ) → occurs k (handlesOf mid′) + occurs k ks ≡ occurs k (handlesOf mid) + occurs k (s .chain)) → Valid s′
     replaced-valid t f = record {
       tiled = t;
       owned = λ h. omega (
@@ -109,8 +109,8 @@ module _ (s : Structure) (v : Valid s) (pre mid mid′ post : List Block) (ks : 
     }
 
   -- blocks that have moved: the same handles. One overwrite of the blocks, and the masters' pass
-  module _ (hs : handlesOf mid′ ≡ handlesOf mid) (kl : ks ≡ s .links) where
-    ct : length (handlesOf mid′) + length ks ≡ length (handlesOf mid) + length (s .links)
+  module _ (hs : handlesOf mid′ ≡ handlesOf mid) (kl : ks ≡ s .chain) where
+    ct : length (handlesOf mid′) + length ks ≡ length (handlesOf mid) + length (s .chain)
     ct = rw (hs, kl)
 
     once : (k : ℕ) → occurs k (handlesOf pre) + occurs k (handlesOf mid′) + occurs k ks ≤ 1
@@ -127,7 +127,7 @@ module _ (s : Structure) (v : Valid s) (pre mid mid′ post : List Block) (ks : 
 
     pub moved : setAll (start s + sizes pre) mid′ (overwrite (encode s) (start s + sizes pre) (bytesOf mid′)) ≡ encode s′
     moved =
-        let l = len s in let f = start s in let m = count s in let c = headOf (s .links) in
+        let l = len s in let f = start s in let m = count s in let c = headOf (s .chain) in
         let r = bytesOf (s .blocks) in
         ap (λ (x : List ℕ). setAll (f + sizes pre) mid′ (overwrite x (f + sizes pre) (bytesOf mid′))) (encode-img s)
         ∙ ap (setAll (f + sizes pre) mid′) (img-rest l f m c (sizes pre) (f + sizes pre) (value s) r (bytesOf mid′) refl)

@@ -30,7 +30,7 @@ module _ (s : Structure) (v : Valid s) where
   pub handle-in : (h : ℕ) → 0 < occurs h (handlesOf (s .blocks)) → 0 < occurs h (offsets 16 (count s))
   handle-in h l = omega (arith, v .owned h)
 
-  pub handle-once : (h : ℕ) → occurs h (handlesOf (s .blocks)) + occurs h (s .links) ≤ 1
+  pub handle-once : (h : ℕ) → occurs h (handlesOf (s .blocks)) + occurs h (s .chain) ≤ 1
   handle-once h = omega (arith, v .owned h, offset-le h 16 (count s))
 
   pub valid-sound : Sound (s .blocks)

@@ -106,7 +106,7 @@ module _ (s : Structure) (v : Valid s) (p : Spot) (b : IsBay (s .blocks) p) wher
   mid = p .inside
 
   abbrev s₁ : Structure
-  s₁ = record { links = s .links; blocks = put p (squeeze mid) }
+  s₁ = record { chain = s .chain; blocks = put p (squeeze mid) }
 
   all-tiled : Tiled false (put p mid)
   all-tiled = subst (Tiled false) (b .parts) (v .tiled)
@@ -144,10 +144,10 @@ module _ (s : Structure) (v : Valid s) (p : Spot) (b : IsBay (s .blocks) p) wher
   pub bay-tidied : tidied (encode s) (start s + sizes (p .before)) (sizes mid) ≡ encode s₁
   bay-tidied =
       let t : blocksOf (slice (encode s) (start s + sizes (p .before)) (sizes mid)) ≡ mid = ap blocksOf (part-bytes s v (p .before) mid (p .after) (b .parts)) ∙ tiles-join mid sound-mid in
-      rw t (moved s v (p .before) mid (squeeze mid) (p .after) (s .links) (b .parts) (squeeze-sizes mid) sound-new (squeeze-handles mid) refl)
+      rw t (moved s v (p .before) mid (squeeze mid) (p .after) (s .chain) (b .parts) (squeeze-sizes mid) sound-new (squeeze-handles mid) refl)
 
   pub bay-start : start s₁ ≡ start s
-  bay-start = start-same s v (p .before) mid (squeeze mid) (p .after) (s .links) (b .parts) (squeeze-sizes mid) sound-new (ap (λ (hs : List ℕ). length hs + length (s .links)) (squeeze-handles mid))
+  bay-start = start-same s v (p .before) mid (squeeze mid) (p .after) (s .chain) (b .parts) (squeeze-sizes mid) sound-new (ap (λ (hs : List ℕ). length hs + length (s .chain)) (squeeze-handles mid))
 
   pub bay-valid : Valid s₁
-  bay-valid = moved-valid s v (p .before) mid (squeeze mid) (p .after) (s .links) (b .parts) (squeeze-sizes mid) sound-new (squeeze-handles mid) refl new-tiled
+  bay-valid = moved-valid s v (p .before) mid (squeeze mid) (p .after) (s .chain) (b .parts) (squeeze-sizes mid) sound-new (squeeze-handles mid) refl new-tiled

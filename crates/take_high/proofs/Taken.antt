@@ -55,7 +55,7 @@ one-bytes n = append-nil (encodeBlock (free n))
 pub record Open (s : Structure) (p : Spot) (n a e sum tail : ℕ) : Type 0 where
   pub zone : Structure
   pub valid : Valid zone
-  pub same-links : zone .links ≡ s .links
+  pub same-chain : zone .chain ≡ s .chain
   pub same-start : start zone ≡ start s
   pub pre : List Block
   pub k : ℕ
@@ -115,7 +115,7 @@ module _ (s : Structure) (v : Valid s) (p : Spot) (n a e sum tail : ℕ) (x : Ba
     there = record {
       zone = s;
       valid = v;
-      same-links = refl;
+      same-chain = refl;
       same-start = refl;
       pre = p .before ++ front mid;
       k = tail;
@@ -134,7 +134,7 @@ module _ (s : Structure) (v : Valid s) (p : Spot) (n a e sum tail : ℕ) (x : Ba
   -- after compacting
   module _ (l : tail < n) where
     abbrev s₁ : Structure
-    s₁ = record { links = s .links; blocks = put p (squeeze mid) }
+    s₁ = record { chain = s .chain; blocks = put p (squeeze mid) }
 
     squeezed : squeeze mid ≡ used mid ++ free sum ∷ []
     unfolding squeeze
@@ -161,7 +161,7 @@ module _ (s : Structure) (v : Valid s) (p : Spot) (n a e sum tail : ℕ) (x : Ba
     made = record {
       zone = s₁;
       valid = bay-valid s v p bay;
-      same-links = refl;
+      same-chain = refl;
       same-start = bay-start s v p bay;
       pre = p .before ++ used mid;
       k = sum;

@@ -12,13 +12,13 @@ use Rattle.format.specs.WellFormed.{wellFormed, countOf, splitBlocks, zoneOf, f
 use Rattle.structure.specs.Structure.{Block, free, fixed, reloc, decode, decodeZone, start, relocCount}
 use Rattle.structure.proofs.Table.{Whole, whole, counts-decs}
 use Rattle.structure.proofs.Sound.{valid}
-use Rattle.zone.specs.PickBays.{Bays, last, more, sumS}
-use Rattle.zone.specs.Bay.{Item, Cell, free as gapCell, held, items}
-use Rattle.zone.specs.OnBays.{Fixed}
+use Rattle.calls.specs.Bays.{Bays, last, more, sumS}
+use Rattle.calls.specs.State.{Item, Fixed}
+use Rattle.zone.specs.Bay.{Cell, free as gapCell, held, items}
 use Rattle.zone.specs.Group.{inFront, group}
-use Rattle.zone.specs.OnBytes.{callBytes}
+use Rattle.zone.specs.Call.{call}
 use Rattle.tell.proofs.Opened.{first-of}
-use Rattle.calls.specs.Calls.{check, answersTwo}
+use Rattle.calls.specs.Calls.{check, toldTwo}
 
 -- how many relocatable blocks the bays have
 abbrev pub liveS : Bays (List Cell) Fixed → ℕ
@@ -47,10 +47,10 @@ count-live s y h =
     let w : Whole z = whole s y h in
     rw (h, ← first-of s h) (sym (counts-decs z (firstField z) false (firstField z) (splitBlocks (drop (firstField z) z)) (w .parts .walk)) ∙ live-is (start (decodeZone z)) _)
 
-pub check-is : (s : List ℕ) (ok : Bool) (count : ℕ) → Bytes s → ok ≡ wellFormed s → count ≡ countOf s → answersTwo (cond ok 1 0) count ≡ (callBytes check s) .answer
+pub check-is : (s : List ℕ) (ok : Bool) (count : ℕ) → Bytes s → ok ≡ wellFormed s → count ≡ countOf s → toldTwo 0 (cond ok 1 0) count ≡ (call check s) .answer
 unfolding countOf
-check-is s true count y e k = rw (← e) (ap (answersTwo 1) (k ∙ count-live s y (sym e)))
-check-is s false count y e k = rw (← e) (ap (answersTwo 0) (k ∙ (rw (← e))))
+check-is s true count y e k = rw (← e) (ap (toldTwo 0 1) (k ∙ count-live s y (sym e)))
+check-is s false count y e k = rw (← e) (ap (toldTwo 0 0) (k ∙ (rw (← e))))
 
 module _ (s : List ℕ) (y : Bytes s) (h : wellFormed s ≡ true) where
   pub count-blocks : countOf s ≡ relocCount (decode s .blocks)
@@ -60,5 +60,5 @@ module _ (s : List ℕ) (y : Bytes s) (h : wellFormed s ≡ true) where
   count-few = omega (arith, count-blocks, valid s y h .few)
 
 pub check-answer : (s : List ℕ) (ok : Bool) (count : ℕ) → ((i : ℕ) → Fits w8 (getD s i 0)) → ok ≡ wellFormed s → count ≡ countOf s
-    → answersTwo (cond ok 1 0) count ≡ (callBytes check s) .answer
+    → toldTwo 0 (cond ok 1 0) count ≡ (call check s) .answer
 check-answer s ok count y e k = check-is s ok count (λ j. y j .fits) e k

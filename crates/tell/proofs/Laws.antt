@@ -19,9 +19,9 @@ use Rattle.structure.proofs.Table.{by, whole, len-is}
 use Rattle.walk.specs.Walker.{blocksAt, Edge, edge, Seen, blockAt, freeAt, freeSize, freeTotal}
 use Rattle.walk.proofs.Laws.{tiles-end, first-good}
 use Rattle.format.proofs.Walk.{is-first, kind-take}
-use Rattle.calls.specs.Calls.{sums, length-of, told}
-use Rattle.zone.specs.OnBytes.{callBytes}
-use Rattle.tell.specs.Largest.{largestOf, fixedB, summed, SumsFrom, sums-from, SumsIn, Stepped}
+use Rattle.calls.specs.Calls.{sums, length-of, told, toldTwo}
+use Rattle.zone.specs.Call.{call}
+use Rattle.tell.specs.Largest.{largestOf, fixedB, SumsFrom, sums-from, SumsIn, Stepped}
 use Rattle.tell.proofs.SumLaws.{total-is, largest-is}
 use Rattle.tell.proofs.Opened.{well, fields-of}
 
@@ -88,22 +88,22 @@ sums-zone z first n total most e s = rw (← e) s
 
 -- ---- the calls
 
-pub sums-1 : (s : List ℕ) (ok : Bool) → ok ≡ wellFormed s → not ok ≡ true → summed 1 0 0 ≡ (callBytes sums s) .answer
+pub sums-1 : (s : List ℕ) (ok : Bool) → ok ≡ wellFormed s → not ok ≡ true → toldTwo 1 0 0 ≡ (call sums s) .answer
 sums-1 s ok e q = rw (← e, not-true ok q)
 
 pub sums-0 : (s : List ℕ) (ok : Bool) (l n total most : ℕ) → ok ≡ wellFormed s → not ok ≡ false → l ≡ fromBE (slice s 0 4) → ((i : ℕ) → Fits w8 (getD s i 0)) → SumsIn (take l s) n total most
-    → summed n total most ≡ (callBytes sums s) .answer
+    → toldTwo n total most ≡ (call sums s) .answer
 unfolding decode
 sums-0 s ok l n total most e q el y (sums-from a b c) =
     let h : wellFormed s ≡ true = well s ok e q in
     let i : IsZone (zoneOf s) = is-zone s (λ j. y j .fits) h refl in
     let d = decodeZone (zoneOf s) in
     rw (h, a, b, c, el)
-    (ap₂ (summed 0)
+    (ap₂ (toldTwo 0)
     (ap freeTotal (tiles-are (zoneOf s) i) ∙ total-is (start d) (d .blocks))
     (ap (largestOf 0 0) (tiles-are (zoneOf s) i) ∙ largest-is (start d) (d .blocks)))
 
-pub length-1 : (s : List ℕ) (ok : Bool) → ok ≡ wellFormed s → not ok ≡ true → told 1 0 ≡ (callBytes length-of s) .answer
+pub length-1 : (s : List ℕ) (ok : Bool) → ok ≡ wellFormed s → not ok ≡ true → told 1 0 ≡ (call length-of s) .answer
 length-1 s ok e q = rw (← e, not-true ok q)
 
 -- the length of the structure is the length in the header
@@ -114,7 +114,7 @@ length-is s y h =
     omega (arith, len-is (zoneOf s) w, w .all, length-take (lengthField s) s, fields-of s h .room)
 
 pub length-0 : (s : List ℕ) (ok : Bool) (l : ℕ) → ok ≡ wellFormed s → not ok ≡ false → l ≡ fromBE (slice s 0 4) → ((i : ℕ) → Fits w8 (getD s i 0))
-    → told 0 l ≡ (callBytes length-of s) .answer
+    → told 0 l ≡ (call length-of s) .answer
 length-0 s ok l e q el y =
     let h : wellFormed s ≡ true = well s ok e q in
     rw (h, el) (ap (told 0) (sym (length-is s (λ j. y j .fits) h)))

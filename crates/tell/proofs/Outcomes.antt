@@ -2,22 +2,22 @@
 use mathlib.Core.Path.{_≡_, refl, ap, sym, _∙_, subst}
 use mathlib.Core.Bool.{Bool, true, false, cond}
 use mathlib.Core.List.{List, [], _∷_, List·Permᴰ, Permᴰ·refl}
-use Prim.Native.Nat.{ℕ, _+_, _%_, _≤_, max}
+use Prim.Native.Nat.{ℕ, zero, suc, _+_, _%_, _≤_, max}
 use native.Mathlib.Omega.{arith}
+use lib.Dec.{eqb·suc-zero}
 use lib.ListN.{length}
 use Rattle.bigendian.specs.BigEndian.{Bytes}
 use Rattle.format.specs.WellFormed.{wellFormed}
 use Rattle.structure.specs.Structure.{decode, start}
-use Rattle.zone.specs.PickBays.{Bays, last, more, sumS, maxS}
-use Rattle.zone.specs.OnBytes.{callBytes, inBays}
-use Rattle.zone.specs.OnBays.{Fixed, step}
-use Rattle.zone.specs.ZoneBays.{zoneBays}
+use Rattle.calls.specs.Bays.{Bays, last, more, sumS, maxS}
+use Rattle.zone.specs.Call.{zoneIn, inLine, numberOf, replacing, callWith, call}
+use Rattle.calls.specs.State.{Fixed}
 use Rattle.zone.specs.Promise.{Promise}
-use Rattle.zone.proofs.Tied.{promise-of}
-use Rattle.zone.proofs.Run.{refused, well-whole, well-stored}
-use Rattle.zone.proofs.FixedWalk.{sumsS, free-walk}
+use Rattle.zone.proofs.Run.{same-bytes, well-whole, well-stored}
 use Rattle.zone.specs.Claim.{freeIn}
+use Rattle.zone.proofs.MetBlocks.{sumsS, free-walk}
 use Rattle.zone.specs.Group.{group}
+use Rattle.zone.specs.Work.{Zone, work}
 use Rattle.zone.specs.Bay.{baySum}
 use Rattle.calls.specs.Calls.{Call, Answer, sums, length-of, check}
 use Rattle.tell.proofs.Opened.{fields-of}
@@ -31,10 +31,10 @@ most-total μ (more b x s) = omega (arith, most-total μ s)
 -- ---- what each tells
 
 -- "The check says yes exactly when the bytes are a well-formed zone"
-pub check-says : (s : List ℕ) → (callBytes check s) .answer .value ≡ cond (wellFormed s) 1 0
+pub check-says : (s : List ℕ) → (call check s) .answer .value ≡ cond (wellFormed s) 1 0
 check-says s = go (wellFormed s) refl
   where
-    go : (t : Bool) → wellFormed s ≡ t → (callBytes check s) .answer .value ≡ cond (wellFormed s) 1 0
+    go : (t : Bool) → wellFormed s ≡ t → (call check s) .answer .value ≡ cond (wellFormed s) 1 0
     go true h = rw h
     go false h = rw h
 
@@ -57,60 +57,64 @@ most-list μ (last b) = omega arith
 most-list μ (more b x s) = ap (max (μ b)) (most-list μ s)
 
 -- sum: the total and the largest of the free bytes that a walk through the zone meets between fixed blocks
-pub sum-says : (s : List ℕ) → Bytes s → wellFormed s ≡ true → ((callBytes sums s) .answer .value ≡ totalOf (freeIn s)) × ((callBytes sums s) .answer .second ≡ mostOf (freeIn s))
+pub sum-says : (s : List ℕ) → Bytes s → wellFormed s ≡ true → ((call sums s) .answer .value ≡ totalOf (freeIn s)) × ((call sums s) .answer .second ≡ mostOf (freeIn s))
 sum-says s y h =
     let b = group (start (decode s)) (decode s .blocks) in
-    let w = free-walk s (inBays (length s) (decode s)) (well-whole s y h) (well-stored s y h) in
+    let w = free-walk s (zoneIn s) (well-whole s y h) (well-stored s y h) in
     (rw h (total-list baySum b ∙ ap totalOf (sym w)), rw h (most-list baySum b ∙ ap mostOf (sym w)))
 
 -- no bay has more free bytes than the zone
-pub largest-total : (s : List ℕ) → (callBytes sums s) .answer .second ≤ (callBytes sums s) .answer .value
+pub largest-total : (s : List ℕ) → (call sums s) .answer .second ≤ (call sums s) .answer .value
 largest-total s = go (wellFormed s) refl
   where
-    go : (t : Bool) → wellFormed s ≡ t → (callBytes sums s) .answer .second ≤ (callBytes sums s) .answer .value
+    go : (t : Bool) → wellFormed s ≡ t → (call sums s) .answer .second ≤ (call sums s) .answer .value
     go true h = rw h (most-total baySum (group (start (decode s)) (decode s .blocks)))
     go false h = rw h (omega arith)
 
 -- the length of a zone is a multiple of 4 and within the buffer
-pub length-within : (s : List ℕ) → Bytes s → ((callBytes length-of s) .answer .value ≤ length s) × ((callBytes length-of s) .answer .value % 4 ≡ 0)
+pub length-within : (s : List ℕ) → Bytes s → ((call length-of s) .answer .value ≤ length s) × ((call length-of s) .answer .value % 4 ≡ 0)
 length-within s y = go (wellFormed s) refl
   where
-    go : (t : Bool) → wellFormed s ≡ t → ((callBytes length-of s) .answer .value ≤ length s) × ((callBytes length-of s) .answer .value % 4 ≡ 0)
+    go : (t : Bool) → wellFormed s ≡ t → ((call length-of s) .answer .value ≤ length s) × ((call length-of s) .answer .value % 4 ≡ 0)
     go true h = let f = fields-of s h in let e = length-is s y h in (rw h (omega arith), rw h (omega arith))
     go false h = (rw h (omega arith), rw h refl)
 
 -- no more handles are live than a zone can have masters
-pub check-few : (s : List ℕ) → Bytes s → (callBytes check s) .answer .second ≤ 8188
+pub check-few : (s : List ℕ) → Bytes s → (call check s) .answer .second ≤ 8188
 check-few s y = go (wellFormed s) refl
   where
-    go : (t : Bool) → wellFormed s ≡ t → (callBytes check s) .answer .second ≤ 8188
+    go : (t : Bool) → wellFormed s ≡ t → (call check s) .answer .second ≤ 8188
     go true h = rw h (omega (arith, count-live s y h, count-few s y h))
     go false h = rw h (omega arith)
 
 -- ---- no byte of the buffer changes
 
-pub unchanged : (c : Call) (s : List ℕ) → Bytes s → ((step zoneBays c (inBays (length s) (decode s))) .next ≡ inBays (length s) (decode s)) → (callBytes c s) .bytes ≡ s
-unchanged c s y e = go (wellFormed s) refl
+pub unchanged : (c : Call) (s : List ℕ) → Bytes s → (work c (zoneIn s)) .next ≡ zoneIn s → (call c s) .bytes ≡ s
+unchanged c s y e = go (numberOf c s) (wellFormed s) refl
   where
-    go : (t : Bool) → wellFormed s ≡ t → (callBytes c s) .bytes ≡ s
-    go true h = refused s y h c e
-    go false h = rw h
+    go : (n : ℕ) (t : Bool) → wellFormed s ≡ t → (callWith n c s) .bytes ≡ s
+    go (suc n) t h = rw (eqb·suc-zero n)
+    go zero true h = rw h (ap (λ (z : Zone). replacing s (decode s) (inLine z)) e ∙ same-bytes s y h)
+    go zero false h = rw h
 
-pub sum-bytes : (s : List ℕ) → Bytes s → (callBytes sums s) .bytes ≡ s
+pub sum-bytes : (s : List ℕ) → Bytes s → (call sums s) .bytes ≡ s
 sum-bytes s y = unchanged sums s y refl
 
-pub length-bytes : (s : List ℕ) → Bytes s → (callBytes length-of s) .bytes ≡ s
+pub length-bytes : (s : List ℕ) → Bytes s → (call length-of s) .bytes ≡ s
 length-bytes s y = unchanged length-of s y refl
 
-pub check-bytes : (s : List ℕ) → Bytes s → (callBytes check s) .bytes ≡ s
+pub check-bytes : (s : List ℕ) → Bytes s → (call check s) .bytes ≡ s
 check-bytes s y = unchanged check s y refl
 
 -- an answer that is the definition's, of a call that changes no byte, is what the call promises
-pub promised : (c : Call) (s : List ℕ) (a : Answer) → Bytes s → a ≡ (callBytes c s) .answer → (callBytes c s) .bytes ≡ s → Promise c s a s
-promised c s a y e b = promise-of c s s a y (record {
-  number = ap (λ (x : Answer). x .number) e;
-  value = ap (λ (x : Answer). x .value) e;
-  second = ap (λ (x : Answer). x .second) e;
-  bytes = ap (λ (x : Answer). x .bytes) e;
-  records = subst (λ (x : Answer). List·Permᴰ (a .records) (x .records)) e (Permᴰ·refl (a .records));
-}) (sym b)
+pub promised : (c : Call) (s : List ℕ) (a : Answer) → a ≡ (call c s) .answer → (call c s) .bytes ≡ s → Promise c s a s
+promised c s a e b = record {
+  answer = record {
+    number = ap (λ (x : Answer). x .number) e;
+    value = ap (λ (x : Answer). x .value) e;
+    second = ap (λ (x : Answer). x .second) e;
+    bytes = ap (λ (x : Answer). x .bytes) e;
+    records = subst (λ (x : Answer). List·Permᴰ (a .records) (x .records)) e (Permᴰ·refl (a .records));
+  };
+  bytes = sym b;
+}

@@ -6,9 +6,9 @@ use native.Mathlib.Omega.{arith}
 use lib.ListN.{length}
 use Rattle.structure.specs.Structure.{Block, free, fixed, reloc}
 use Rattle.walk.specs.Walker.{freeTotal}
-use Rattle.zone.specs.PickBays.{Bays, last, more, sumS, maxS}
-use Rattle.zone.specs.Bay.{Item, Cell, free as gapCell, held, baySum}
-use Rattle.zone.specs.OnBays.{Fixed}
+use Rattle.calls.specs.Bays.{Bays, last, more, sumS, maxS}
+use Rattle.calls.specs.State.{Item, Fixed}
+use Rattle.zone.specs.Bay.{Cell, free as gapCell, held, baySum}
 use Rattle.zone.specs.Group.{inFront, group}
 use Rattle.tell.specs.Largest.{largestOf}
 

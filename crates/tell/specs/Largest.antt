@@ -6,7 +6,6 @@ use Prim.Native.Nat.{ℕ, _+_, _≤_, max}
 use Rattle.format.specs.WellFormed.{firstField}
 use Rattle.structure.specs.Structure.{Block, free, fixed, reloc}
 use Rattle.walk.specs.Walker.{freeSize, freeTotal, blocksAt}
-pub use Rattle.calls.specs.Calls.{summed}
 
 abbrev pub fixedB : Block → Bool
 fixedB (free n) = false

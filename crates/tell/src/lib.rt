@@ -7,9 +7,9 @@ ghost use lib.Dec.{eqb};
 ghost use Rattle.format.specs.WellFormed.{typeOf};
 ghost use Rattle.walk.specs.Walker.{Edge, Seen, freeAt};
 ghost use Rattle.access.specs.Edit.{IsZone};
-ghost use Rattle.zone.specs.OnBytes.{callBytes};
-ghost use Rattle.calls.specs.Calls.{told, answersTwo, sums, length-of, check};
-ghost use Rattle.tell.specs.Largest.{summed, SumsFrom, SumsIn, Stepped};
+ghost use Rattle.zone.specs.Call.{call};
+ghost use Rattle.calls.specs.Calls.{told, toldTwo, sums, length-of, check};
+ghost use Rattle.tell.specs.Largest.{SumsFrom, SumsIn, Stepped};
 use calls::Told;
 
 fn is_fixed(z: &[u8], p: usize) -> bool
@@ -111,7 +111,7 @@ fn sum_in(z: &[u8]) -> Sums
 
 // Total of free bytes and the largest bay's sum; 0 for each when refused.
 pub fn sum(zone: &[u8]) -> Sums
-    ensures { λ r. ⌜ summed (r .number) (r .total) (r .largest) ≡ (callBytes sums (now (zone .entry))) .answer ⌝ }
+    ensures { λ r. ⌜ toldTwo (r .number) (r .total) (r .largest) ≡ (call sums (now (zone .entry))) .answer ⌝ }
 {
     let k = zone_check::check(zone);
     let ok = k.ok;
@@ -128,7 +128,7 @@ pub fn sum(zone: &[u8]) -> Sums
 
 // The length of the zone.
 pub fn length(zone: &[u8]) -> Told
-    ensures { λ r. ⌜ told (r .number) (r .value) ≡ (callBytes length-of (now (zone .entry))) .answer ⌝ }
+    ensures { λ r. ⌜ told (r .number) (r .value) ≡ (call length-of (now (zone .entry))) .answer ⌝ }
 {
     let k = zone_check::check(zone);
     let ok = k.ok;
@@ -146,7 +146,7 @@ pub fn length(zone: &[u8]) -> Told
 
 // Yes or no, and the number of live handles; 0 for no.
 pub fn check(zone: &[u8]) -> zone_check::Checked
-    ensures { λ r. ⌜ answersTwo (cond (r .ok) 1 0) (r .count) ≡ (callBytes check (now (zone .entry))) .answer ⌝ }
+    ensures { λ r. ⌜ toldTwo 0 (cond (r .ok) 1 0) (r .count) ≡ (call check (now (zone .entry))) .answer ⌝ }
 {
     zone_check::check(zone)
 }

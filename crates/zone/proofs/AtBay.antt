@@ -4,10 +4,11 @@ use mathlib.Core.Bool.{Bool, true}
 use mathlib.Core.List.{List, [], _∷_, _++_, map, append-assoc}
 use Prim.Native.Nat.{ℕ, _+_}
 use Rattle.structure.specs.Structure.{Block, free, fixed, reloc, encodeBlock, join}
-use Rattle.zone.specs.PickBays.{Bays, last, more, onLow}
+use Rattle.calls.specs.Bays.{Bays, last, more}
+use Rattle.zone.specs.PickBays.{onLow}
 use Rattle.zone.specs.Bay.{Cell, free as gapCell, held}
 use Rattle.zone.proofs.BayLaws.{Each, nothing, just, each-over, each-cond′}
-use Rattle.zone.specs.OnBays.{Fixed}
+use Rattle.calls.specs.State.{Fixed}
 use Rattle.zone.specs.Group.{flatBay, flatten}
 
 flat-append : (cs : List Cell) (a r : List Block) → flatBay cs (a ++ r) ≡ flatBay cs a ++ r

@@ -8,8 +8,9 @@ use native.Mathlib.Omega.{arith}
 use lib.ListN.{length}
 use lib.Dec.{leb}
 use borrow.Author.Tests.{leb-true}
-use Rattle.zone.specs.PickBays.{over}
-use Rattle.zone.specs.Bay.{is, Item, itemSize, total, alter, get, Cell, free, held, baySize, baySum, items, gap, packed, joinBays, compactBay, fit, put, trim, takeHigh, release, edit}
+use Rattle.calls.specs.Bays.{over}
+use Rattle.calls.specs.State.{is, Item, itemSize, total, alter, get}
+use Rattle.zone.specs.Bay.{Cell, free, held, baySize, baySum, items, gap, packed, joinBays, compactBay, fit, put, trim, takeHigh, release, edit}
 use Rattle.zone.specs.Counted.{remove, count}
 use Rattle.block_type.specs.Limits.{relocHeader}
 
@@ -155,7 +156,7 @@ perm-total (List·Permᴰ·cons e p) = ap₂ _+_ (ap itemSize e) (perm-total p)
 perm-total (List·Permᴰ·swap e f) = omega (arith, ap itemSize e, ap itemSize f)
 perm-total (List·Permᴰ·trans p q) = perm-total p ∙ perm-total q
 
-pub perm-length : {a b : List Item} → List·Permᴰ a b → length a ≡ length b
+pub perm-length : {X : Type 0} {a b : List X} → List·Permᴰ a b → length a ≡ length b
 perm-length List·Permᴰ·nil = refl
 perm-length (List·Permᴰ·cons e p) = ap suc (perm-length p)
 perm-length (List·Permᴰ·swap e q) = refl

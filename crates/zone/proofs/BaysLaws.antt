@@ -4,7 +4,8 @@ use mathlib.Core.Bool.{Bool, true, false, cond, true≢false, false≢true}
 use mathlib.Core.Option.{Option, none, some}
 use mathlib.Core.List.{List, List·Permᴰ, List·Permᴰ·trans, Permᴰ·append-left, Permᴰ·append-right}
 use Prim.Native.Nat.{ℕ, _+_, max}
-use Rattle.zone.specs.PickBays.{Bays, last, more, over, orElse, onLow, onHigh, glue, onJoin, mapS, onFixed, onLast, findS, findF, concatS, sumS, maxS, lastS, AllS}
+use Rattle.calls.specs.Bays.{Bays, last, more, over, orElse, mapS, onFixed, onLast, findS, findF, concatS, sumS, maxS, lastS}
+use Rattle.zone.specs.PickBays.{onLow, onHigh, glue, onJoin, AllS}
 
 -- both absent, or both present and related
 pub data Both {A B : Type 0} (R : A → B → Type 0) : Option A → Option B → Type 0 where

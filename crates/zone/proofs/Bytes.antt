@@ -5,12 +5,11 @@ use mathlib.Core.List.{List, [], _∷_, _++_}
 use Prim.Native.Nat.{ℕ, zero, suc, _+_, _-_, _/_, _%_, _^_}
 use lib.ListN.{replicate}
 use lib.Dec.{eqb}
-use Rattle.zone.specs.PickBays.{Bays, last, more, orElse}
-use Rattle.zone.specs.Bay.{is, Item, itemSize, Cell, free, held, baySize}
-use Rattle.block_type.specs.Limits.{relocHeader}
-use Rattle.zone.specs.OnBays.{Fixed, fsize, handlesFrom}
-use Rattle.zone.proofs.Handles.{Zone}
-use Rattle.block_type.specs.Limits.{firstBlock}
+use Rattle.calls.specs.Bays.{Bays, last, more, orElse}
+use Rattle.calls.specs.State.{is, Item, itemSize, Fixed, fsize, handlesFrom}
+use Rattle.zone.specs.Bay.{Cell, free, held, baySize}
+use Rattle.block_type.specs.Limits.{relocHeader, firstBlock}
+use Rattle.zone.specs.Work.{Zone}
 
 -- w bytes, high byte first
 abbrev pub big : ℕ → ℕ → List ℕ
@@ -58,15 +57,15 @@ abbrev pub nextOf : ℕ → List ℕ → ℕ
 nextOf h [] = 0
 nextOf h (k ∷ ks) = cond (eqb h k) (headOr0 ks) (nextOf h ks)
 
-abbrev pub masterOf : Zone → ℕ → ℕ
-masterOf z h = Option·getD (whereS h (firstBlock (z .m)) (z .bays)) (nextOf h (z .chain))
+abbrev pub masterOf : ℕ → Zone → ℕ → ℕ
+masterOf m z h = Option·getD (whereS h (firstBlock m) (z .bays)) (nextOf h (z .chain))
 
-abbrev pub masterBytes : Zone → List ℕ → List ℕ
-masterBytes z [] = []
-masterBytes z (h ∷ hs) = big 4 (masterOf z h) ++ masterBytes z hs
+abbrev pub masterBytes : ℕ → Zone → List ℕ → List ℕ
+masterBytes m z [] = []
+masterBytes m z (h ∷ hs) = big 4 (masterOf m z h) ++ masterBytes m z hs
 
-abbrev pub headerBytes : Zone → List ℕ
-headerBytes z = big 4 (z .len) ++ (big 4 (firstBlock (z .m)) ++ (big 4 (z .m) ++ (big 2 (headOr0 (z .chain)) ++ big 2 0)))
+abbrev pub headerBytes : ℕ → Zone → List ℕ
+headerBytes m z = big 4 (z .len) ++ (big 4 (firstBlock m) ++ (big 4 m ++ (big 2 (headOr0 (z .chain)) ++ big 2 0)))
 
-abbrev pub zoneBytes : Zone → List ℕ
-zoneBytes z = headerBytes z ++ (masterBytes z (handlesFrom 16 (z .m)) ++ blockBytes (z .bays))
+abbrev pub zoneBytes : ℕ → Zone → List ℕ
+zoneBytes m z = headerBytes m z ++ (masterBytes m z (handlesFrom 16 m) ++ blockBytes (z .bays))

@@ -9,20 +9,21 @@ use lib.ListN.{length, set, take, drop, replicate, length-replicate}
 use lib.Dec.{leb, eqb}
 use borrow.Author.Tests.{leb-true}
 use Rattle.bigendian.specs.BigEndian.{Bytes}
-use Rattle.zone.specs.PickBays.{Bays, last, more, onLow, onHigh, onJoin, mapS, onFixed, onLast, lastS, findS}
-use Rattle.zone.specs.Bay.{is, Item, itemSize, get, alter, Cell, baySum, items, gap, joinBays, compactBay, put, takeHigh, release, edit, sized, resized, reshape}
+use Rattle.calls.specs.Bays.{Bays, last, more, mapS, onFixed, onLast, lastS, findS}
+use Rattle.zone.specs.PickBays.{onLow, onHigh, onJoin}
+use Rattle.calls.specs.State.{is, Item, itemSize, get, alter, sized, Fixed, fsize, pointer, alterFixed, newItem, newFixed}
+use Rattle.zone.specs.Bay.{Cell, baySum, items, gap, joinBays, compactBay, put, takeHigh, release, edit, resized, reshape}
 use Rattle.zone.specs.Counted.{remove}
 use Rattle.zone.proofs.BayLaws.{Each, nothing, just, each-cond, each-over, put-keeps, cut-less, tidy-items, items-weld, items-gap, release-items, edit-items}
 use Rattle.zone.proofs.Sums.{each-orElse, each-weaken}
 use Rattle.zone.proofs.Resize.{length-sized}
 use Rattle.zone.proofs.Own.{own-shaped}
 use Rattle.block_type.specs.Limits.{relocLimit, fixedLimit, fixedHeader, up4}
-use Rattle.zone.specs.OnBays.{Fixed, fsize, pointer, alterFixed, newItem, newFixed, lookup, own}
-use Rattle.zone.proofs.BayKinds.{zoneBays}
+use Rattle.zone.specs.Search.{lookup, own}
 use Rattle.zone.proofs.Sound.{Block}
-use Rattle.zone.proofs.Walk.{Closed, any}
+use Rattle.zone.proofs.Walk.{Closed, any, Feeds, bytes-take, bytes-sets}
 use lib.Seq.{sets}
-use Rattle.zone.proofs.Handles.{Zone}
+use Rattle.zone.specs.Work.{Zone}
 
 -- ---- of every bay and every fixed block
 
@@ -42,11 +43,11 @@ module _ {B F : Type 0} {P : B → Type 0} {Q : F → Type 0} where
       each-orElse (each-over _ (λ u k. e-more p q k) (every-high t f mk e at end h m z r))
       (each-cond (t b) (λ k. just (e-more (h b k p) (m (at x)) (e-more z q r))) nothing)
 
-  pub every-join : (t : F → Bool) (j : B → F → B → B) → ((b c : B) (x : F) → P b → P c → P (j b x c)) → {s : Bays B F} → Every P Q s → Each (Every P Q) (onJoin t j s)
+  pub every-join : (t : F → Bool) (j : B → F → B → B) → ((b c : B) (x : F) → P b → Q x → P c → P (j b x c)) → {s : Bays B F} → Every P Q s → Each (Every P Q) (onJoin t j s)
   every-join t j h (e-last p) = nothing
-  every-join t j h (e-more {b = b} {x = x} p q (e-last {b = c} r)) = each-cond (t x) (λ k. just (e-last (h b c x p r))) nothing
+  every-join t j h (e-more {b = b} {x = x} p q (e-last {b = c} r)) = each-cond (t x) (λ k. just (e-last (h b c x p q r))) nothing
   every-join t j h (e-more {b = b} {x = x} p q (e-more {b = c} {x = y} r o e)) =
-      each-cond (t x) (λ k. just (e-more (h b c x p r) o e)) (each-over (more b x) (λ u k. e-more p q k) (every-join t j h (e-more r o e)))
+      each-cond (t x) (λ k. just (e-more (h b c x p q r) o e)) (each-over (more b x) (λ u k. e-more p q k) (every-join t j h (e-more r o e)))
 
   pub every-map : (f : B → B) → ((b : B) → P b → P (f b)) → {s : Bays B F} → Every P Q s → Every P Q (mapS f s)
   every-map f h (e-last {b = b} p) = e-last (h b p)
@@ -109,35 +110,11 @@ bytes-append [] b p q i = q i
 bytes-append (x ∷ a) b p q zero = p 0
 bytes-append (x ∷ a) b p q (suc i) = bytes-append a b (λ j. p (suc j)) q i
 
-bytes-take : (n : ℕ) (s : List ℕ) → Bytes s → Bytes (take n s)
-bytes-take zero s h i = omega arith
-bytes-take (suc n) [] h i = omega arith
-bytes-take (suc n) (x ∷ xs) h zero = h 0
-bytes-take (suc n) (x ∷ xs) h (suc i) = bytes-take n xs (λ j. h (suc j)) i
-
-bytes-set : (s : List ℕ) (k a : ℕ) → a < 256 → Bytes s → Bytes (set s k a)
-bytes-set [] k a l h i = h i
-bytes-set (x ∷ s) zero a l h zero = l
-bytes-set (x ∷ s) zero a l h (suc i) = h (suc i)
-bytes-set (x ∷ s) (suc k) a l h zero = h 0
-bytes-set (x ∷ s) (suc k) a l h (suc i) = bytes-set s k a l (λ j. h (suc j)) i
-
-pub bytes-sets : (vs s : List ℕ) (k : ℕ) → Bytes vs → Bytes s → Bytes (sets s k vs)
-bytes-sets [] s k v h = h
-bytes-sets (a ∷ vs) s k v h = bytes-sets vs (set s k a) (suc k) (λ j. v (suc j)) (bytes-set s k a (v 0) h)
-
 -- ---- data of at most n bytes
 
 pub record Data (n : ℕ) (l : List ℕ) : Type 0 where
   pub bytes : Bytes l
   pub short : length l ≤ n
-
--- a change of a block's bytes that leaves bytes
-pub record Feeds (f : List ℕ → List ℕ) : Type 0 where
-  pub feeds : (l : List ℕ) → Bytes l → Bytes (f l)
-
-pub fed-write : (i n : ℕ) (buf : List ℕ) → Bytes buf → Feeds (λ (l : List ℕ). sets l i (take n buf))
-fed-write i n buf y = record { feeds = λ l h. bytes-sets (take n buf) l i (bytes-take n buf y) h }
 
 abbrev pub ItemOk : Item → Type 0
 ItemOk e = Data relocLimit (e .bytes)
@@ -187,20 +164,20 @@ release-ok h b p = rw (release-items h b) (items-remove h p)
 join-ok : (b c : List Cell) (n : ℕ) → BayOk b → BayOk c → BayOk (joinBays b (gap n c))
 join-ok b c n p q = rw (items-weld b (gap n c), items-gap n c) (items-append p q)
 
-pub clean-closed : Closed zoneBays Feeds Clean
+pub clean-closed : Closed Clean
 clean-closed = record {
   low = λ z h hs c lim q g. each-weaken (λ b r. record { clean = r }) (every-low _ (put (newItem h c)) (λ b t p. put-ok (newItem h c) (zeros-data (up4 c) relocLimit (omega arith)) b t p) (g .clean));
   high = λ z n b lim g. each-weaken (λ r q. record { clean = q })
       (every-high _ (takeHigh n) (newFixed n) [] _ (z .len) (λ b t p. rw (cut-less n b (leb-true n (baySum b) t) .same) p) (λ end. new-fixed-ok n end b lim) i-nil (g .clean));
-  drop = λ z h g. each-weaken (λ e u. record { clean = every-map (release h) (release-ok h) (g .clean) }) (any (lookup zoneBays h z));
-  join = λ z p g. each-weaken (λ b q. record { clean = q }) (every-join _ _ (λ b c x r s. join-ok b c (fsize x) r s) (g .clean));
-  edit = λ z h f q fed g. record { clean = every-map (edit h f) (λ b p. rw (edit-items h f b) (items-map (alter h f) (alter-data h f (feed-data relocLimit f q fed)) p)) (g .clean) };
-  edit-fixed = λ z p f q fed g. record { clean = every-fixed (alterFixed p f) (alter-fixed-ok p f q fed) (g .clean) };
+  drop = λ z h g. each-weaken (λ e u. record { clean = every-map (release h) (release-ok h) (g .clean) }) (any (lookup h z));
+  join = λ z p g. each-weaken (λ b q. record { clean = q }) (every-join _ _ (λ b c x r q s. join-ok b c (fsize x) r s) (g .clean));
+  edit = λ z h f y g. record { clean = every-map (edit h f) (λ b p. rw (edit-items h f b) (items-map (alter h f) (alter-data h f (feed-data relocLimit f (y .long) y)) p)) (g .clean) };
+  edit-fixed = λ z p f y g. record { clean = every-fixed (alterFixed p f) (alter-fixed-ok p f (y .long) y) (g .clean) };
   resize = λ z h a q g. each-weaken (λ e d lim. each-weaken (λ b r. record { clean = r })
-      (each-orElse (every-low (own zoneBays h a) (reshape h a) (λ b t p. rw (own-shaped h a b t .same) (items-map (alter h (sized a)) (alter-data h (sized a) (λ l d. sized-data a relocLimit l lim (d .bytes))) p)) (g .clean))
+      (each-orElse (every-low (own h a) (reshape h a) (λ b t p. rw (own-shaped h a b t .same) (items-map (alter h (sized a)) (alter-data h (sized a) (λ l d. sized-data a relocLimit l lim (d .bytes))) p)) (g .clean))
       (every-low _ (put (resized a e)) (λ b t p. put-ok (resized a e) (sized-data a relocLimit (e .bytes) lim (d .bytes)) b t p) (every-map (release h) (release-ok h) (g .clean)))))
       (every-find ItemOk (λ (b : List Cell). get h (items b)) (λ b p. items-get h p) (g .clean));
   compactBay = λ z g. record { clean = every-map compactBay (λ b p. rw (tidy-items b) p) (g .clean) };
-  grow = λ z n q l m g. record { clean = every-last _ (λ p. join-ok (lastS (z .bays)) [] n p i-nil) (g .clean) };
-  takeHigh = λ z n q g. record { clean = every-last _ (λ p. rw (cut-less n (lastS (z .bays)) q .same) p) (g .clean) };
+  grow = λ z n q l o g. record { clean = every-last _ (λ p. join-ok (lastS (z .bays)) [] n p i-nil) (g .clean) };
+  takeHigh = λ z j n q g. record { clean = every-last _ (λ p. rw (cut-less n (lastS (z .bays)) (omega (arith, q)) .same) p) (g .clean) };
 }

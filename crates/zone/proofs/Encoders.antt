@@ -12,19 +12,21 @@ use Rattle.bigendian.specs.BigEndian.{toBE}
 use Rattle.format.proofs.Count.{occurs, offsets}
 use Rattle.structure.specs.Structure as Shape
 use Rattle.structure.specs.Structure.{Block, fixed, count, len, encodeBlock, placeOf, headOf, value, words, join, encode}
-use Rattle.zone.specs.PickBays.{Bays, last, more, orElse}
+use Rattle.calls.specs.Bays.{Bays, last, more, orElse}
 use Rattle.zone.specs.Bay as Bay
 use Rattle.zone.specs.Counted as Counted
-use Rattle.zone.specs.Bay.{itemSize, Cell, free as gapCell, held, baySize, items}
+use Rattle.zone.specs.Counted.{live}
+use Rattle.calls.specs.State.{itemSize, Fixed, fsize, handlesFrom}
+use Rattle.zone.specs.Bay.{Cell, free as gapCell, held, baySize, items}
 use Rattle.zone.proofs.BayLaws.{Each, nothing, just}
 use Rattle.zone.proofs.Sums.{each-weaken, each-orElse}
-use Rattle.zone.specs.OnBays.{Fixed, fsize, handlesFrom}
 use Rattle.zone.proofs.Handles as Handles
-use Rattle.zone.proofs.Handles.{live, occurs-once}
+use Rattle.zone.proofs.Handles.{occurs-once}
 use Rattle.zone.proofs.Bytes as Old
 use Rattle.zone.proofs.Bytes.{big, cellBytes, blockBytes, whereIn, whereS, headOr0, masterOf, masterBytes, zoneBytes}
 use Rattle.zone.specs.Group.{flatBay, flatten}
-use Rattle.zone.specs.OnBytes.{Zone, inLine}
+use Rattle.zone.specs.Work.{Zone}
+use Rattle.zone.specs.Call.{inLine}
 use Rattle.zone.proofs.Keep.{Whole, count-line, len-line, offsets-same}
 
 big-is : (w n : ℕ) → big w n ≡ toBE w n
@@ -104,32 +106,32 @@ where-live h p (last b) = where-count h p b
 where-live h p (more b x s) = each-orElse (each-weaken (λ q l. omega (arith, l)) (where-count h p b)) (each-weaken (λ q l. omega (arith, l)) (where-live h (p + baySize b + fsize x) s))
 
 module _ (z : Zone) (w : Whole z) where
-  pub master-is : (h : ℕ) → masterOf z h ≡ value (inLine z) h
+  pub master-is : (h : ℕ) → masterOf (w .m) z h ≡ value (inLine z) h
   master-is h =
-      both (whereS h (16 + 4 * z .m) (z .bays)) (where-live h (16 + 4 * z .m) (z .bays))
-      ∙ ap₂ _+_ (sym (place-strip h (16 + 4 * z .m) (z .bays)) ∙ ap (λ (m : ℕ). placeOf h (16 + 4 * m) (flatten (z .bays))) (sym (count-line z w))) (next-is h (z .chain))
+      both (whereS h (16 + 4 * w .m) (z .bays)) (where-live h (16 + 4 * w .m) (z .bays))
+      ∙ ap₂ _+_ (sym (place-strip h (16 + 4 * w .m) (z .bays)) ∙ ap (λ (m : ℕ). placeOf h (16 + 4 * m) (flatten (z .bays))) (sym (count-line z w))) (next-is h (z .chain))
     where
       both : (o : Option ℕ) → Each (λ (q : ℕ). 1 ≤ live h (z .bays)) o → Option·getD o (Old.nextOf h (z .chain)) ≡ Option·getD o 0 + Old.nextOf h (z .chain)
       both none nothing = omega arith
-      both (some q) (just l) = omega (arith, next-none h (z .chain) (omega (arith, w .owned .owns h, occurs-once h 16 (z .m))))
+      both (some q) (just l) = omega (arith, next-none h (z .chain) (omega (arith, w .owned .owns h, occurs-once h 16 (w .m))))
 
-  table-is : (hs : List ℕ) → masterBytes z hs ≡ words (value (inLine z)) hs
+  table-is : (hs : List ℕ) → masterBytes (w .m) z hs ≡ words (value (inLine z)) hs
   unfolding words
   table-is [] = refl
-  table-is (h ∷ hs) = ap₂ _++_ (big-is 4 (masterOf z h) ∙ ap (toBE 4) (master-is h)) (table-is hs)
+  table-is (h ∷ hs) = ap₂ _++_ (big-is 4 (masterOf (w .m) z h) ∙ ap (toBE 4) (master-is h)) (table-is hs)
 
-  head-bytes : Old.headerBytes z ≡ Shape.header (inLine z)
+  head-bytes : Old.headerBytes (w .m) z ≡ Shape.header (inLine z)
   unfolding Shape.header
   head-bytes =
       ap₂ (λ (a b : List ℕ). a ++ b) (big-is 4 (z .len) ∙ ap (toBE 4) (sym (len-line z w)))
-      (ap₂ (λ (a b : List ℕ). a ++ b) (big-is 4 (16 + 4 * z .m) ∙ ap (λ (m : ℕ). toBE 4 (16 + 4 * m)) (sym (count-line z w)))
-      (ap₂ (λ (a b : List ℕ). a ++ b) (big-is 4 (z .m) ∙ ap (toBE 4) (sym (count-line z w)))
+      (ap₂ (λ (a b : List ℕ). a ++ b) (big-is 4 (16 + 4 * w .m) ∙ ap (λ (m : ℕ). toBE 4 (16 + 4 * m)) (sym (count-line z w)))
+      (ap₂ (λ (a b : List ℕ). a ++ b) (big-is 4 (w .m) ∙ ap (toBE 4) (sym (count-line z w)))
       (ap (λ (a : List ℕ). a ++ (0 ∷ 0 ∷ [])) (big-is 2 (headOr0 (z .chain)) ∙ ap (toBE 2) (head-is (z .chain))))))
 
-  pub encoders : zoneBytes z ≡ encode (inLine z)
+  pub encoders : zoneBytes (w .m) z ≡ encode (inLine z)
   unfolding encode
   encoders =
       ap₂ (λ (a b : List ℕ). a ++ b) head-bytes
       (ap₂ (λ (a b : List ℕ). a ++ b)
-      (table-is (handlesFrom 16 (z .m)) ∙ ap (words (value (inLine z))) (offsets-same 16 (z .m) ∙ ap (offsets 16) (sym (count-line z w))))
+      (table-is (handlesFrom 16 (w .m)) ∙ ap (words (value (inLine z))) (offsets-same 16 (w .m) ∙ ap (offsets 16) (sym (count-line z w))))
       (strip-bytes (z .bays)))

@@ -5,9 +5,9 @@ use Prim.Native.Nat.{ℕ, _+_}
 use native.Mathlib.Nat.{add-zero, add-assoc}
 use lib.ListN.{length}
 use Rattle.structure.specs.Structure.{Block, free, fixed, reloc}
-use Rattle.zone.specs.PickBays.{Bays, last, more}
-use Rattle.zone.specs.Bay.{itemSize, Cell, free as gapCell, held, baySize}
-use Rattle.zone.specs.OnBays.{Fixed}
+use Rattle.calls.specs.Bays.{Bays, last, more}
+use Rattle.calls.specs.State.{itemSize, Fixed}
+use Rattle.zone.specs.Bay.{Cell, free as gapCell, held, baySize}
 use Rattle.zone.proofs.Places.{Tiled, tile-last, tile-more}
 use Rattle.zone.specs.Group.{inFront, group, flatBay, flatten}
 

@@ -8,30 +8,31 @@ use lib.ListN.{length}
 use Rattle.format.proofs.Count.{occurs}
 use Rattle.structure.specs.Structure.{Structure, Block, free, fixed, reloc, sizes, count, start, len}
 use Rattle.structure.specs.Valid.{handlesOf, Tiled, Valid}
-use Rattle.zone.specs.PickBays.{Bays, last, more, AllS}
-use Rattle.zone.proofs.BaysLaws.{Like, like-last, like-more}
-use Rattle.zone.specs.Bay.{Item, itemSize, Cell, free as gapCell, held, baySize, items}
+use Rattle.calls.specs.Bays.{Bays, last, more}
+use Rattle.zone.specs.PickBays.{AllS}
+use Rattle.calls.specs.State.{Item, itemSize, Fixed}
+use Rattle.zone.specs.Bay.{Cell, free as gapCell, held, baySize, items}
 use Rattle.zone.proofs.Sound as Sound
 use Rattle.zone.proofs.Sound.{Sound, s-nil, s-end, s-free, s-held}
-use Rattle.zone.specs.OnBays as OnBays
-use Rattle.zone.specs.OnBays.{Fixed, step}
-use Rattle.calls.specs.Calls.{Call}
-use Rattle.zone.proofs.BayKinds.{Room, room, zoneBays, ledgerBays}
-use Rattle.zone.proofs.Simulation.{sim, step-same, same-next}
-use Rattle.zone.proofs.Agreement.{Fits, Equal, link, agree}
-use Rattle.zone.proofs.Handles.{Owns, owns-closed, single}
+use Rattle.bigendian.specs.BigEndian.{Bytes}
+use Rattle.calls.specs.Calls.{Call, beside, secondOf}
+use Rattle.calls.specs.Table.{refusalOf}
+use Rattle.zone.specs.Counted.{live}
+use Rattle.zone.proofs.Handles.{Owns, owns-closed, occurs-once}
 use Rattle.zone.proofs.Places as Places
 use Rattle.zone.proofs.Places.{tile-last, tile-more, Placed, placed-closed}
-use Rattle.zone.proofs.Walk.{left, step-closed, step-kept, Fed}
-use Rattle.zone.proofs.Clean.{Every, e-last, e-more, i-nil, i-cons, ItemOk, FixedOk, BayOk, Clean, Feeds, clean-closed}
-use Rattle.zone.proofs.Bounds.{Bounded, bounded-closed, Long, long-closed, sound-of}
+use Rattle.zone.proofs.Walk.{work-keeps}
+use Rattle.zone.proofs.Clean.{Every, e-last, e-more, i-nil, i-cons, ItemOk, FixedOk, BayOk, Clean, clean-closed}
+use Rattle.zone.proofs.Bounds.{Bounded, bounded-closed, Long, long-closed}
+use Rattle.zone.proofs.Solid.{Sized, Solid, solid-closed}
 use Rattle.zone.specs.Group.{inFront, group}
 use Rattle.zone.proofs.GroupLaws.{flatten-group}
-use Rattle.zone.specs.OnBytes.{Zone, inBays, inLine}
+use Rattle.zone.specs.Work.{Zone, facts, work}
+use Rattle.zone.specs.Call.{inBays, inLine}
 use Rattle.zone.proofs.Keep.{Whole, live-strip, occurs-same, masters-same}
 
 pub line-bays : (buf : ℕ) (s : Structure) → inLine (inBays buf s) ≡ s
-line-bays buf s = λ i. record { links = s .links; blocks = flatten-group (start s) (s .blocks) i }
+line-bays buf s = λ i. record { chain = s .chain; blocks = flatten-group (start s) (s .blocks) i }
 
 -- ---- places
 
@@ -92,35 +93,41 @@ clean-group prev p (fixed d ∷ bs) t = e-more i-nil (record { holds = record { 
 
 pub whole-bays : (buf : ℕ) (s : Structure) → Valid s → len s ≤ buf → Whole (inBays buf s)
 whole-bays buf s v l = record {
-  owned = record { owns = λ h. omega (arith, live-strip h (group (start s) (s .blocks)), ap (λ (bs : List Block). occurs h (handlesOf bs)) (flatten-group (start s) (s .blocks)), occurs-same h (s .links), masters-same (count s) h, v .owned h) };
+  m = count s;
+  few = v .few;
+  owned = record { owns = λ h. omega (arith, live-strip h (group (start s) (s .blocks)), ap (λ (bs : List Block). occurs h (handlesOf bs)) (flatten-group (start s) (s .blocks)), occurs-same h (s .chain), masters-same (count s) h, v .owned h) };
   placed = record { tiled = placed-group (start s) (len s) (s .blocks) refl };
-  bounded = record { within = l; limit = v .short; few = v .few };
+  bounded = record { within = l; limit = v .short };
   sound = sound-group false (start s) (s .blocks) (v .tiled) .0;
   clean = record { clean = clean-group false (start s) (s .blocks) (v .tiled) };
 }
 
--- ---- every call keeps it
+-- ---- every call that nothing refuses keeps it
 
--- the ledger that a zone shows
-ledgerS : Bays (List Cell) Fixed → Bays Room Fixed
-ledgerS (last b) = last (room (baySize b) (items b))
-ledgerS (more b x s) = more (room (baySize b) (items b)) x (ledgerS s)
+-- what is known of the bays, as the walk through the calls keeps it
+solid-of : {s : Bays (List Cell) Fixed} → AllS Sound s → Every BayOk FixedOk s → Every Sound Sized s
+solid-of d (e-last i) = e-last d
+solid-of d (e-more {x = x} i q r) = e-more {x = x} (d .0) (record { block = omega (arith, q .by4) }) (solid-of (d .1) r)
 
-shows-self : (s : Bays (List Cell) Fixed) → AllS Sound s → Every BayOk FixedOk s → Like Fits Equal s (ledgerS s)
-unfolding ledgerS
-shows-self (last b) d (e-last i) = like-last (record { size = refl; perm = Permᴰ·refl _; sound = d })
-shows-self (more b x s) d (e-more i q r) = like-more {x = x} {y = x} (record { size = refl; perm = Permᴰ·refl _; sound = d .0 }) (record { equal = refl; block = omega (arith, q .by4) }) (shows-self s (d .1) r)
+sound-of : {s : Bays (List Cell) Fixed} → Every Sound Sized s → AllS Sound s
+sound-of (e-last d) = d
+sound-of (e-more d q r) = (d, sound-of r)
 
-pub whole-step : (c : Call) (z : Zone) → Fed Feeds c → Whole z → Whole ((step zoneBays c z) .next)
-whole-step c z f w =
-    let r = same-next zoneBays ledgerBays link agree (step-same zoneBays ledgerBays link agree c (single z (w .owned)) (sim (shows-self (z .bays) (w .sound) (w .clean .clean)))) in
-    record {
-      owned = left (step-kept zoneBays Owns owns-closed c z (w .owned));
-      placed = left (step-kept zoneBays Placed placed-closed c z (w .placed));
-      bounded = left (step-kept zoneBays Bounded bounded-closed c z (w .bounded));
-      sound = sound-of _ _ r;
-      clean = left (step-closed zoneBays Feeds Clean clean-closed c z f (w .clean));
-    }
+-- no handle stands twice
+pub single-live : (z : Zone) (w : Whole z) (h : ℕ) → live h (z .bays) ≤ 1
+single-live z w h = omega (arith, w .owned .owns h, occurs-once h 16 (w .m))
 
-pub same-buffer : (c : Call) (z : Zone) → ((step zoneBays c z) .next) .buf ≡ z .buf
-same-buffer c z = left (step-kept zoneBays (Long (z .buf)) (long-closed (z .buf)) c z (record { long = refl })) .long
+module _ (c : Call) (z : Zone) (y : Bytes (secondOf (beside c))) (w : Whole z) (e : refusalOf c (facts true z) ≡ 0) where
+  pub work-whole : Whole ((work c z) .next)
+  work-whole = record {
+    m = w .m;
+    few = w .few;
+    owned = work-keeps (Owns (w .m)) (owns-closed (w .m)) c z y (single-live z w) e (w .owned);
+    placed = work-keeps (Placed (w .m)) (placed-closed (w .m)) c z y (single-live z w) e (w .placed);
+    bounded = work-keeps Bounded bounded-closed c z y (single-live z w) e (w .bounded);
+    sound = sound-of (work-keeps Solid solid-closed c z y (single-live z w) e (record { solid = solid-of (w .sound) (w .clean .clean) }) .solid);
+    clean = work-keeps Clean clean-closed c z y (single-live z w) e (w .clean);
+  }
+
+  pub work-buffer : ((work c z) .next) .buf ≡ z .buf
+  work-buffer = work-keeps (Long (z .buf)) (long-closed (z .buf)) c z y (single-live z w) e (record { long = refl }) .long

@@ -7,33 +7,29 @@ use Prim.Native.Nat.{ℕ, zero, suc, _+_, _-_, _≤_, _<_}
 use native.Mathlib.Omega.{arith}
 use lib.Dec.{eqb}
 use borrow.Author.Tests.{leb-true, eqb-true, eqb-false, ne-eqb}
-use Rattle.zone.specs.PickBays.{Bays, last, more, onLow, mapS, sumS, lastS, AllS}
-use Rattle.zone.specs.Bay.{is, Item, itemSize, alter, get, Cell, baySum, items, gap, joinBays, compactBay, takeHigh, release, edit, reshape, sized, resized}
-use Rattle.zone.specs.Counted.{remove, count}
+use Rattle.calls.specs.Bays.{Bays, last, more, mapS, sumS, lastS}
+use Rattle.zone.specs.PickBays.{onLow, AllS}
+use Rattle.calls.specs.State.{is, Item, itemSize, alter, get, sized, alterFixed, Fixed, fsize, State, newItem, handlesFrom}
+use Rattle.zone.specs.Bay.{Cell, baySum, items, gap, joinBays, compactBay, takeHigh, release, edit, reshape, resized}
+use Rattle.zone.specs.Counted.{remove, count, live}
 use Rattle.zone.proofs.BayLaws.{Each, nothing, just, each-cond, put-keeps, cut-less, tidy-items, items-weld, items-gap, release-items, edit-items, perm-count}
 use Rattle.zone.proofs.Sums.{each-weaken, each-and, each-orElse, find-each, onLow-sum, onHigh-sum, onJoin-sum, mapS-sum, mapS-zero, onFixed-sum, onLast-sum, sum-parts, find-sum}
-use Rattle.zone.proofs.Walk.{Closed, Whatever}
+use Rattle.zone.proofs.Walk.{Closed}
 use Rattle.zone.proofs.Own.{own-shaped}
-use Rattle.zone.specs.OnBays.{alterFixed, Fixed, fsize, State, lookup, own, reaches, newItem, placeLow, placeHigh, joinAt, handlesFrom}
-use Rattle.zone.proofs.BayKinds.{zoneBays}
-
-abbrev pub Zone : Type 0
-Zone = State (List Cell)
+use Rattle.zone.specs.Work.{Zone}
+use Rattle.zone.specs.Search.{lookup, own, reaches, placeLow, placeHigh, joinAt}
 
 abbrev pub occurs : ℕ → List ℕ → ℕ
 occurs h [] = 0
 occurs h (k ∷ ks) = cond (eqb h k) (suc (occurs h ks)) (occurs h ks)
-
-abbrev pub live : ℕ → Bays (List Cell) Fixed → ℕ
-live h s = sumS (λ (b : List Cell). count h (items b)) s
 
 -- how often h is a master's offset
 abbrev pub masters : ℕ → ℕ → ℕ
 masters m h = occurs h (handlesFrom 16 m)
 
 -- each master is live or in the chain, and once
-pub record Owns (z : Zone) : Type 0 where
-  pub owns : (h : ℕ) → live h (z .bays) + occurs h (z .chain) ≡ masters (z .m) h
+pub record Owns (m : ℕ) (z : Zone) : Type 0 where
+  pub owns : (h : ℕ) → live h (z .bays) + occurs h (z .chain) ≡ masters m h
 
 -- the masters are distinct
 pub occurs-below : (h k n : ℕ) → h < k → occurs h (handlesFrom k n) ≡ 0
@@ -57,7 +53,7 @@ count-append h (e ∷ a) b = go (is h e) (count-append h a b)
     go true q = omega arith
     go false q = q
 
-count-remove-same : (h : ℕ) (a : List Item) → count h (remove h a) ≡ 0
+pub count-remove-same : (h : ℕ) (a : List Item) → count h (remove h a) ≡ 0
 count-remove-same h [] = refl
 count-remove-same h (e ∷ a) = go (is h e) refl (count-remove-same h a)
   where
@@ -107,9 +103,9 @@ cond-add : (t : Bool) (n : ℕ) → cond t (suc n) n ≡ cond t 1 0 + n
 cond-add true n = omega arith
 cond-add false n = omega arith
 
-module _ where
-  pub single : (z : Zone) → Owns z → AllS (λ (b : List Cell). (h : ℕ) → count h (items b) ≤ 1) (z .bays)
-  single z g = all (z .bays) (λ h. sum-parts (λ (b : List Cell). count h (items b)) 1 (z .bays) (omega (arith, g .owns h, occurs-once h 16 (z .m))))
+module _ (m : ℕ) where
+  pub single : (z : Zone) → Owns m z → AllS (λ (b : List Cell). (h : ℕ) → count h (items b) ≤ 1) (z .bays)
+  single z g = all (z .bays) (λ h. sum-parts (λ (b : List Cell). count h (items b)) 1 (z .bays) (omega (arith, g .owns h, occurs-once h 16 m)))
     where
       all : (s : Bays (List Cell) Fixed) → ((h : ℕ) → AllS (λ (b : List Cell). count h (items b) ≤ 1) s) → AllS (λ (b : List Cell). (h : ℕ) → count h (items b) ≤ 1) s
       all (last b) f = f
@@ -124,26 +120,26 @@ module _ where
   abbrev Lives : (ℕ → ℕ) → Bays (List Cell) Fixed → Bays (List Cell) Fixed → Type 0
   Lives f s u = (k : ℕ) → live k u ≡ f k + live k s
 
-  low-lives : (i : Item) (s : Bays (List Cell) Fixed) → Each (Lives (λ k. cond (is k i) 1 0) s) (placeLow zoneBays i s)
+  low-lives : (i : Item) (s : Bays (List Cell) Fixed) → Each (Lives (λ k. cond (is k i) 1 0) s) (placeLow i s)
   low-lives i s = each-all (λ k. onLow-sum (λ (b : List Cell). count k (items b)) _ _ _ (λ b e. perm-count k (put-keeps i b (leb-true (itemSize i) (baySum b) e) .perm) ∙ cond-add (is k i) (count k (items b))) s)
 
-  high-lives : (n end : ℕ) (s : Bays (List Cell) Fixed) → Each (λ (r : Fixed × Bays (List Cell) Fixed). (k : ℕ) → live k (r .1) ≡ live k s) (placeHigh zoneBays n end s)
-  high-lives n end s = each-all (λ k. onHigh-sum (λ (b : List Cell). count k (items b)) (reaches zoneBays n) (takeHigh n) _ [] _ end refl (λ b e. ap (count k) (cut-less n b (leb-true n (baySum b) e) .same)) s)
+  high-lives : (n end : ℕ) (s : Bays (List Cell) Fixed) → Each (λ (r : Fixed × Bays (List Cell) Fixed). (k : ℕ) → live k (r .1) ≡ live k s) (placeHigh n end s)
+  high-lives n end s = each-all (λ k. onHigh-sum (λ (b : List Cell). count k (items b)) (reaches n) (takeHigh n) _ [] _ end refl (λ b e. ap (count k) (cut-less n b (leb-true n (baySum b) e) .same)) s)
 
-  join-lives : (p : ℕ) (s : Bays (List Cell) Fixed) → Each (λ (u : Bays (List Cell) Fixed). (k : ℕ) → live k u ≡ live k s) (joinAt zoneBays p s)
+  join-lives : (p : ℕ) (s : Bays (List Cell) Fixed) → Each (λ (u : Bays (List Cell) Fixed). (k : ℕ) → live k u ≡ live k s) (joinAt p s)
   join-lives p s = each-all (λ k. onJoin-sum (λ (b : List Cell). count k (items b)) _ (λ (b : List Cell) (x : Fixed) (c : List Cell). joinBays b (gap (fsize x) c)) (λ b c x. ap (count k) (items-weld b (gap (fsize x) c) ∙ ap (items b ++_) (items-gap (fsize x) c)) ∙ count-append k (items b) (items c)) s)
 
   -- the chain and the live handles stay
-  steady : (z : Zone) (n : ℕ) (u : Bays (List Cell) Fixed) → ((k : ℕ) → live k u ≡ live k (z .bays)) → Owns z → Owns (record { buf = z .buf; len = n; m = z .m; chain = z .chain; bays = u })
+  steady : (z : Zone) (n : ℕ) (u : Bays (List Cell) Fixed) → ((k : ℕ) → live k u ≡ live k (z .bays)) → Owns m z → Owns m (record { buf = z .buf; len = n; chain = z .chain; bays = u })
   steady z n u r g = record { owns = λ k. ap (_+ occurs k (z .chain)) (r k) ∙ g .owns k }
 
-  dropped : (h : ℕ) (z : Zone) → Owns z → 1 ≤ live h (z .bays) → (k : ℕ) (t : Bool) → eqb k h ≡ t
-      → live k (mapS (release h) (z .bays)) + cond t (suc (occurs k (z .chain))) (occurs k (z .chain)) ≡ masters (z .m) k
-  dropped h z g q k true e = rw (eqb-true k h e) (omega (arith, mapS-zero (λ (b : List Cell). count h (items b)) (release h) (λ b. ap (count h) (release-items h b) ∙ count-remove-same h (items b)) (z .bays), g .owns h, occurs-once h 16 (z .m)))
+  dropped : (h : ℕ) (z : Zone) → Owns m z → 1 ≤ live h (z .bays) → (k : ℕ) (t : Bool) → eqb k h ≡ t
+      → live k (mapS (release h) (z .bays)) + cond t (suc (occurs k (z .chain))) (occurs k (z .chain)) ≡ masters m k
+  dropped h z g q k true e = rw (eqb-true k h e) (omega (arith, mapS-zero (λ (b : List Cell). count h (items b)) (release h) (λ b. ap (count h) (release-items h b) ∙ count-remove-same h (items b)) (z .bays), g .owns h, occurs-once h 16 m))
   dropped h z g q k false e = ap (_+ occurs k (z .chain)) (mapS-sum _ (λ (b : List Cell). count k (items b)) (release h) (λ b. ap (count k) (release-items h b) ∙ count-remove-other k h (items b) (eqb-false k h e)) (z .bays)) ∙ g .owns k
 
   -- the item found is dropped and put again
-  moved : (h : ℕ) (z : Zone) → Owns z → (e : Item) → Found h z e → (u : Bays (List Cell) Fixed)
+  moved : (h : ℕ) (z : Zone) → Owns m z → (e : Item) → Found h z e → (u : Bays (List Cell) Fixed)
       → Lives (λ k. cond (is k e) 1 0) (mapS (release h) (z .bays)) u → (k : ℕ) → live k u ≡ live k (z .bays)
   moved h z g e f u r k = go (eqb k h) refl (rw (← f .its) at (r k))
     where
@@ -151,24 +147,24 @@ module _ where
       go true q l = omega (arith, dropped h z g (f .once-live) k true q, g .owns k)
       go false q l = omega (arith, dropped h z g (f .once-live) k false q, g .owns k)
 
-  pub found : (h : ℕ) (z : Zone) → Each (Found h z) (lookup zoneBays h z)
+  pub found : (h : ℕ) (z : Zone) → Each (Found h z) (lookup h z)
   found h z = each-weaken (λ e q. record { its = q .0; once-live = q .1 })
       (each-and (find-each (λ (e : Item). h ≡ e .handle) (λ (b : List Cell). get h (items b)) (λ b. get-its h (items b)) (z .bays))
       (find-sum (λ (b : List Cell). get h (items b)) (λ (b : List Cell). count h (items b)) (λ b. get-count h (items b)) (z .bays)))
 
-  own-lives : (h a : ℕ) (s : Bays (List Cell) Fixed) → Each (λ (u : Bays (List Cell) Fixed). (k : ℕ) → live k u ≡ live k s) (onLow (own zoneBays h a) (reshape h a) s)
-  own-lives h a s = each-all (λ k. each-weaken (λ u q. omega (arith, q)) (onLow-sum (λ (b : List Cell). count k (items b)) 0 (own zoneBays h a) (reshape h a) (λ b t. ap (count k) (own-shaped h a b t .same) ∙ count-alter k h (sized a) (items b) ∙ omega arith) s))
+  own-lives : (h a : ℕ) (s : Bays (List Cell) Fixed) → Each (λ (u : Bays (List Cell) Fixed). (k : ℕ) → live k u ≡ live k s) (onLow (own h a) (reshape h a) s)
+  own-lives h a s = each-all (λ k. each-weaken (λ u q. omega (arith, q)) (onLow-sum (λ (b : List Cell). count k (items b)) 0 (own h a) (reshape h a) (λ b t. ap (count k) (own-shaped h a b t .same) ∙ count-alter k h (sized a) (items b) ∙ omega arith) s))
 
-  pub owns-closed : Closed zoneBays Whatever Owns
+  pub owns-closed : Closed (Owns m)
   owns-closed = record {
     low = λ z h hs c lim q g. each-weaken (λ b r. record { owns = λ k. omega (arith, r k, g .owns k, cond-add (eqb k h) (occurs k hs), ap (occurs k) q) }) (low-lives (newItem h c) (z .bays));
     high = λ z n b lim g. each-weaken (λ r q. steady z (z .len) (r .1) q g) (high-lives n (z .len) (z .bays));
     drop = λ z h g. each-weaken (λ e f. record { owns = λ k. dropped h z g (f .once-live) k (eqb k h) refl }) (found h z);
     join = λ z p g. each-weaken (λ b q. steady z (z .len) b q g) (join-lives p (z .bays));
-    edit = λ z h f q fed g. steady z (z .len) _ (λ k. mapS-sum _ (λ (b : List Cell). count k (items b)) (edit h f) (λ b. ap (count k) (edit-items h f b) ∙ count-alter k h f (items b)) (z .bays)) g;
-    edit-fixed = λ z p f q fed g. steady z (z .len) _ (λ k. onFixed-sum (λ (b : List Cell). count k (items b)) (alterFixed p f) (z .bays)) g;
+    edit = λ z h f y g. steady z (z .len) _ (λ k. mapS-sum _ (λ (b : List Cell). count k (items b)) (edit h f) (λ b. ap (count k) (edit-items h f b) ∙ count-alter k h f (items b)) (z .bays)) g;
+    edit-fixed = λ z p f y g. steady z (z .len) _ (λ k. onFixed-sum (λ (b : List Cell). count k (items b)) (alterFixed p f) (z .bays)) g;
     resize = λ z h a q g. each-weaken (λ e f lim. each-weaken (λ b r. steady z (z .len) b r g) (each-orElse (own-lives h a (z .bays)) (each-weaken (λ u r. moved h z g e f u r) (low-lives (resized a e) (mapS (release h) (z .bays)))))) (found h z);
     compactBay = λ z g. steady z (z .len) _ (λ k. mapS-sum _ (λ (b : List Cell). count k (items b)) compactBay (λ b. ap (count k) (tidy-items b)) (z .bays)) g;
-    grow = λ z n q l m g. steady z _ _ (λ k. onLast-sum (λ (b : List Cell). count k (items b)) _ (z .bays) (ap (count k) (items-weld (lastS (z .bays)) (gap n []) ∙ ap (items (lastS (z .bays)) ++_) (items-gap n []) ∙ append-nil (items (lastS (z .bays)))))) g;
-    takeHigh = λ z n q g. steady z _ _ (λ k. onLast-sum (λ (b : List Cell). count k (items b)) _ (z .bays) (ap (count k) (cut-less n (lastS (z .bays)) q .same))) g;
+    grow = λ z n q l o g. steady z _ _ (λ k. onLast-sum (λ (b : List Cell). count k (items b)) _ (z .bays) (ap (count k) (items-weld (lastS (z .bays)) (gap n []) ∙ ap (items (lastS (z .bays)) ++_) (items-gap n []) ∙ append-nil (items (lastS (z .bays)))))) g;
+    takeHigh = λ z j n q g. steady z _ _ (λ k. onLast-sum (λ (b : List Cell). count k (items b)) _ (z .bays) (ap (count k) (cut-less n (lastS (z .bays)) (omega (arith, q)) .same))) g;
   }

@@ -1,48 +1,54 @@
 -- What stands in a buffer that holds a zone, read as plain bytes: the length, live masters, the bytes of every block.
 use mathlib.Core.Path.{_≡_, ap, sym, _∙_, subst}
+use mathlib.Core.Bool.{Bool, true}
 use mathlib.Core.List.{List, _++_}
 use Prim.Native.Nat.{ℕ, _+_, _-_, _*_, _/_, _≤_}
 use native.Mathlib.Omega.{arith}
 use lib.ListN.{length, drop}
 use lib.Dec.{eqb}
+use borrow.Author.Tests.{eqb-true}
 use Rattle.bigendian.specs.BigEndian.{fromBE, slice}
 use Rattle.format.specs.WellFormed.{lengthField, masterAt}
 use Rattle.structure.specs.Structure.{encode}
 use Rattle.structure.proofs.Round as Round
 use Rattle.structure.proofs.Round.{offset-is}
-use Rattle.zone.specs.PickBays.{findF}
-use Rattle.zone.specs.Bay.{Item}
-use Rattle.zone.specs.OnBays.{State, Fixed, pointer, lookup}
-use Rattle.zone.specs.OnBytes.{Zone, inLine}
-use Rattle.zone.proofs.BayKinds.{Room, zoneBays, ledgerBays}
-use Rattle.zone.proofs.BayLaws.{Each}
+use Rattle.calls.specs.Bays.{Bays, last, more, findF}
+use Rattle.calls.specs.State.{Item, Fixed, pointer}
+use Rattle.zone.specs.Search.{lookup}
+use Rattle.zone.specs.Work.{Zone}
+use Rattle.zone.specs.Call.{inLine}
+use Rattle.zone.proofs.BayLaws.{Each, nothing, just, each-cond}
 use Rattle.zone.proofs.Sums.{each-weaken, each-and}
-use Rattle.zone.proofs.Handles.{live, single, found}
+use Rattle.zone.proofs.Handles.{found}
+use Rattle.zone.specs.Bay.{Cell}
+use Rattle.zone.specs.Counted.{live}
 use Rattle.zone.proofs.Stands as Old
+use Rattle.zone.proofs.Stands.{AllF}
 use Rattle.zone.proofs.Bytes.{zoneBytes, masterOf, big}
-use Rattle.zone.proofs.Simulation.{sim, lookup-same}
-use Rattle.zone.proofs.Agreement.{link, agree}
-use Rattle.zone.proofs.Matching.{Matches, stood, both-eq-each}
 use Rattle.zone.proofs.Keep.{Whole, valid-line, len-line, count-line, masters-same}
 use Rattle.zone.proofs.Run.{Stored}
 use Rattle.zone.proofs.Encoders.{encoders, master-is}
 
+find-all : (D : Fixed → Type 0) (p : Fixed → Bool) (s : Bays (List Cell) Fixed) → AllF D s → Each (λ (x : Fixed). D x × (p x ≡ true)) (findF p s)
+find-all D p (last b) d = nothing
+find-all D p (more b x s) d = each-cond (p x) (λ e. just (d .0, e)) (find-all D p s (d .1))
+
 module _ (bs : List ℕ) (z : Zone) (w : Whole z) (s : Stored bs z) where
-  in-buffer : {v : List ℕ} {at : ℕ} → Old.Stands (zoneBytes z) at v → Old.Stands bs at v
+  in-buffer : {v : List ℕ} {at : ℕ} → Old.Stands (zoneBytes (w .m) z) at v → Old.Stands bs at v
   in-buffer {v} {at} k =
-      let e : zoneBytes z ++ drop (z .len) bs ≡ bs = ap (_++ drop (z .len) bs) (encoders z w) ∙ sym (s .split) in
+      let e : zoneBytes (w .m) z ++ drop (z .len) bs ≡ bs = ap (_++ drop (z .len) bs) (encoders z w) ∙ sym (s .split) in
       subst (λ (l : List ℕ). Old.Stands l at v) e (Old.stands-before (drop (z .len) bs) k)
 
-  in-line : {v : List ℕ} {at : ℕ} → Old.Stands (zoneBytes z) at v → Old.Stands (encode (inLine z)) at v
+  in-line : {v : List ℕ} {at : ℕ} → Old.Stands (zoneBytes (w .m) z) at v → Old.Stands (encode (inLine z)) at v
   in-line {v} {at} k = subst (λ (l : List ℕ). Old.Stands l at v) (encoders z w) k
 
   -- a live handle's master, read from the buffer
-  master-read : (h : ℕ) → 1 ≤ live h (z .bays) → masterAt bs h ≡ masterOf z h
+  master-read : (h : ℕ) → 1 ≤ live h (z .bays) → masterAt bs h ≡ masterOf (w .m) z h
   master-read h l =
-      let o = offset-is h 16 (z .m) (omega (arith, masters-same (z .m) h, w .owned .owns h)) in
+      let o = offset-is h 16 (w .m) (omega (arith, masters-same (w .m) h, w .owned .owns h)) in
       let i : ℕ = (h - 16) / 4 in
       let e : 16 + 4 * i ≡ h = omega (arith, o .0, o .2) in
-      let k : Old.Stands (zoneBytes z) h (big 4 (masterOf z h)) = subst (λ (q : ℕ). Old.Stands (zoneBytes z) q (big 4 (masterOf z q))) e (Old.master-stands z i (omega (arith, o .1))) in
+      let k : Old.Stands (zoneBytes (w .m) z) h (big 4 (masterOf (w .m) z h)) = subst (λ (q : ℕ). Old.Stands (zoneBytes (w .m) z) q (big 4 (masterOf (w .m) z q))) e (Old.master-stands (w .m) z i (omega (arith, o .1))) in
       ap fromBE (Old.stands-read (in-buffer k) ∙ sym (Old.stands-read (in-line k)))
       ∙ Round.master-is (inLine z) (valid-line z w) h (record { low = o .0; fits = omega (arith, count-line z w, o .1); four = o .2 })
       ∙ sym (master-is z w h)
@@ -52,11 +58,13 @@ module _ (bs : List ℕ) (z : Zone) (w : Whole z) (s : Stored bs z) where
   length-read = ap lengthField (s .split) ∙ Round.heads (inLine z) (valid-line z w) (drop (z .len) bs) .is-len ∙ len-line z w
 
   -- a live handle's bytes stand from the offset in its master
-  pub live-read : (l : State Room) → Matches z l → (h : ℕ) → Each (λ (e : Item). slice bs (masterAt bs h) (length (e .bytes)) ≡ e .bytes) (lookup ledgerBays h l)
-  live-read l (sim k) h =
+  pub live-read : (h : ℕ) → Each (λ (e : Item). slice bs (masterAt bs h) (length (e .bytes)) ≡ e .bytes) (lookup h z)
+  live-read h =
       each-weaken (λ e q. ap (λ (p : ℕ). slice bs p (length (e .bytes))) (master-read h (q .1 .once-live)) ∙ Old.stands-read (in-buffer (q .0)))
-      (each-and (stood z l (w .owned) (w .placed) (sim k) .live-bytes h) (both-eq-each (lookup-same zoneBays ledgerBays link agree h (single z (w .owned)) k) (found h z)))
+      (each-and (Old.handle-stands (w .m) h z (w .sound)) (found (w .m) h z))
 
   -- a fixed block's bytes stand from its pointer
-  pub fixed-read : (l : State Room) → Matches z l → (p : ℕ) → Each (λ (x : Fixed). slice bs p (length (x .bytes)) ≡ x .bytes) (findF (λ (x : Fixed). eqb p (pointer x)) (l .bays))
-  fixed-read l r p = each-weaken (λ x q. Old.stands-read (in-buffer q)) (stood z l (w .owned) (w .placed) r .fixed-bytes p)
+  pub fixed-read : (p : ℕ) → Each (λ (x : Fixed). slice bs p (length (x .bytes)) ≡ x .bytes) (findF (λ (x : Fixed). eqb p (pointer x)) (z .bays))
+  fixed-read p =
+      each-weaken (λ x q. Old.stands-read {at = p} (in-buffer (rw (eqb-true p (pointer x) (q .1)) (q .0))))
+      (find-all (λ (x : Fixed). Old.Stands (zoneBytes (w .m) z) (pointer x) (x .bytes)) (λ (x : Fixed). eqb p (pointer x)) (z .bays) (Old.pointers-stand (w .m) z (w .sound) (w .placed)))

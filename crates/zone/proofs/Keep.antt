@@ -7,26 +7,30 @@ use native.Mathlib.Omega.{arith}
 use native.Mathlib.Nat.{add-zero}
 use lib.ListN.{length, length-append}
 use lib.Dec.{eqb}
+use Rattle.block_type.specs.Limits.{mostMasters}
 use Rattle.format.proofs.Count.{occurs, offsets, All, sumOver, sum-occurs, one-same, length-offsets, occurs-append}
 use Rattle.structure.proofs.Round.{offset-le}
 use Rattle.structure.specs.Structure.{Block, free, fixed, reloc, sizes, relocCount, count, start, len}
 use Rattle.structure.specs.Valid.{handlesOf, Tiled, Valid}
-use Rattle.zone.specs.PickBays.{Bays, last, more, AllS}
+use Rattle.calls.specs.Bays.{Bays, last, more}
+use Rattle.zone.specs.PickBays.{AllS}
 use Rattle.zone.specs.Bay as Bay
 use Rattle.zone.specs.Counted as Counted
+use Rattle.zone.specs.Counted.{live}
 use Rattle.zone.specs.Bay.{Cell, free as gapCell, held, baySize, items}
 use Rattle.zone.proofs.Sound as Sound
 use Rattle.zone.proofs.Sound.{Sound, s-nil, s-end, s-free, s-held}
-use Rattle.zone.specs.OnBays.{Fixed, handlesFrom}
+use Rattle.calls.specs.State.{Fixed, handlesFrom}
 use Rattle.zone.proofs.Handles as Handles
-use Rattle.zone.proofs.Handles.{Owns, live, masters}
+use Rattle.zone.proofs.Handles.{Owns, masters}
 use Rattle.zone.proofs.Places as Places
 use Rattle.zone.proofs.Places.{tile-last, tile-more, Placed}
 use Rattle.zone.proofs.Clean.{Every, e-last, e-more, i-cons, FixedOk, BayOk, Clean}
 use Rattle.zone.proofs.Bounds.{Bounded}
 use Rattle.zone.specs.Group.{group, flatBay, flatten}
 use Rattle.zone.proofs.GroupLaws.{group-flatten}
-use Rattle.zone.specs.OnBytes.{Zone, inBays, inLine}
+use Rattle.zone.specs.Work.{Zone}
+use Rattle.zone.specs.Call.{inBays, inLine}
 
 -- ---- sizes
 
@@ -107,23 +111,26 @@ counted n xs e =
 
 -- what is known of a zone between calls
 pub record Whole (z : Zone) : Type 0 where
-  pub owned : Owns z
-  pub placed : Placed z
+  -- the number of masters
+  pub m : ℕ
+  pub few : m ≤ mostMasters
+  pub owned : Owns m z
+  pub placed : Placed m z
   pub bounded : Bounded z
   pub sound : AllS Sound (z .bays)
   pub clean : Clean z
 
 module _ (z : Zone) (w : Whole z) where
-  owns-line : (h : ℕ) → occurs h (handlesOf (flatten (z .bays))) + occurs h (z .chain) ≡ occurs h (offsets 16 (z .m))
-  owns-line h = omega (arith, live-strip h (z .bays), occurs-same h (z .chain), masters-same (z .m) h, w .owned .owns h)
+  owns-line : (h : ℕ) → occurs h (handlesOf (flatten (z .bays))) + occurs h (z .chain) ≡ occurs h (offsets 16 (w .m))
+  owns-line h = omega (arith, live-strip h (z .bays), occurs-same h (z .chain), masters-same (w .m) h, w .owned .owns h)
 
-  pub count-line : count (inLine z) ≡ z .m
+  pub count-line : count (inLine z) ≡ w .m
   count-line =
       omega (
         arith,
         length-handles (flatten (z .bays)),
         length-append (handlesOf (flatten (z .bays))) (z .chain),
-        counted (z .m) (handlesOf (flatten (z .bays)) ++ z .chain) (λ h. occurs-append h (handlesOf (flatten (z .bays))) (z .chain) ∙ owns-line h),
+        counted (w .m) (handlesOf (flatten (z .bays)) ++ z .chain) (λ h. occurs-append h (handlesOf (flatten (z .bays))) (z .chain) ∙ owns-line h),
       )
 
   pub len-line : len (inLine z) ≡ z .len
@@ -131,7 +138,7 @@ module _ (z : Zone) (w : Whole z) where
 
   -- the bays are found again
   pub bays-line : inBays (z .buf) (inLine z) ≡ z
-  bays-line = λ i. record { buf = z .buf; len = len-line i; m = count-line i; chain = z .chain; bays = same i }
+  bays-line = λ i. record { buf = z .buf; len = len-line i; chain = z .chain; bays = same i }
     where
       same : group (start (inLine z)) (flatten (z .bays)) ≡ z .bays
       same = ap (λ (m : ℕ). group (16 + 4 * m) (flatten (z .bays))) count-line ∙ group-flatten (w .placed .tiled)
@@ -151,6 +158,6 @@ pub valid-line : (z : Zone) → Whole z → Valid (inLine z)
 valid-line z w = record {
   tiled = tiled-strip (w .placed .tiled) (w .bounded .limit) (w .sound) (w .clean .clean);
   owned = λ h. owns-line z w h ∙ ap (λ (n : ℕ). occurs h (offsets 16 n)) (sym (count-line z w));
-  few = omega (arith, count-line z w, w .bounded .few);
+  few = omega (arith, count-line z w, w .few);
   short = omega (arith, len-line z w, w .bounded .limit);
 }

@@ -4,11 +4,11 @@ use mathlib.Core.List.{List, []}
 use Prim.Native.Nat.{ℕ}
 use native.Mathlib.Omega.{arith}
 use Rattle.calls.specs.Calls.{compact}
-use Rattle.zone.specs.PickBays.{Bays, last, more, AllS, mapS}
-use Rattle.zone.specs.Bay.{Item, Cell, total, baySum, gap, packed, compactBay}
-use Rattle.zone.specs.OnBays.{Fixed, step}
-use Rattle.zone.specs.OnBytes.{Zone}
-use Rattle.zone.proofs.BayKinds.{zoneBays}
+use Rattle.calls.specs.Bays.{Bays, last, more, mapS}
+use Rattle.zone.specs.PickBays.{AllS}
+use Rattle.calls.specs.State.{Item, total, Fixed}
+use Rattle.zone.specs.Bay.{Cell, baySum, gap, packed, compactBay}
+use Rattle.zone.specs.Work.{Zone, work}
 use Rattle.zone.proofs.BayLaws.{bsize-split, tidy-size, tidy-items}
 
 -- ---- compact: in every bay the relocatable blocks stand at the start, and one free block, or none, holds the rest
@@ -23,5 +23,5 @@ all-compact : (s : Bays (List Cell) Fixed) → AllS (λ (b : List Cell). compact
 all-compact (last b) = compact-twice b
 all-compact (more b x s) = (compact-twice b, all-compact s)
 
-pub compact-packs : (z : Zone) → AllS (λ (b : List Cell). compactBay b ≡ b) ((step zoneBays compact z) .next .bays)
+pub compact-packs : (z : Zone) → AllS (λ (b : List Cell). compactBay b ≡ b) ((work compact z) .next .bays)
 compact-packs z = all-compact (z .bays)

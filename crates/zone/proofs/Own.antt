@@ -6,13 +6,13 @@ use Prim.Native.Nat.{ℕ}
 use native.Mathlib.Omega.{arith}
 use lib.Dec.{eqb}
 use borrow.Author.Tests.{eqb-true}
-use Rattle.zone.specs.Bay.{Cell, baySum, items, get, reshape}
+use Rattle.zone.specs.Bay.{Cell, baySum, items, reshape}
+use Rattle.calls.specs.State.{get}
 use Rattle.zone.specs.Counted.{count, roomFor}
 use Rattle.zone.proofs.Resize.{Shaped, reshape-shaped}
-use Rattle.zone.specs.OnBays.{own}
-use Rattle.zone.proofs.BayKinds.{zoneBays}
+use Rattle.zone.specs.Search.{own}
 
-pub own-shaped : (h a : ℕ) (b : List Cell) → own zoneBays h a b ≡ true → Shaped h a b (reshape h a b)
+pub own-shaped : (h a : ℕ) (b : List Cell) → own h a b ≡ true → Shaped h a b (reshape h a b)
 own-shaped h a b t = go (eqb (count h (items b)) 1) refl t
   where
     go : (u : Bool) → eqb (count h (items b)) 1 ≡ u → cond u (roomFor a (baySum b) (get h (items b))) false ≡ true → Shaped h a b (reshape h a b)

@@ -5,13 +5,13 @@ use Prim.Native.Nat.{ℕ, zero, suc, _+_}
 use native.Mathlib.Nat.{add-zero, add-assoc, zero-add}
 use lib.ListN.{length}
 use Rattle.structure.specs.Structure.{Structure, Block, free, fixed, reloc, start}
-use Rattle.zone.specs.PickBays.{Bays, last, more, mapS}
-use Rattle.zone.specs.Bay.{Item, Cell, free as gapCell, held, baySum, items, gap, packed, compactBay}
-use Rattle.zone.specs.OnBays.{Fixed, step}
+use Rattle.calls.specs.Bays.{Bays, last, more, mapS}
+use Rattle.calls.specs.State.{Item, Fixed}
+use Rattle.zone.specs.Bay.{Cell, free as gapCell, held, baySum, items, gap, packed, compactBay}
 use Rattle.calls.specs.Calls.{compact}
-use Rattle.zone.specs.ZoneBays.{zoneBays}
+use Rattle.zone.specs.Work.{work}
 use Rattle.zone.specs.Group.{inFront, group, flatBay, flatten}
-use Rattle.zone.specs.OnBytes.{inBays, inLine}
+use Rattle.zone.specs.Call.{inBays, inLine}
 
 -- a free block of n bytes in front, or none
 abbrev pub hole : ℕ → List Block → List Block
@@ -55,5 +55,5 @@ pack-tidied n p (fixed d ∷ bs) =
     ∙ ap (λ (r : List Block). hole n (fixed d ∷ r)) (sym (tidied-0 (group (p + (2 + length d)) bs)) ∙ pack-tidied 0 (p + (2 + length d)) bs)
 
 -- the structure that compact leaves: the same chain, and the blocks packed
-pub compact-line : (buf : ℕ) (s : Structure) → inLine ((step zoneBays compact (inBays buf s)) .next) ≡ record { links = s .links; blocks = pack 0 (s .blocks) }
-compact-line buf s = λ i. record { links = s .links; blocks = (sym (tidied-0 (group (start s) (s .blocks))) ∙ pack-tidied 0 (start s) (s .blocks)) i }
+pub compact-line : (buf : ℕ) (s : Structure) → inLine ((work compact (inBays buf s)) .next) ≡ record { chain = s .chain; blocks = pack 0 (s .blocks) }
+compact-line buf s = λ i. record { chain = s .chain; blocks = (sym (tidied-0 (group (start s) (s .blocks))) ∙ pack-tidied 0 (start s) (s .blocks)) i }

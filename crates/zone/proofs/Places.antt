@@ -7,17 +7,18 @@ use native.Mathlib.Omega.{arith}
 use lib.ListN.{length, length-replicate}
 use lib.Dec.{leb, eqb}
 use borrow.Author.Tests.{leb-true}
-use Rattle.zone.specs.PickBays.{Bays, last, more, onLow, mapS, onFixed, onLast, lastS}
-use Rattle.zone.specs.Bay.{Item, itemSize, Cell, baySize, baySum, gap, joinBays, compactBay, put, takeHigh, release, edit, reshape, resized}
+use Rattle.calls.specs.Bays.{Bays, last, more, mapS, onFixed, onLast, lastS}
+use Rattle.zone.specs.PickBays.{onLow}
+use Rattle.calls.specs.State.{Item, itemSize, alterFixed, pointer, Fixed, fsize, newItem, newFixed}
+use Rattle.zone.specs.Bay.{Cell, baySize, baySum, gap, joinBays, compactBay, put, takeHigh, release, edit, reshape, resized}
 use Rattle.zone.proofs.BayLaws.{Each, nothing, just, each-cond, each-over, put-keeps, cut-less, tidy-size, bsize-weld, bsize-gap, release-size, edit-size, cond-one}
 use Rattle.zone.proofs.Sums.{each-orElse, each-weaken}
 use Rattle.zone.proofs.Sound.{Block}
-use Rattle.zone.specs.OnBays.{alterFixed, pointer, Fixed, fsize, reaches, newItem, newFixed, placeLow, placeHigh, joinAt, lookup, own}
-use Rattle.block_type.specs.Limits.{fixedHeader}
+use Rattle.zone.specs.Search.{reaches, placeLow, placeHigh, joinAt, lookup, own}
+use Rattle.block_type.specs.Limits.{fixedHeader, firstBlock}
 use Rattle.zone.proofs.Own.{own-shaped}
-use Rattle.zone.proofs.BayKinds.{zoneBays}
-use Rattle.zone.proofs.Walk.{Closed, Whatever, any}
-use Rattle.zone.proofs.Handles.{Zone}
+use Rattle.zone.proofs.Walk.{Closed, any}
+use Rattle.zone.specs.Work.{Zone}
 
 pub data Tiled : ℕ → Bays (List Cell) Fixed → ℕ → Type 0 where
   tile-last : {p end : ℕ} {b : List Cell} → p + baySize b ≡ end → Tiled p (last b) end
@@ -29,10 +30,10 @@ onLow-tiled t f h (tile-last {p = p} {end = end} {b = b} e) = each-cond (t b) (�
 onLow-tiled t f h (tile-more {p = p} {b = b} {x = x} e l) =
     each-cond (t b) (λ k. just (tile-more {p = p} {b = f b} {x = x} (omega (arith, h b k)) l)) (each-over (more b x) (λ u q. tile-more e q) (onLow-tiled t f h l))
 
-low-tiled : (i : Item) {p end : ℕ} {s : Bays (List Cell) Fixed} → Tiled p s end → Each (λ (u : Bays (List Cell) Fixed). Tiled p u end) (placeLow zoneBays i s)
-low-tiled i t = onLow-tiled (reaches zoneBays (itemSize i)) (put i) (λ b h. put-keeps i b (leb-true (itemSize i) (baySum b) h) .size) t
+low-tiled : (i : Item) {p end : ℕ} {s : Bays (List Cell) Fixed} → Tiled p s end → Each (λ (u : Bays (List Cell) Fixed). Tiled p u end) (placeLow i s)
+low-tiled i t = onLow-tiled (reaches (itemSize i)) (put i) (λ b h. put-keeps i b (leb-true (itemSize i) (baySum b) h) .size) t
 
-high-tiled : (n : ℕ) → Block n → {p end : ℕ} {s : Bays (List Cell) Fixed} → Tiled p s end → Each (λ (r : Fixed × Bays (List Cell) Fixed). Tiled p (r .1) end) (placeHigh zoneBays n end s)
+high-tiled : (n : ℕ) → Block n → {p end : ℕ} {s : Bays (List Cell) Fixed} → Tiled p s end → Each (λ (r : Fixed × Bays (List Cell) Fixed). Tiled p (r .1) end) (placeHigh n end s)
 high-tiled n k (tile-last {p = p} {end = end} {b = b} e) =
     each-cond (leb n (baySum b)) (λ h. just (tile-more {p = p} {b = takeHigh n b} {x = newFixed n end}
     (omega (arith, e, cut-less n b (leb-true n (baySum b) h) .size))
@@ -46,7 +47,7 @@ high-tiled n k (tile-more {p = p} {b = b} {x = x} e t) =
 joined-size : (b c : List Cell) (n : ℕ) → baySize (joinBays b (gap n c)) ≡ baySize b + n + baySize c
 joined-size b c n = omega (arith, bsize-weld b (gap n c), bsize-gap n c)
 
-join-tiled : (q : ℕ) {p end : ℕ} {s : Bays (List Cell) Fixed} → Tiled p s end → Each (λ (u : Bays (List Cell) Fixed). Tiled p u end) (joinAt zoneBays q s)
+join-tiled : (q : ℕ) {p end : ℕ} {s : Bays (List Cell) Fixed} → Tiled p s end → Each (λ (u : Bays (List Cell) Fixed). Tiled p u end) (joinAt q s)
 join-tiled q (tile-last e) = nothing
 join-tiled q (tile-more {p = p} {b = b} {x = x} e (tile-last {end = end} {b = c} f)) =
     each-cond (eqb q (x .place + fixedHeader)) (λ h. just (tile-last {p = p} {end = end} (omega (arith, joined-size b c (fsize x))))) nothing
@@ -78,23 +79,19 @@ last-below : {p end : ℕ} {s : Bays (List Cell) Fixed} → Tiled p s end → ba
 last-below (tile-last e) = omega arith
 last-below (tile-more e t) = last-below t
 
--- where the first block stands, with m masters
-abbrev pub firstBlock : ℕ → ℕ
-firstBlock m = 16 + 4 * m
+pub record Placed (m : ℕ) (z : Zone) : Type 0 where
+  pub tiled : Tiled (firstBlock m) (z .bays) (z .len)
 
-pub record Placed (z : Zone) : Type 0 where
-  pub tiled : Tiled (firstBlock (z .m)) (z .bays) (z .len)
-
-pub placed-closed : Closed zoneBays Whatever Placed
-placed-closed = record {
+pub placed-closed : (m : ℕ) → Closed (Placed m)
+placed-closed m = record {
   low = λ z h hs c lim q g. each-weaken (λ b r. record { tiled = r }) (low-tiled (newItem h c) (g .tiled));
   high = λ z n b lim g. each-weaken (λ r q. record { tiled = q }) (high-tiled n b (g .tiled));
-  drop = λ z h g. each-weaken (λ e u. record { tiled = map-tiled (release h) (release-size h) (g .tiled) }) (any (lookup zoneBays h z));
+  drop = λ z h g. each-weaken (λ e u. record { tiled = map-tiled (release h) (release-size h) (g .tiled) }) (any (lookup h z));
   join = λ z p g. each-weaken (λ b q. record { tiled = q }) (join-tiled p (g .tiled));
-  edit = λ z h f q fed g. record { tiled = map-tiled (edit h f) (edit-size h f q) (g .tiled) };
-  edit-fixed = λ z p f q fed g. record { tiled = fixed-tiled (alterFixed p f) (alter-place p f) (alter-fsize p f q) (g .tiled) };
-  resize = λ z h a q g. each-weaken (λ e u lim. each-weaken (λ b r. record { tiled = r }) (each-orElse (onLow-tiled (own zoneBays h a) (reshape h a) (λ b k. own-shaped h a b k .size) (g .tiled)) (low-tiled (resized a e) (map-tiled (release h) (release-size h) (g .tiled))))) (any (lookup zoneBays h z));
+  edit = λ z h f y g. record { tiled = map-tiled (edit h f) (edit-size h f (y .long)) (g .tiled) };
+  edit-fixed = λ z p f y g. record { tiled = fixed-tiled (alterFixed p f) (alter-place p f) (alter-fsize p f (y .long)) (g .tiled) };
+  resize = λ z h a q g. each-weaken (λ e u lim. each-weaken (λ b r. record { tiled = r }) (each-orElse (onLow-tiled (own h a) (reshape h a) (λ b k. own-shaped h a b k .size) (g .tiled)) (low-tiled (resized a e) (map-tiled (release h) (release-size h) (g .tiled))))) (any (lookup h z));
   compactBay = λ z g. record { tiled = map-tiled compactBay tidy-size (g .tiled) };
-  grow = λ z n q l m g. record { tiled = last-tiled _ (z .len + n) (omega (arith, bsize-weld (lastS (z .bays)) (gap n []), bsize-gap n [])) (g .tiled) };
-  takeHigh = λ z n q g. record { tiled = last-tiled _ (z .len - n) (omega (arith, cut-less n (lastS (z .bays)) q .size, last-below (g .tiled))) (g .tiled) };
+  grow = λ z n q l o g. record { tiled = last-tiled _ (z .len + n) (omega (arith, bsize-weld (lastS (z .bays)) (gap n []), bsize-gap n [])) (g .tiled) };
+  takeHigh = λ z j n q g. record { tiled = last-tiled _ (z .len - n) (omega (arith, cut-less n (lastS (z .bays)) (omega (arith, q)) .size, last-below (g .tiled))) (g .tiled) };
 }

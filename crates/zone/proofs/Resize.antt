@@ -8,8 +8,9 @@ use native.Mathlib.Omega.{arith}
 use lib.ListN.{length, length-append, length-take, length-replicate}
 use lib.Dec.{leb}
 use borrow.Author.Tests.{leb-true, leb-false}
-use Rattle.zone.specs.PickBays.{over}
-use Rattle.zone.specs.Bay.{is, Item, itemSize, total, alter, get, Cell, free, held, baySize, baySum, items, gap, packed, sized, resized, growInto, inPlace, growHere, reshape}
+use Rattle.calls.specs.Bays.{over}
+use Rattle.calls.specs.State.{is, Item, itemSize, total, alter, get, sized}
+use Rattle.zone.specs.Bay.{Cell, free, held, baySize, baySum, items, gap, packed, resized, growInto, inPlace, growHere, reshape}
 use Rattle.zone.specs.Counted.{count, roomFor}
 use Rattle.zone.proofs.BayLaws.{bsize-split, bsize-gap, items-gap, bsize-packed, items-packed, Each, nothing, just, each-over, each-cond, each-cond′, each-getD}
 use Rattle.zone.proofs.Sums.{each-weaken}

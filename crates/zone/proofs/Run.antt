@@ -2,9 +2,10 @@
 use mathlib.Core.Path.{_≡_, refl, ap, ap₂, sym, _∙_, subst}
 use mathlib.Core.Bool.{true, cond}
 use mathlib.Core.List.{List, _++_}
-use Prim.Native.Nat.{ℕ, _+_, _-_, max}
+use Prim.Native.Nat.{ℕ, zero, suc, _+_, _-_, max}
 use native.Mathlib.Omega.{arith}
 use lib.ListN.{length, drop, replicate, length-append, length-replicate, length-drop}
+use lib.Dec.{eqb·suc-zero}
 use lib.Seq.{drop-at}
 use Rattle.bigendian.specs.BigEndian.{Bytes}
 use Rattle.format.specs.WellFormed.{wellFormed, lengthField}
@@ -12,15 +13,12 @@ use Rattle.structure.specs.Structure.{Structure, len, encode, decode}
 use Rattle.structure.proofs.Round.{well-formed, decode-encode, length-is}
 use Rattle.structure.proofs.Sound.{valid}
 use Rattle.structure.proofs.Table.{encode-decode}
-use Rattle.zone.specs.OnBays as OnBays
-use Rattle.calls.specs.Calls.{Call}
-use Rattle.zone.specs.OnBays.{step}
-use Rattle.zone.proofs.BayKinds.{zoneBays}
-use Rattle.zone.proofs.Walk.{Fed}
-use Rattle.zone.proofs.Clean.{Feeds}
-use Rattle.zone.specs.OnBytes.{Zone, inBays, inLine, replacing, outcome, callBytes, illFormed}
+use Rattle.calls.specs.Calls.{Call, beside, secondOf, told, refused}
+use Rattle.calls.specs.Table.{refusalOf}
+use Rattle.zone.specs.Work.{Zone, facts, work}
+use Rattle.zone.specs.Call.{inBays, inLine, result, replacing, outcome, numberOf, callWith, call}
 use Rattle.zone.proofs.Keep.{Whole, valid-line, len-line, bays-line}
-use Rattle.zone.proofs.Grouped.{line-bays, whole-bays, whole-step, same-buffer}
+use Rattle.zone.proofs.Grouped.{line-bays, whole-bays, work-whole, work-buffer}
 
 -- the buffer holds the zone
 pub record Stored (bs : List ℕ) (z : Zone) : Type 0 where
@@ -37,8 +35,17 @@ module _ (bs : List ℕ) (z : Zone) (w : Whole z) (s : Stored bs z) where
   pub stored-bays : inBays (length bs) (decode bs) ≡ z
   stored-bays = ap₂ inBays (s .buffer) stored-decode ∙ bays-line z w
 
-  pub call-is : (c : Call) → callBytes c bs ≡ outcome bs (inLine z) (step zoneBays c z)
-  call-is c = λ i. cond (stored-well i) (outcome bs (stored-decode i) (step zoneBays c (stored-bays i))) (record { answer = illFormed c; bytes = bs })
+  -- the refusal number of a call, and what it does
+  pub number-is : (c : Call) → numberOf c bs ≡ refusalOf c (facts true z)
+  number-is c = λ i. refusalOf c (facts (stored-well i) (stored-bays i))
+
+  pub call-worked : (c : Call) → refusalOf c (facts true z) ≡ 0 → call c bs ≡ outcome bs (inLine z) (work c z)
+  call-worked c e =
+      ap (λ (n : ℕ). callWith n c bs) (number-is c ∙ e)
+      ∙ (λ i. cond (stored-well i) (outcome bs (stored-decode i) (work c (stored-bays i))) (result (told 0 0) bs))
+
+  pub call-refused : (c : Call) (n : ℕ) → refusalOf c (facts true z) ≡ suc n → call c bs ≡ result (refused c (suc n)) bs
+  call-refused c n e = ap (λ (k : ℕ). callWith k c bs) (number-is c ∙ e) ∙ rw (eqb·suc-zero n)
 
 length-line : (z : Zone) → Whole z → length (encode (inLine z)) ≡ z .len
 length-line z w = length-is (inLine z) (valid-line z w) ∙ len-line z w
@@ -83,13 +90,17 @@ module _ (bs : List ℕ) (y : Bytes bs) (h : wellFormed bs ≡ true) where
       none : (n : ℕ) → replicate (n - n) 0 ++ drop (max n n) bs ≡ drop n bs
       none n = let a : n - n ≡ 0 = omega arith in let b : max n n ≡ n = omega arith in rw (a, b)
 
-  pub refused : (c : Call) → (step zoneBays c zoneIn) .next ≡ zoneIn → (callBytes c bs) .bytes ≡ bs
-  refused c e = rw h (ap (λ (z : Zone). replacing bs (decode bs) (inLine z)) e ∙ same-bytes)
+  module _ (c : Call) (u : Bytes (secondOf (beside c))) where
+    -- the zone after a call that nothing refuses stands in the bytes that it leaves
+    pub work-stored : refusalOf c (facts true zoneIn) ≡ 0 → Stored ((call c bs) .bytes) ((work c zoneIn) .next)
+    work-stored e =
+        rw (call-worked bs zoneIn well-whole well-stored c e)
+        (stored-after bs zoneIn ((work c zoneIn) .next) well-whole (work-whole c zoneIn u well-whole e) (work-buffer c zoneIn u well-whole e) well-stored)
 
-  -- the bytes that a call leaves are well-formed, and their structure is the one that the call says
-  pub call-well : (c : Call) → Fed Feeds c → wellFormed ((callBytes c bs) .bytes) ≡ true
-  call-well c f =
-      let u : Zone = (step zoneBays c zoneIn) .next in
-      let w′ : Whole u = whole-step c zoneIn f well-whole in
-      let s′ : Stored ((callBytes c bs) .bytes) u = rw (call-is bs zoneIn well-whole well-stored c) (stored-after bs zoneIn u well-whole w′ (same-buffer c zoneIn) well-stored) in
-      stored-well ((callBytes c bs) .bytes) u w′ s′
+    -- the bytes that a call leaves are well-formed
+    pub call-well : wellFormed ((call c bs) .bytes) ≡ true
+    call-well = go (refusalOf c (facts true zoneIn)) refl
+      where
+        go : (n : ℕ) → refusalOf c (facts true zoneIn) ≡ n → wellFormed ((call c bs) .bytes) ≡ true
+        go zero e = stored-well ((call c bs) .bytes) ((work c zoneIn) .next) (work-whole c zoneIn u well-whole e) (work-stored e)
+        go (suc n) e = rw (call-refused bs zoneIn well-whole well-stored c n e) h

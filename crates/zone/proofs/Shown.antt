@@ -4,29 +4,32 @@ use mathlib.Core.Bool.{Bool, true, _&&_}
 use mathlib.Core.List.{List, [], _∷_, map, Permᴰ·refl}
 use Prim.Native.Nat.{ℕ, zero, suc}
 use native.Mathlib.Omega.{arith}
-use lib.ListN.{replicate}
+use lib.ListN.{take, drop, replicate}
 use lib.Dec.{ltb}
 use borrow.Author.Tests.{ltb-true}
 use Rattle.format.proofs.Bool.{and-left, and-right}
-use Rattle.bigendian.specs.BigEndian.{Bytes}
+use Rattle.bigendian.specs.BigEndian.{Bytes, fromBE, toBE}
+use Rattle.memory.specs.Zeros.{allZero}
+use Rattle.format.specs.WellFormed.{wellFormed, headerOk, zoneRules, blockRules, every, typeOk, sizeOk, tileOk, zerosOk, neighboursOk, handlesOk, chainFrom, typeOf, sizeOf, handleOf, isFree, isReloc, splitFrom, isMaster, relocs, chain, offsets, masterAt}
+use Rattle.structure.specs.Structure.{encodeBlock, sizes, relocCount, placeOf, nextOf, words, join, header, encode, decodeBlock, decodeZone, decode}
 use Rattle.calls.specs.Calls.{Call, Answer, beside, secondOf}
 use Rattle.ledger.specs.Ledger.{run, initial}
 use Rattle.zone.specs.Call.{call, initialize}
 use Rattle.zone.specs.RigSheet.{answersOf, bytesAfter}
 use Rattle.zone.specs.Promise.{Promise}
 use Rattle.zone.specs.Claim.{History, stop, then, AllAlike, Claim}
-use Rattle.zone.specs.ReelB.{calls, numbers}
+use Rattle.zone.specs.ReelB.{calls, numbers, recipe}
 use Rattle.zone.proofs.Theorem.{the-list}
 
 promise-of : (c : Call) (bs : List ℕ) → Promise c bs ((call c bs) .answer) ((call c bs) .bytes)
 promise-of c bs = record { answer = record { number = refl; value = refl; second = refl; bytes = refl; records = Permᴰ·refl _ }; bytes = refl }
 
--- any bytes, 72 of them
+-- any bytes, 104 of them
 abbrev before : List ℕ
-before = replicate 72 9
+before = replicate 104 9
 
 abbrev fresh : List ℕ
-fresh = (initialize 64 4 before) .bytes
+fresh = (initialize 96 4 before) .bytes
 
 -- ---- what is written are bytes, by a test that computes
 
@@ -49,15 +52,24 @@ unfolding allBelow
 history-of [] bs e = stop
 history-of (c ∷ cs) bs e = then (bytes-of (secondOf (beside c)) (and-left _ _ e)) (promise-of c bs) (history-of cs ((call c bs) .bytes) (and-right (below (secondOf (beside c))) _ e))
 
-reel-b-claim : Claim 72 64 4 fresh
-reel-b-claim = the-list before fresh 64 4 ((initialize 64 4 before) .answer) (record { answer = refl; bytes = refl }) refl
+reel-b-claim : Claim 104 96 4 fresh
+reel-b-claim = the-list before fresh 96 4 ((initialize 96 4 before) .answer) (record { answer = refl; bytes = refl }) refl
 
 reel-b-history : History fresh calls (answersOf calls fresh) (bytesAfter calls fresh)
 unfolding allBelow below
 reel-b-history = history-of calls fresh refl
 
-pub reel-b : AllAlike (answersOf calls fresh) (run calls (initial 72 64 4))
+pub reel-b : AllAlike (answersOf calls fresh) (run calls (initial 104 96 4))
 reel-b = reel-b-claim .answers calls (answersOf calls fresh) (bytesAfter calls fresh) reel-b-history
 
-pub ledger-numbers : map (λ (a : Answer). a .number) (run calls (initial 72 64 4)) ≡ numbers
+pub ledger-numbers : map (λ (a : Answer). a .number) (run calls (initial 104 96 4)) ≡ numbers
 ledger-numbers = refl
+
+-- the eleventh answer: the recipe has slid, and its handle gives its bytes
+pub recipe-stays : map (λ (a : Answer). a .bytes) (take 1 (drop 10 (run calls (initial 104 96 4)))) ≡ recipe ∷ []
+recipe-stays = refl
+
+-- in the bytes: the recipe's master before the profile grows, and after
+pub recipe-slides : (masterAt (bytesAfter (take 9 calls) fresh) 24 ≡ 56) × (masterAt (bytesAfter (take 10 calls) fresh) 24 ≡ 64)
+unfolding wellFormed headerOk zoneRules blockRules every typeOk sizeOk tileOk zerosOk neighboursOk handlesOk chainFrom typeOf sizeOf handleOf isFree isReloc splitFrom isMaster relocs chain allZero fromBE encode header toBE words join encodeBlock decodeBlock decode decodeZone placeOf nextOf sizes relocCount offsets
+recipe-slides = (refl, refl)

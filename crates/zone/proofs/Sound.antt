@@ -7,7 +7,8 @@ use native.Mathlib.Omega.{arith}
 use lib.ListN.{length}
 use lib.Dec.{leb}
 use borrow.Author.Tests.{leb-true}
-use Rattle.zone.specs.Bay.{is, Item, itemSize, alter, Cell, free, held, baySum, items, gap, packed, joinBays, compactBay, fit, put, trim, takeHigh, release, edit}
+use Rattle.calls.specs.State.{is, Item, itemSize, alter}
+use Rattle.zone.specs.Bay.{Cell, free, held, baySum, items, gap, packed, joinBays, compactBay, fit, put, trim, takeHigh, release, edit}
 use Rattle.zone.proofs.BayLaws.{Each, nothing, just, each-over, each-cond, each-getD, alter-size}
 
 pub record Block (n : ℕ) : Type 0 where

@@ -7,16 +7,16 @@ use native.Mathlib.Omega.{arith}
 use native.Mathlib.Nat.{add-assoc}
 use lib.ListN.{length, length-append, length-replicate, take, drop}
 use lib.Seq.{take-at, drop-at}
-use Rattle.zone.specs.PickBays.{Bays, last, more, findS, AllS}
+use Rattle.calls.specs.Bays.{Bays, last, more, findS}
+use Rattle.zone.specs.PickBays.{AllS}
 use Rattle.zone.proofs.BaysLaws.{Both, absent, present, cond-both, orElse-both}
 use Rattle.zone.proofs.BayLaws.{Each, nothing, just}
-use Rattle.zone.specs.Bay.{is, Item, itemSize, get, Cell, held, baySize, items}
+use Rattle.calls.specs.State.{is, Item, itemSize, get, Fixed, fsize, pointer, handlesFrom}
+use Rattle.zone.specs.Bay.{Cell, held, baySize, items}
 use Rattle.zone.proofs.Sound.{Block, Sound, s-nil, s-end, s-free, s-held}
-use Rattle.zone.specs.OnBays.{Fixed, fsize, pointer, handlesFrom}
-use Rattle.block_type.specs.Limits.{fixedHeader}
-use Rattle.zone.proofs.Handles.{Zone}
+use Rattle.block_type.specs.Limits.{fixedHeader, firstBlock}
+use Rattle.zone.specs.Work.{Zone}
 use Rattle.zone.proofs.Places.{Tiled, tile-last, tile-more, Placed}
-use Rattle.block_type.specs.Limits.{firstBlock}
 use Rattle.zone.proofs.Bytes.{big, freeBytes, itemBytes, cellBytes, fixedHead, fixedBytes, blockBytes, whereIn, whereS, nextOf, masterOf, masterBytes, headerBytes, zoneBytes}
 
 pub record Stands (bs : List ℕ) (at : ℕ) (v : List ℕ) : Type 0 where
@@ -85,34 +85,34 @@ in-blocks h p (more b x s) d =
     orElse-both (weaken-both (λ e q a. more-after (fixedBytes x ++ blockBytes s) a) (in-cells h p (d .0)))
     (weaken-both (λ e q a. shift (cellBytes b) (baySize b) (length-cells (d .0)) (shift (fixedBytes x) (fsize x) (omega arith) a)) (in-blocks h (p + baySize b + fsize x) s (d .1)))
 
-length-masters : (z : Zone) (hs : List ℕ) → length (masterBytes z hs) ≡ 4 * length hs
-length-masters z [] = refl
-length-masters z (h ∷ hs) = omega (arith, length-masters z hs)
+length-masters : (m : ℕ) (z : Zone) (hs : List ℕ) → length (masterBytes m z hs) ≡ 4 * length hs
+length-masters m z [] = refl
+length-masters m z (h ∷ hs) = omega (arith, length-masters m z hs)
 
 length-handles : (h n : ℕ) → length (handlesFrom h n) ≡ n
 length-handles h zero = refl
 length-handles h (suc n) = ap suc (length-handles (h + 4) n)
 
-pub in-zone : {v : List ℕ} {at : ℕ} (z : Zone) → Stands (blockBytes (z .bays)) at v → Stands (zoneBytes z) (firstBlock (z .m) + at) v
-in-zone z s = rw (add-assoc 16 (4 * z .m) _) (stands-after (headerBytes z) 16 refl (stands-after (masterBytes z (handlesFrom 16 (z .m))) (4 * z .m) (omega (arith, length-masters z (handlesFrom 16 (z .m)), length-handles 16 (z .m))) s))
+pub in-zone : {v : List ℕ} {at : ℕ} (m : ℕ) (z : Zone) → Stands (blockBytes (z .bays)) at v → Stands (zoneBytes m z) (firstBlock m + at) v
+in-zone m z s = rw (add-assoc 16 (4 * m) _) (stands-after (headerBytes m z) 16 refl (stands-after (masterBytes m z (handlesFrom 16 m)) (4 * m) (omega (arith, length-masters m z (handlesFrom 16 m), length-handles 16 m)) s))
 
 both-each : {A B : Type 0} {R : A → B → Type 0} {a : Option A} {b : Option B} (P : A → B → Type 0) (d : B) → ((x : A) (y : B) → R x y → P x y) → Both R a b → Each (λ (x : A). P x (Option·getD b d)) a
 both-each P d f absent = nothing
 both-each P d f (present r) = just (f _ _ r)
 
 -- a live handle's bytes stand in the zone, from the offset in its master
-pub handle-stands : (h : ℕ) (z : Zone) → AllS Sound (z .bays) → Each (λ (e : Item). Stands (zoneBytes z) (masterOf z h) (e .bytes)) (findS (λ (b : List Cell). get h (items b)) (z .bays))
-handle-stands h z d =
-    both-each (λ e q. Stands (zoneBytes z) q (e .bytes)) (nextOf h (z .chain)) (λ e q a. rw (a .found) (in-zone z (a .stands))) (in-blocks h (firstBlock (z .m)) (z .bays) d)
+pub handle-stands : (m h : ℕ) (z : Zone) → AllS Sound (z .bays) → Each (λ (e : Item). Stands (zoneBytes m z) (masterOf m z h) (e .bytes)) (findS (λ (b : List Cell). get h (items b)) (z .bays))
+handle-stands m h z d =
+    both-each (λ e q. Stands (zoneBytes m z) q (e .bytes)) (nextOf h (z .chain)) (λ e q a. rw (a .found) (in-zone m z (a .stands))) (in-blocks h (firstBlock m) (z .bays) d)
 
 -- a master stands at its handle
-pub master-stands : (z : Zone) (i : ℕ) → i < z .m → Stands (zoneBytes z) (16 + 4 * i) (big 4 (masterOf z (16 + 4 * i)))
-master-stands z i l = stands-after (headerBytes z) 16 refl (stands-before (blockBytes (z .bays)) (nth 16 (z .m) i (16 + 4 * i) l refl))
+pub master-stands : (m : ℕ) (z : Zone) (i : ℕ) → i < m → Stands (zoneBytes m z) (16 + 4 * i) (big 4 (masterOf m z (16 + 4 * i)))
+master-stands m z i l = stands-after (headerBytes m z) 16 refl (stands-before (blockBytes (z .bays)) (nth 16 m i (16 + 4 * i) l refl))
   where
-    nth : (h n i k : ℕ) → i < n → h + 4 * i ≡ k → Stands (masterBytes z (handlesFrom h n)) (4 * i) (big 4 (masterOf z k))
+    nth : (h n i k : ℕ) → i < n → h + 4 * i ≡ k → Stands (masterBytes m z (handlesFrom h n)) (4 * i) (big 4 (masterOf m z k))
     nth h zero i k l e = absurd (omega arith)
-    nth h (suc n) zero k l e = let q : k ≡ h = omega arith in rw q (stands-here (big 4 (masterOf z h)) (masterBytes z (handlesFrom (h + 4) n)))
-    nth h (suc n) (suc i) k l e = let q : 4 * suc i ≡ 4 + 4 * i = omega arith in rw q (stands-after (big 4 (masterOf z h)) 4 refl (nth (h + 4) n i k (omega arith) (omega arith)))
+    nth h (suc n) zero k l e = let q : k ≡ h = omega arith in rw q (stands-here (big 4 (masterOf m z h)) (masterBytes m z (handlesFrom (h + 4) n)))
+    nth h (suc n) (suc i) k l e = let q : 4 * suc i ≡ 4 + 4 * i = omega arith in rw q (stands-after (big 4 (masterOf m z h)) 4 refl (nth (h + 4) n i k (omega arith) (omega arith)))
 
 -- what holds of each fixed block
 abbrev pub AllF : (Fixed → Type 0) → Bays (List Cell) Fixed → Type 0
@@ -145,8 +145,8 @@ fixed-at d (tile-more {p = p} {b = b} {x = x} {s = s} e t) = (
 )
 
 -- each fixed block's bytes stand in the zone, from its pointer
-pub pointers-stand : (z : Zone) → AllS Sound (z .bays) → Placed z → AllF (λ (x : Fixed). Stands (zoneBytes z) (pointer x) (x .bytes)) (z .bays)
-pointers-stand z d g = all-map (FixedAt (blockBytes (z .bays)) (firstBlock (z .m))) _ (λ x a. rw (a .found) (in-zone z (a .stands))) (z .bays) (fixed-at d (g .tiled))
+pub pointers-stand : (m : ℕ) (z : Zone) → AllS Sound (z .bays) → Placed m z → AllF (λ (x : Fixed). Stands (zoneBytes m z) (pointer x) (x .bytes)) (z .bays)
+pointers-stand m z d g = all-map (FixedAt (blockBytes (z .bays)) (firstBlock m)) _ (λ x a. rw (a .found) (in-zone m z (a .stands))) (z .bays) (fixed-at d (g .tiled))
 
 blocks-length : {p end : ℕ} {s : Bays (List Cell) Fixed} → AllS Sound s → Tiled p s end → p + length (blockBytes s) ≡ end
 blocks-length d (tile-last e) = omega (arith, length-cells d)
@@ -154,6 +154,6 @@ blocks-length d (tile-more {b = b} {x = x} {s = s} e t) =
     omega (arith, length-append (cellBytes b) (fixedBytes x ++ blockBytes s), length-append (fixedBytes x) (blockBytes s), length-cells (d .0), blocks-length (d .1) t)
 
 -- the zone's bytes are as many as its length
-pub zone-length : (z : Zone) → AllS Sound (z .bays) → Placed z → length (zoneBytes z) ≡ z .len
-zone-length z d g =
-    omega (arith, length-append (masterBytes z (handlesFrom 16 (z .m))) (blockBytes (z .bays)), length-masters z (handlesFrom 16 (z .m)), length-handles 16 (z .m), blocks-length d (g .tiled))
+pub zone-length : (m : ℕ) (z : Zone) → AllS Sound (z .bays) → Placed m z → length (zoneBytes m z) ≡ z .len
+zone-length m z d g =
+    omega (arith, length-append (masterBytes m z (handlesFrom 16 m)) (blockBytes (z .bays)), length-masters m z (handlesFrom 16 m), length-handles 16 m, blocks-length d (g .tiled))

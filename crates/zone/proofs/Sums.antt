@@ -4,7 +4,8 @@ use mathlib.Core.Bool.{Bool, true}
 use mathlib.Core.Option.{Option}
 use Prim.Native.Nat.{ℕ, _+_, _≤_}
 use native.Mathlib.Omega.{arith}
-use Rattle.zone.specs.PickBays.{Bays, last, more, orElse, onLow, onHigh, glue, onJoin, mapS, onFixed, onLast, findS, sumS, lastS, AllS}
+use Rattle.calls.specs.Bays.{Bays, last, more, orElse, mapS, onFixed, onLast, findS, sumS, lastS}
+use Rattle.zone.specs.PickBays.{onLow, onHigh, glue, onJoin, AllS}
 use Rattle.zone.proofs.BayLaws.{Each, nothing, just, each-over, each-cond}
 
 pub each-orElse : {A : Type 0} {P : A → Type 0} {a b : Option A} → Each P a → Each P b → Each P (orElse a b)

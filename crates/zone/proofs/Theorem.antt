@@ -1,102 +1,60 @@
--- Demand 3 is proved: the claim holds of every list of calls from an accepted initialization.
+-- THE LIST THEOREM: calls that keep their promises, one after the other from an accepted initialization, answer as the ledger does.
 use mathlib.Core.Path.{_≡_, refl, ap, ap₂, sym, _∙_, subst}
-use mathlib.Core.Bool.{Bool, true, false, cond, _&&_}
-use mathlib.Core.List.{List, [], _∷_, _++_, map, List·Permᴰ, List·Permᴰ·trans}
+use mathlib.Core.Bool.{Bool, true, false, cond}
 use mathlib.Core.Option.{Option, none, some}
-use Prim.Native.Nat.{ℕ, _+_, _-_, _%_}
+use mathlib.Core.List.{List, [], _∷_, _++_, List·Permᴰ·trans, Permᴰ·refl}
+use Prim.Native.Nat.{ℕ, zero, suc, _-_, _≤_}
 use native.Mathlib.Omega.{arith}
-use lib.ListN.{length, drop, length-append, length-drop}
-use lib.Seq.{drop-at}
-use lib.Dec.{eqb, leb}
-use borrow.Author.Tests.{leb-true, eqb-true}
-use Rattle.bigendian.specs.BigEndian.{Bytes, slice}
-use Rattle.block_type.specs.Limits.{firstBlock, longestZone, mostMasters}
-use Rattle.format.specs.WellFormed.{masterAt}
+use lib.ListN.{length, drop}
+use lib.Dec.{eqb, eqb·suc-zero}
+use Rattle.bigendian.specs.BigEndian.{Bytes}
+use Rattle.block_type.specs.Limits.{firstBlock}
 use Rattle.structure.specs.Structure.{encode}
-use Rattle.structure.proofs.Round.{length-is}
-use Rattle.calls.specs.Calls.{Call, allocate-relocatable, allocate-fixed, free-handle, free-pointer, read, write, view, size, roster, check, length-of, resize, compact, sums, enlarge, shrink, Answer, answers, refusal, beside, secondOf}
+use Rattle.calls.specs.Calls.{Call, Answer, beside, secondOf, refused, told}
+use Rattle.calls.specs.Bays.{Bays, last, more}
+use Rattle.calls.specs.State.{Item, Fixed, fsize, Out}
+use Rattle.calls.specs.Table.{refusalOf, first, order, badInitialize}
+use Rattle.calls.proofs.Never.{never-one, told-one}
 use Rattle.ledger.specs.Ledger as Book
-use Rattle.ledger.specs.Nested as Text
-use Rattle.ledger.specs.Nested.{Ledger, Line, entryOf, fixedOf}
+use Rattle.ledger.specs.Ledger.{Ledger, Bay, run, ledgerAfter, initial, stepWith, step}
 use Rattle.ledger.specs.Space.{Spot, spot, fixedSpots, baySums, Request, relocatable, fixed, resized, callOf}
-use Rattle.ledger.proofs.Space.{space}
-use Rattle.ledger.specs.Still.{Has, NotFreed, no-call, a-call}
-use Rattle.ledger.proofs.Tied.{step-same as ledger-same}
-use Rattle.ledger.proofs.Still.{stays-put}
-use Rattle.zone.specs.PickBays.{Bays, over, concatS}
-use Rattle.zone.specs.Bay.{Item, Cell, items, baySum, gap}
-use Rattle.zone.specs.OnBays as OnBays
-use Rattle.zone.specs.OnBays.{State, Fixed, step, initial}
-use Rattle.zone.specs.OnBytes.{Zone, inLine, Result, accepts, initBytes, callBytes}
-use Rattle.zone.specs.Call.{call}
-use Rattle.zone.proofs.Tied.{fair-stored, call-fair, init-same}
-use Rattle.zone.specs.Promise.{Alike, Promise}
+use Rattle.ledger.specs.Still.{Has, NotFreed, a-call}
+use Rattle.ledger.proofs.Space.{liveIn, space}
+use Rattle.ledger.proofs.Still.{step-has}
+use Rattle.zone.specs.Bay.{Cell, baySum}
+use Rattle.zone.specs.Counted.{live}
+use Rattle.zone.specs.Work as Work
+use Rattle.zone.specs.Work.{Zone, work, fresh}
+use Rattle.zone.specs.Call.{inLine, Result, call, initializeWith}
+use Rattle.zone.specs.Promise.{Alike, Promise, InitPromise}
+use Rattle.zone.proofs.BayLaws.{Each, nothing, just}
+use Rattle.zone.proofs.BaysLaws.{like-last, like-more}
+use Rattle.zone.proofs.Keep.{Whole}
+use Rattle.zone.proofs.Grouped.{single-live, work-whole, work-buffer}
+use Rattle.zone.proofs.Run.{Stored, stored-well, stored-after, call-worked, call-refused}
+use Rattle.zone.proofs.InBuffer.{live-read, fixed-read, length-read}
+use Rattle.zone.proofs.Numbers.{work-number}
+use Rattle.zone.proofs.Initial.{Accepted, accepted, fresh-whole, fresh-stored}
 use Rattle.zone.specs.Claim.{History, stop, then, AllAlike, none-left, one-more, Never, never-nil, never-cons, Where, nowhere, here, Stands, Claim, TheList}
-use Rattle.zone.proofs.BayKinds.{Room, zoneBays, ledgerBays}
-use Rattle.zone.proofs.BayLaws.{Each, just, items-gap, bsize-split, perm-total, perm-map}
-use Rattle.zone.proofs.BaysLaws.{Like, like-last, like-more, concatS-like}
-use Rattle.zone.proofs.Walk.{Fed}
-use Rattle.zone.proofs.Clean.{Feeds, fed-write, e-last, i-nil}
-use Rattle.zone.proofs.Handles.{single}
-use Rattle.zone.proofs.Simulation.{sim, step-same, same-answer, same-next}
-use Rattle.zone.proofs.Agreement.{Fits, Equal, link, agree}
-use Rattle.zone.proofs.Matching.{Matches, Accepted, initial-owns, initial-placed, initial-matches}
-use Rattle.zone.proofs.Bounds.{sound-of}
-use Rattle.zone.proofs.Keep.{Whole, valid-line, len-line}
-use Rattle.zone.proofs.Grouped.{whole-step, same-buffer}
-use Rattle.zone.proofs.Run.{Stored, call-is, stored-after, stored-well}
-use Rattle.zone.proofs.InBuffer.{length-read, live-read, fixed-read}
-use Rattle.zone.proofs.FixedWalk.{spotsS, sumsS, fixed-walk, reloc-walk, free-walk}
-use Rattle.zone.proofs.Refusals.{step-other, number-other}
-use Rattle.zone.proofs.AsState.{sum-as, cards-as, asItem, asFixed, asBays, asState, entry-as, fixed-as, text, initial-as}
-use Rattle.zone.proofs.Point.{Point, alike-of, once, live-once}
+use Rattle.zone.proofs.Fits.{Equal, same-sum, fresh-fits}
+use Rattle.zone.proofs.Matches.{Paired, Matches, matches, facts-same, handle-same, fixed-same, cards-same, live-same}
+use Rattle.zone.proofs.Works.{Same, work-same}
+use Rattle.zone.proofs.MetBlocks.{spotsS, sumsS, fixed-walk, free-walk, reloc-walk}
 
--- ---- premises
+-- ---- a point of the list: the buffer holds a zone, and the zone is one with the ledger
 
-and-left : (a b : Bool) → a && b ≡ true → a ≡ true
-and-left true b e = refl
-and-left false b e = e
+pub record Point (bs : List ℕ) (l : Ledger) : Type 0 where
+  pub zone : Zone
+  pub whole : Whole zone
+  pub stored : Stored bs zone
+  pub one : Matches zone l
 
-and-right : (a b : Bool) → a && b ≡ true → b ≡ true
-and-right true b e = e
-and-right false b e = absurd (mathlib.Core.Bool.false≢true e)
+module _ {bs : List ℕ} {l : Ledger} (p : Point bs l) where
+  single : (h : ℕ) → live h (p .zone .bays) ≤ 1
+  single h = single-live (p .zone) (p .whole) h
 
-is-accepted : (buf n m : ℕ) → accepts buf n m ≡ true → Accepted buf n m
-is-accepted buf n m e =
-    let a : Bool = eqb (n % 4) 0 in
-    let b : Bool = leb (firstBlock m) n in
-    let c : Bool = leb n buf in
-    let d : Bool = leb n longestZone in
-    let abcd : a && b && c && d ≡ true = and-left _ (leb m mostMasters) e in
-    let abc : a && b && c ≡ true = and-left _ d abcd in
-    let ab : a && b ≡ true = and-left _ c abc in
-    record {
-      by4 = eqb-true (n % 4) 0 (and-left _ b ab);
-      above = leb-true (firstBlock m) n (and-right a _ ab);
-      within = leb-true n buf (and-right (a && b) _ abc);
-      length-limit = leb-true n longestZone (and-right (a && b && c) _ abcd);
-      masters-limit = leb-true m mostMasters (and-right (a && b && c && d) _ e);
-    }
-
-fed-of : (c : Call) → Bytes (secondOf (beside c)) → Fed Feeds c
-fed-of (write t i n buf) y = fed-write i n buf y
-fed-of (allocate-relocatable c) y = tt
-fed-of (allocate-fixed c) y = tt
-fed-of (free-handle h) y = tt
-fed-of (free-pointer p) y = tt
-fed-of (read t i n buf) y = tt
-fed-of (view t i n) y = tt
-fed-of (size t) y = tt
-fed-of (roster buf) y = tt
-fed-of check y = tt
-fed-of length-of y = tt
-fed-of (resize h c) y = tt
-fed-of compact y = tt
-fed-of sums y = tt
-fed-of (enlarge k) y = tt
-fed-of (shrink k) y = tt
-
--- ---- answers
+  number-same : (c : Call) → refusalOf c (Work.facts true (p .zone)) ≡ refusalOf c (Book.facts l)
+  number-same c = ap (refusalOf c) (facts-same single (p .one))
 
 alike-trans : {a b c : Answer} → Alike a b → Alike b c → Alike a c
 alike-trans p q = record {
@@ -107,188 +65,139 @@ alike-trans p q = record {
   records = List·Permᴰ·trans (p .records) (q .records);
 }
 
-where-over : {A B : Type 0} (f : A → B) (P : B → Type 0) (o : Option A) → Each P (over f o) → Where (λ (a : A). P (f a)) o
-where-over f P none e = nowhere
-where-over f P (some a) (just p) = here p
-
--- the same fixed blocks
-spots-like : {s : Bays (List Cell) Fixed} {t : Bays Room Fixed} → Like Fits Equal s t → spotsS s ≡ spotsS t
-spots-like (like-last r) = refl
-spots-like (like-more {x = x} {y = y} r e k) = ap₂ (λ (x : Fixed) (l : List Spot). spot (x .place) (OnBays.fsize x) ∷ l) (e .equal) (spots-like k)
-
-spots-as : (l : Line) → spotsS (asBays l) ≡ fixedSpots l
-spots-as (Text.last b) = refl
-spots-as (Text.more b x l) = ap (spot (x .place) (Text.fixedSize x) ∷_) (spots-as l)
-
-spots-match : {z : Zone} {l : State Room} → Matches z l → spotsS (z .bays) ≡ spotsS (l .bays)
-spots-match (sim k) = spots-like k
-
--- the same sums
-sums-like : {s : Bays (List Cell) Fixed} {t : Bays Room Fixed} → Like Fits Equal s t → sumsS baySum s ≡ sumsS (ledgerBays .sum) t
-sums-like (like-last {b = b} r) = ap (_∷ []) (omega (arith, bsize-split b, perm-total (r .perm), r .size))
-sums-like (like-more {b = b} r e k) = ap₂ _∷_ (omega (arith, bsize-split b, perm-total (r .perm), r .size)) (sums-like k)
-
-sums-as : (l : Line) → sumsS (ledgerBays .sum) (asBays l) ≡ baySums l
-sums-as (Text.last b) = ap (_∷ []) (sym (sum-as b))
-sums-as (Text.more b x l) = ap₂ _∷_ (sym (sum-as b)) (sums-as l)
-
-sums-match : {z : Zone} {l : State Room} → Matches z l → sumsS baySum (z .bays) ≡ sumsS (ledgerBays .sum) (l .bays)
-sums-match (sim k) = sums-like k
-
--- the same handles and data sizes
-cards-match : {z : Zone} {l : State Room} → Matches z l → List·Permᴰ (concatS (λ (b : List Cell). map OnBays.card (items b)) (z .bays)) (concatS (λ (b : Room). map OnBays.card (b .entries)) (l .bays))
-cards-match (sim k) = concatS-like Fits Equal _ _ (λ b c r. perm-map OnBays.card (r .perm)) k
-
-same-len : {z : Zone} {l : State Room} → Matches z l → z .len ≡ l .len
-same-len (sim k) = refl
-
-same-buf : {z : Zone} {l : State Room} → Matches z l → z .buf ≡ l .buf
-same-buf (sim k) = refl
+alike-same : (a : Answer) → Alike a a
+alike-same a = record { number = refl; value = refl; second = refl; bytes = refl; records = Permᴰ·refl (a .records) }
 
 -- ---- one call: from point to point
 
--- a result on bytes and a step of the ledger; u is the zone after the call
-record Next (m : ℕ) (u : Zone) (r : Result) (s : Text.Step) : Type 0 where
-  pub alike : Alike (r .answer) (s .answer)
-  pub never-1 : r .answer .number ≡ 1 → ⊥
-  pub point : Point m (r .bytes) u (s .next)
+pub record Onward (bs : List ℕ) (r : Result) (o : Out Bay) : Type 0 where
+  pub long : length (r .bytes) ≡ length bs
+  pub alike : Alike (r .answer) (o .answer)
+  pub not-one : r .answer .number ≡ 1 → ⊥
+  pub point : Point (r .bytes) (o .next)
 
-next-nested : {m : ℕ} (c : Call) (bs : List ℕ) (z : Zone) (l : Ledger) → Fed Feeds c → Point m bs z l → Next m ((step zoneBays c z) .next) (callBytes c bs) (Text.step c l)
-next-nested {m} c bs z l f p =
-    let w = p .whole in
-    let u : Zone = (step zoneBays c z) .next in
-    let q = step-same zoneBays ledgerBays link agree c (single z (w .owned)) (p .matches) in
-    let t = text m c l (once p) in
-    let w′ : Whole u = whole-step c z f w in
-    let k = call-is bs z w (p .stored) c in
-    record {
-      alike = rw (k, t .answer) (alike-of (same-answer zoneBays ledgerBays link agree q));
-      never-1 = rw k (number-other (step-other zoneBays c z));
-      point = record {
-        whole = w′;
-        stored = rw k (stored-after bs z u w w′ (same-buffer c z) (p .stored));
-        matches = rw (t .next) (same-next zoneBays ledgerBays link agree q);
-      };
-    }
-
--- the same of the definitions that are read
-next : {m : ℕ} (c : Call) (bs : List ℕ) (z : Zone) (l : Ledger) → Fed Feeds c → Point m bs z l → Next m ((step zoneBays c z) .next) (call c bs) (Book.step c l)
-next {m} c bs z l f p =
-    let u : Zone = (step zoneBays c z) .next in
-    subst (λ (r : Result). Next m u r (Book.step c l)) (call-fair c bs (fair-stored bs z (p .whole) (p .stored)))
-    (subst (λ (s : Text.Step). Next m u (callBytes c bs) s) (ledger-same c l (live-once p)) (next-nested c bs z l f p))
+pub onward : {bs : List ℕ} {l : Ledger} (c : Call) → Bytes (secondOf (beside c)) → Point bs l → Onward bs (call c bs) (step c l)
+onward {bs} {l} c y p = subst (λ (n : ℕ). Onward bs (call c bs) (stepWith n c l)) (number-same p c) (go (refusalOf c (Work.facts true (p .zone))) refl)
+  where
+    go : (n : ℕ) → refusalOf c (Work.facts true (p .zone)) ≡ n → Onward bs (call c bs) (stepWith n c l)
+    go zero e =
+        let k = work-same c (single p) e (p .one) in
+        let u : Stored _ ((work c (p .zone)) .next) =
+        stored-after bs (p .zone) ((work c (p .zone)) .next) (p .whole) (work-whole c (p .zone) y (p .whole) e) (work-buffer c (p .zone) y (p .whole) e) (p .stored) in
+        rw (call-worked bs (p .zone) (p .whole) (p .stored) c e) (record {
+          long = u .buffer ∙ work-buffer c (p .zone) y (p .whole) e ∙ sym (p .stored .buffer);
+          alike = k .answer;
+          not-one = λ q. omega (arith, work-number c (p .zone));
+          point = record {
+            zone = (work c (p .zone)) .next;
+            whole = work-whole c (p .zone) y (p .whole) e;
+            stored = u;
+            one = k .next;
+          };
+        })
+    go (suc n) e =
+        rw (call-refused bs (p .zone) (p .whole) (p .stored) c n e, eqb·suc-zero n) (record {
+          long = refl;
+          alike = alike-same (refused c (suc n));
+          not-one = λ q. never-one c (Work.facts true (p .zone)) refl (e ∙ told-one (suc n) (beside c) q);
+          point = p;
+        })
 
 -- ---- what stands at a point
 
-stands : {m : ℕ} {bs : List ℕ} {z : Zone} {l : Ledger} → Point m bs z l → Stands bs l
-stands {m} {bs} {z} {l} p = record {
-  live = λ h. where-over asItem (λ (e : Item). slice bs (masterAt bs h) (length (e .bytes)) ≡ e .bytes) (entryOf h (l .line)) (rw (entry-as h m l) (live-read bs z (p .whole) (p .stored) (asState m l) (p .matches) h));
-  blocks = rw (reloc-walk bs z (p .whole) (p .stored), cards-as (l .line)) (cards-match (p .matches));
-  still = λ q. where-over asFixed (λ (x : Fixed). slice bs q (length (x .bytes)) ≡ x .bytes) (fixedOf q (l .line)) (rw (fixed-as q (l .line)) (fixed-read bs z (p .whole) (p .stored) (asState m l) (p .matches) q));
-  places = fixed-walk bs z (p .whole) (p .stored) ∙ spots-match (p .matches) ∙ spots-as (l .line);
-  sums = free-walk bs z (p .whole) (p .stored) ∙ sums-match (p .matches) ∙ sums-as (l .line);
-  long = length-read bs z (p .whole) (p .stored) ∙ same-len (p .matches);
-  buffer = p .stored .buffer ∙ same-buf (p .matches);
-  well = stored-well bs z (p .whole) (p .stored);
-}
+where-of : {A : Type 0} {P : A → Type 0} {o : Option A} → Each P o → Where P o
+where-of nothing = nowhere
+where-of (just p) = here p
+
+spots-same : {s : Bays (List Cell) Fixed} {t : Bays Bay Fixed} → Paired s t → spotsS s ≡ fixedSpots t
+spots-same (like-last r) = refl
+spots-same (like-more r q l) = ap₂ (λ (x : Fixed) (k : List Spot). spot (x .place) (fsize x) ∷ k) (q .equal) (spots-same l)
+
+sums-same : {s : Bays (List Cell) Fixed} {t : Bays Bay Fixed} → Paired s t → sumsS baySum s ≡ baySums t
+sums-same (like-last r) = ap (_∷ []) (same-sum r)
+sums-same (like-more r q l) = ap₂ _∷_ (same-sum r) (sums-same l)
+
+stands : {bs : List ℕ} {l : Ledger} → Point bs l → Stands bs l
+stands {bs} p = go (p .whole) (p .stored) (p .one)
+  where
+    go : {z : Zone} {k : Ledger} → Whole z → Stored bs z → Matches z k → Stands bs k
+    go {z} {k} w s (matches m) = record {
+      live = λ h. where-of (rw (← handle-same m (single-live z w) h) (live-read bs z w s h));
+      blocks = rw (reloc-walk bs z w s) (cards-same m);
+      still = λ q. where-of (rw (← fixed-same q m) (fixed-read bs z w s q));
+      places = fixed-walk bs z w s ∙ spots-same m;
+      sums = free-walk bs z w s ∙ sums-same m;
+      long = length-read bs z w s;
+      buffer = s .buffer;
+      well = stored-well bs z w s;
+    }
 
 -- ---- a list of calls
 
--- a point at which the ledger is l
-record Reached (m : ℕ) (bs : List ℕ) (l : Ledger) : Type 0 where
-  zone : Zone
-  point : Point m bs zone l
+-- the point after a call that kept its promise, and what it was told
+after : {bs mid : List ℕ} {l : Ledger} {c : Call} {a : Answer} → Bytes (secondOf (beside c)) → Promise c bs a mid → Point bs l → Point mid ((step c l) .next)
+after {c = c} y k p = rw (k .bytes) (onward c y p .point)
 
--- the point after a call that kept its promise
-onward : {m : ℕ} {bs mid : List ℕ} {l : Ledger} {c : Call} {a : Answer} → Fed Feeds c → Promise c bs a mid → Reached m bs l → Reached m mid ((Book.step c l) .next)
-onward {m} {bs} {mid} {l} {c} f k r = record {
-  zone = (step zoneBays c (r .zone)) .next;
-  point = rw (k .bytes) (next c bs (r .zone) l f (r .point) .point);
-}
+told-as : {bs mid : List ℕ} {l : Ledger} {c : Call} {a : Answer} → Bytes (secondOf (beside c)) → Promise c bs a mid → Point bs l → Alike a ((step c l) .answer)
+told-as {c = c} y k p = alike-trans (k .answer) (onward c y p .alike)
 
-told : {m : ℕ} {bs mid : List ℕ} {l : Ledger} {c : Call} {a : Answer} → Fed Feeds c → Promise c bs a mid → Reached m bs l → Alike a ((Book.step c l) .answer)
-told {bs = bs} {l = l} {c = c} f k r = alike-trans (k .answer) (next c bs (r .zone) l f (r .point) .alike)
+reached : {bs end : List ℕ} {cs : List Call} {as′ : List Answer} (l : Ledger) → History bs cs as′ end → Point bs l → Point end (ledgerAfter cs l)
+reached l stop p = p
+reached l (then {c = c} y k h) p = reached ((step c l) .next) h (after y k p)
 
-reached : {m : ℕ} {bs end : List ℕ} {cs : List Call} {as′ : List Answer} (l : Ledger) → History bs cs as′ end → Reached m bs l → Reached m end (Book.after cs l)
-reached l stop r = r
-reached l (then {c = c} y k h) r = reached ((Book.step c l) .next) h (onward (fed-of c y) k r)
+answered : {bs end : List ℕ} {cs : List Call} {as′ : List Answer} (l : Ledger) → History bs cs as′ end → Point bs l → AllAlike as′ (run cs l)
+answered l stop p = none-left
+answered l (then {c = c} y k h) p = one-more (told-as y k p) (answered ((step c l) .next) h (after y k p))
 
-answered : {m : ℕ} {bs end : List ℕ} {cs : List Call} {as′ : List Answer} (l : Ledger) → History bs cs as′ end → Reached m bs l → AllAlike as′ (Book.run cs l)
-answered l stop r = none-left
-answered l (then {c = c} y k h) r = one-more (told (fed-of c y) k r) (answered ((Book.step c l) .next) h (onward (fed-of c y) k r))
+never : {bs end : List ℕ} {cs : List Call} {as′ : List Answer} (l : Ledger) → History bs cs as′ end → Point bs l → Never 1 as′
+never l stop p = never-nil
+never l (then {c = c} y k h) p = never-cons (λ e. onward c y p .not-one (sym (k .answer .number) ∙ e)) (never ((step c l) .next) h (after y k p))
 
-never : {m : ℕ} {bs end : List ℕ} {cs : List Call} {as′ : List Answer} (l : Ledger) → History bs cs as′ end → Reached m bs l → Never 1 as′
-never l stop r = never-nil
-never l (then {bs = bs} {c = c} y k h) r =
-    never-cons (λ d. next c bs (r .zone) l (fed-of c y) (r .point) .never-1 (sym (k .answer .number) ∙ d)) (never ((Book.step c l) .next) h (onward (fed-of c y) k r))
+kept : {bs end : List ℕ} {cs : List Call} {as′ : List Answer} (l : Ledger) (x : Spot) → History bs cs as′ end → NotFreed x cs
+    → Has x (fixedSpots (l .bays)) → Has x (fixedSpots (ledgerAfter cs l .bays))
+kept l x stop f h = h
+kept l x (then {c = c} y k r) (a-call ne f) h = kept ((step c l) .next) x r f (step-has c l ne h)
 
-kept : {m : ℕ} {bs end : List ℕ} {cs : List Call} {as′ : List Answer} (l : Ledger) (x : Spot) → History bs cs as′ end → Reached m bs l → NotFreed x cs
-    → Has x (fixedSpots (l .line)) → Has x (fixedSpots (Book.after cs l .line))
-kept l x stop r g h = h
-kept l x (then {c = c} y k hs) r (a-call d g) h =
-    kept ((Book.step c l) .next) x hs (onward (fed-of c y) k r) g
-    (subst (λ (s : Text.Step). Has x (fixedSpots (s .next .line))) (ledger-same c l (live-once (r .point))) (stays-put (c ∷ []) l x (a-call d no-call) h))
+request-lends : (q : Request) → Bytes (secondOf (beside (callOf q)))
+request-lends (relocatable c) i = omega arith
+request-lends (fixed c) i = omega arith
+request-lends (resized h c) i = omega arith
 
-request-fed : (r : Request) → Fed Feeds (callOf r)
-request-fed (relocatable c) = tt
-request-fed (fixed c) = tt
-request-fed (resized h c) = tt
+once-live : {bs : List ℕ} {l : Ledger} → Point bs l → (h : ℕ) → liveIn h (l .bays) ≤ 1
+once-live p h = go (p .one) (single p)
+  where
+    go : {z : Zone} {k : Ledger} → Matches z k → ((h : ℕ) → live h (z .bays) ≤ 1) → liveIn h (k .bays) ≤ 1
+    go (matches m) o = omega (arith, live-same m h, o h)
 
-claim : {m : ℕ} {b₀ : List ℕ} (buf n : ℕ) → Reached m b₀ (Book.initial buf n m) → Claim buf n m b₀
-claim {m} {b₀} buf n r =
-    let l₀ : Ledger = Book.initial buf n m in
+claim : {b₀ : List ℕ} (buf n m : ℕ) → Point b₀ (initial buf n m) → Claim buf n m b₀
+claim {b₀} buf n m p =
+    let l₀ : Ledger = initial buf n m in
     record {
-      answers = λ p u mid h. answered l₀ h r;
-      never-1 = λ p u mid h. never l₀ h r;
-      stands = λ p u mid h. stands (reached l₀ h r .point);
-      unmoved = λ p q u v mid end h k x g i.
-          let a : Reached m mid (Book.after p l₀) = reached l₀ h r in
-          let b : Reached m end (Book.after q (Book.after p l₀)) = reached (Book.after p l₀) k a in
-          subst (Has x) (sym (stands (b .point) .places)) (kept (Book.after p l₀) x k a g (subst (Has x) (stands (a .point) .places) i));
-      space = λ p u mid end q a h k e.
-          let b : Reached m mid (Book.after p l₀) = reached l₀ h r in
-          told (request-fed q) k b .number
-          ∙ ap (λ (s : Text.Step). s .answer .number) (sym (ledger-same (callOf q) (Book.after p l₀) (live-once (b .point))))
-          ∙ space q (Book.after p l₀) (live-once (b .point)) e;
+      answers = λ cs u mid h. answered l₀ h p;
+      never-1 = λ cs u mid h. never l₀ h p;
+      stands = λ cs u mid h. stands (reached l₀ h p);
+      unmoved = λ cs ds u v mid end h k x f i.
+          let a : Point mid (ledgerAfter cs l₀) = reached l₀ h p in
+          let b : Point end (ledgerAfter ds (ledgerAfter cs l₀)) = reached (ledgerAfter cs l₀) k a in
+          subst (Has x) (sym (stands b .places)) (kept (ledgerAfter cs l₀) x k f (subst (Has x) (stands a .places) i));
+      space = λ cs u mid end q a h k e.
+          let b : Point mid (ledgerAfter cs l₀) = reached l₀ h p in
+          told-as (request-lends q) k b .number ∙ space q (ledgerAfter cs l₀) (once-live b) e;
     }
 
 -- ---- from initialization on
 
-module _ (bs : List ℕ) (n m : ℕ) (a : Accepted (length bs) n m) where
-  abbrev z₀ : Zone
-  z₀ = initial zoneBays (length bs) n m
-
-  initial-whole : Whole z₀
-  initial-whole = record {
-    owned = initial-owns (length bs) n m;
-    placed = initial-placed (length bs) n m a;
-    bounded = record { within = a .within; limit = a .length-limit; few = a .masters-limit };
-    sound = sound-of z₀ (initial ledgerBays (length bs) n m) (initial-matches (length bs) n m a);
-    clean = record { clean = e-last {b = gap (n - firstBlock m) []} (rw (items-gap (n - firstBlock m) []) i-nil) };
-  }
-
-  initial-length : length (encode (inLine z₀)) ≡ n
-  initial-length = length-is (inLine z₀) (valid-line z₀ initial-whole) ∙ len-line z₀ initial-whole
-
-  initial-stored : Stored (encode (inLine z₀) ++ drop n bs) z₀
-  initial-stored = record {
-    split = ap (encode (inLine z₀) ++_) (sym (drop-at (encode (inLine z₀)) (drop n bs) n initial-length));
-    buffer = length-append (encode (inLine z₀)) (drop n bs) ∙ ap (_+ length (drop n bs)) initial-length ∙ omega (arith, length-drop n bs, a .within);
-  }
-
-  initial-point : Point m (encode (inLine z₀) ++ drop n bs) z₀ (Text.initial (length bs) n m)
-  initial-point = record { whole = initial-whole; stored = initial-stored; matches = rw (initial-as (length bs) n m) (initial-matches (length bs) n m a) }
-
--- an initialization that is done was accepted
-done-accepted : (t : Bool) (x y : Result) → (y .answer .number ≡ 0 → ⊥) → (cond {A = Result} t x y) .answer .number ≡ 0 → t ≡ true
-done-accepted true x y q r = refl
-done-accepted false x y q r = absurd (q r)
-
-init-answer : (n m : ℕ) (bs : List ℕ) → (initBytes n m bs) .answer .number ≡ 0 → accepts (length bs) n m ≡ true
-init-answer n m bs e = done-accepted (accepts (length bs) n m) _ (record { answer = refusal 2; bytes = bs }) (λ q. omega arith) e
+pub first-point : (bs : List ℕ) (n m : ℕ) → Accepted (length bs) n m → Point (encode (inLine (fresh (length bs) n m)) ++ drop n bs) (initial (length bs) n m)
+first-point bs n m a = record {
+  zone = fresh (length bs) n m;
+  whole = fresh-whole (length bs) n m a;
+  stored = fresh-stored (length bs) n m a bs refl;
+  one = matches (like-last (fresh-fits (n - firstBlock m) (omega (arith, a))));
+}
 
 pub the-list : TheList
-the-list bs b₀ n m a i d =
-    let t = init-answer n m bs (ap (λ (r : Result). r .answer .number) (init-same n m bs) ∙ ap (λ (x : Answer). x .number) (sym (i .answer)) ∙ d) in
-    let e : b₀ ≡ encode (inLine (initial zoneBays (length bs) n m)) ++ drop n bs = i .bytes ∙ ap (λ (r : Result). r .bytes) (sym (init-same n m bs)) ∙ rw t in
-    claim (length bs) n (record { zone = initial zoneBays (length bs) n m; point = rw e (initial-point bs n m (is-accepted (length bs) n m t)) })
+the-list bs b₀ n m a i d = go (first order (badInitialize (length bs) n m ∷ [])) refl (sym (ap (λ (x : Answer). x .number) (i .answer)) ∙ d) (i .bytes)
+  where
+    go : (k : ℕ) → first order (badInitialize (length bs) n m ∷ []) ≡ k → (initializeWith k n m bs) .answer .number ≡ 0 → b₀ ≡ (initializeWith k n m bs) .bytes → Claim (length bs) n m b₀
+    go zero e d q = claim (length bs) n m (rw q (first-point bs n m (accepted (length bs) n m e)))
+    go (suc k) e d q = absurd (omega (arith, rw (eqb·suc-zero k) at d))

@@ -1,148 +1,180 @@
--- A property of states that every call keeps: the walk through the calls is made once, for any property.
-use mathlib.Core.Path.{_≡_, refl}
-use mathlib.Core.Bool.{Bool, true, false, cond, _&&_, false≢true}
-use mathlib.Core.Option.{Option, none, some}
+-- A property of zones that every call's work keeps: the walk through the calls is made once, for any property.
+use mathlib.Core.Path.{_≡_, refl, subst, ap, sym, _∙_}
+use mathlib.Core.Bool.{Bool, true, false, cond, _&&_, _||_, not, true≢false}
+use mathlib.Core.Option.{Option, none, some, Option·getD}
 use mathlib.Core.List.{List, [], _∷_}
-use Prim.Native.Nat.{ℕ, _+_, _-_, _*_, _/_, _%_, _≤_, min}
+use Prim.Native.Nat.{ℕ, zero, suc, _+_, _-_, _*_, _/_, _%_, _≤_, _<_, min}
 use native.Mathlib.Omega.{arith}
-use lib.ListN.{length, take}
+use lib.ListN.{length, set, take, length-replicate}
 use lib.Seq.{sets, length-sets}
-use lib.Dec.{leb, eqb}
-use borrow.Author.Tests.{leb-true, eqb-true}
-use Rattle.zone.specs.PickBays.{Bays, mapS, onFixed, onLast, lastS}
-use Rattle.zone.specs.Bay.{Item}
+use lib.Dec.{leb, eqb, eqb·suc-zero}
+use borrow.Author.Tests.{leb-true, eqb-true, not-false}
+use Rattle.bigendian.specs.BigEndian.{Bytes}
+use Rattle.block_type.specs.Limits.{relocHeader, relocLimit, fixedLimit, up4, fixedHeader, fixedNeed, relocNeed, longestZone}
+use Rattle.calls.specs.Calls.{Call, allocate-relocatable, allocate-fixed, free-handle, free-pointer, read, write, size, compact, sums, enlarge, shrink, Target, by-handle, by-pointer, view, roster, check, length-of, resize, beside, secondOf}
+use Rattle.calls.specs.Bays.{Bays, over, mapS, onFixed, onLast, findF, lastS, maxS}
+use Rattle.calls.specs.State.{Item, itemSize, Fixed, pointer, withBays, alterFixed, newItem, top, rest, ownSum}
+use Rattle.calls.specs.Table.{below, isNone, isEmpty, refusalOf, causes, holdsIn, order}
+use Rattle.calls.proofs.First.{among, clear, or-left}
+use Rattle.zone.specs.Bay as Bay
+use Rattle.zone.specs.Bay.{Cell, baySum, items, release, gap, joinBays, put}
+use Rattle.zone.specs.Counted.{live}
+use Rattle.zone.specs.Work as Work
+use Rattle.zone.specs.Work.{Zone, facts, work, freePointer, rewrite}
+use Rattle.zone.specs.Search.{lookup, placeLow, placeHigh, joinAt, resizeIn}
 use Rattle.zone.proofs.BayLaws.{Each, nothing, just}
 use Rattle.zone.proofs.Sound.{Block}
-use Rattle.block_type.specs.Limits.{relocLimit, fixedLimit, up4, fixedHeader}
-use Rattle.zone.specs.OnBays.{Fixed, BayKind, State, Out, orRefuse, onTop, withBays, orGive, alterFixed, content, rewrite, liveCount, lookup, newItem, placeLow, placeHigh, joinAt, resizeIn, step}
-use Rattle.calls.specs.Calls.{Answer, Call, allocate-relocatable, allocate-fixed, free-handle, free-pointer, read, write, size, compact, sums, enlarge, shrink, Target, by-handle, by-pointer, view, roster, check, length-of, resize}
+use Rattle.zone.proofs.Found.{Found, lost, got, low-found, high-found, join-found, resize-found, Named, unnamed, named, block-named}
 
--- what an outcome leaves: a DATA type, so that a proof of it shows its arguments
-pub data Leaves {B : Type 0} (P : State B → Type 0) : Out B → Type 0 where
-  leaves : {a : Answer} {s : State B} → P s → Leaves P (record { answer = a; next = s })
+-- ---- a change of a block's bytes that keeps their number and leaves bytes
 
-module _ {B : Type 0} {P : State B → Type 0} where
-  pub left : {o : Out B} → Leaves P o → P (o .next)
-  left (leaves p) = p
+pub record Feeds (f : List ℕ → List ℕ) : Type 0 where
+  pub long : (l : List ℕ) → length (f l) ≡ length l
+  pub feeds : (l : List ℕ) → Bytes l → Bytes (f l)
 
-  pub cond-leaves : (t : Bool) {a b : Out B} → (t ≡ true → Leaves P a) → Leaves P b → Leaves P (cond t a b)
-  cond-leaves true p q = p refl
-  cond-leaves false p q = q
+pub bytes-take : (n : ℕ) (s : List ℕ) → Bytes s → Bytes (take n s)
+bytes-take zero s h i = omega arith
+bytes-take (suc n) [] h i = omega arith
+bytes-take (suc n) (x ∷ xs) h zero = h 0
+bytes-take (suc n) (x ∷ xs) h (suc i) = bytes-take n xs (λ j. h (suc j)) i
 
-  pub or-leaves : {X : Type 0} {Q : X → Type 0} {o : Option X} (n : ℕ) (s : State B) {k : X → Out B} → P s → Each Q o → ((x : X) → Q x → Leaves P (k x)) → Leaves P (orRefuse n s o k)
-  or-leaves n s g nothing f = leaves g
-  or-leaves n s g (just {a = x} q) f = f x q
+bytes-set : (s : List ℕ) (k a : ℕ) → a < 256 → Bytes s → Bytes (set s k a)
+bytes-set [] k a l h i = h i
+bytes-set (x ∷ s) zero a l h zero = l
+bytes-set (x ∷ s) zero a l h (suc i) = h (suc i)
+bytes-set (x ∷ s) (suc k) a l h zero = h 0
+bytes-set (x ∷ s) (suc k) a l h (suc i) = bytes-set s k a l (λ j. h (suc j)) i
 
-  pub give-leaves : {X : Type 0} {Q : X → Type 0} {o : Option X} {d : Out B} (s : State B) {k : X → Out B} → Leaves P d → Each Q o → ((x : X) → Q x → Leaves P (k x)) → Leaves P (orGive d o k)
-  give-leaves s g nothing f = g
-  give-leaves s g (just {a = x} q) f = f x q
+pub bytes-sets : (vs s : List ℕ) (k : ℕ) → Bytes vs → Bytes s → Bytes (sets s k vs)
+bytes-sets [] s k v h = h
+bytes-sets (a ∷ vs) s k v h = bytes-sets vs (set s k a) (suc k) (λ j. v (suc j)) (bytes-set s k a (v 0) h)
 
-  pub top-leaves : (s : State B) {k : ℕ → List ℕ → Out B} (l : List ℕ) → s .chain ≡ l → P s → ((h : ℕ) (hs : List ℕ) → s .chain ≡ h ∷ hs → Leaves P (k h hs)) → Leaves P (onTop s l k)
-  top-leaves s [] e g f = leaves g
-  top-leaves s (h ∷ hs) e g f = f h hs e
-
-pub and-left : (a b : Bool) → a && b ≡ true → a ≡ true
-and-left true b e = refl
-and-left false b e = e
-
-pub and-right : (a b : Bool) → a && b ≡ true → b ≡ true
-and-right true b e = e
-and-right false b e = absurd (false≢true e)
+fed-write : (i n : ℕ) (second : List ℕ) → Bytes second → Feeds (λ (l : List ℕ). sets l i (take n second))
+fed-write i n second y = record { long = λ l. length-sets l i (take n second); feeds = λ l h. bytes-sets (take n second) l i (bytes-take n second y) h }
 
 pub any : {X : Type 0} (o : Option X) → Each (λ (x : X). Unit {0}) o
 any none = nothing
 any (some x) = just tt
 
--- each change of state that a call can make; K: what is known of a change of a block's bytes
-pub record Closed {B : Type 0} (o : BayKind B) (K : (List ℕ → List ℕ) → Type 0) (P : State B → Type 0) : Type 0 where
-  pub low : (s : State B) (h : ℕ) (hs : List ℕ) (c : ℕ) → c ≤ relocLimit → s .chain ≡ h ∷ hs → P s
-      → Each (λ (b : Bays B Fixed). P (record { buf = s .buf; len = s .len; m = s .m; chain = hs; bays = b })) (placeLow o (newItem h c) (s .bays))
-  pub high : (s : State B) (n : ℕ) → Block n → n ≤ fixedHeader + fixedLimit → P s → Each (λ (r : Fixed × Bays B Fixed). P (withBays (r .1) s)) (placeHigh o n (s .len) (s .bays))
-  pub drop : (s : State B) (h : ℕ) → P s
-      → Each (λ (e : Item). P (record { buf = s .buf; len = s .len; m = s .m; chain = h ∷ s .chain; bays = mapS (o .release h) (s .bays) })) (lookup o h s)
-  pub join : (s : State B) (p : ℕ) → P s → Each (λ (b : Bays B Fixed). P (withBays b s)) (joinAt o p (s .bays))
-  pub edit : (s : State B) (h : ℕ) (f : List ℕ → List ℕ) → ((l : List ℕ) → length (f l) ≡ length l) → K f → P s → P (withBays (mapS (o .edit h f) (s .bays)) s)
-  pub edit-fixed : (s : State B) (p : ℕ) (f : List ℕ → List ℕ) → ((l : List ℕ) → length (f l) ≡ length l) → K f → P s → P (withBays (onFixed (alterFixed p f) (s .bays)) s)
-  pub resize : (s : State B) (h a : ℕ) → a % 4 ≡ 0 → P s → Each (λ (e : Item). a ≤ relocLimit → Each (λ (b : Bays B Fixed). P (withBays b s)) (resizeIn o h a e (s .bays))) (lookup o h s)
-  pub compactBay : (s : State B) → P s → P (withBays (mapS (o .compactBay) (s .bays)) s)
-  pub grow : (s : State B) (k : ℕ) → k % 4 ≡ 0 → s .len + k ≤ s .buf → s .len + k ≤ 1048576 → P s → P (record { buf = s .buf; len = s .len + k; m = s .m; chain = s .chain; bays = onLast (o .grow k) (s .bays) })
-  pub takeHigh : (s : State B) (n : ℕ) → n ≤ o .sum (lastS (s .bays)) → P s → P (record { buf = s .buf; len = s .len - n; m = s .m; chain = s .chain; bays = onLast (o .takeHigh n) (s .bays) })
+-- ---- each change of a zone that a call's work can make
 
--- what is asked of a call's own bytes
-abbrev pub Fed : ((List ℕ → List ℕ) → Type 0) → Call → Type 0
-Fed K (write t i n buf) = K (λ (l : List ℕ). sets l i (take n buf))
-Fed K (allocate-relocatable c) = Unit {0}
-Fed K (allocate-fixed c) = Unit {0}
-Fed K (free-handle h) = Unit {0}
-Fed K (free-pointer p) = Unit {0}
-Fed K (read t i n buf) = Unit {0}
-Fed K (view t i n) = Unit {0}
-Fed K (size t) = Unit {0}
-Fed K (roster buf) = Unit {0}
-Fed K check = Unit {0}
-Fed K length-of = Unit {0}
-Fed K (resize h c) = Unit {0}
-Fed K compact = Unit {0}
-Fed K sums = Unit {0}
-Fed K (enlarge k) = Unit {0}
-Fed K (shrink k) = Unit {0}
+pub record Closed (P : Zone → Type 0) : Type 0 where
+  pub low : (z : Zone) (h : ℕ) (hs : List ℕ) (c : ℕ) → c ≤ relocLimit → z .chain ≡ h ∷ hs → P z
+      → Each (λ (b : Bays (List Cell) Fixed). P (record { buf = z .buf; len = z .len; chain = hs; bays = b })) (placeLow (newItem h c) (z .bays))
+  pub high : (z : Zone) (n : ℕ) → Block n → n ≤ fixedHeader + fixedLimit → P z → Each (λ (r : Fixed × Bays (List Cell) Fixed). P (withBays (r .1) z)) (placeHigh n (z .len) (z .bays))
+  pub drop : (z : Zone) (h : ℕ) → P z
+      → Each (λ (e : Item). P (record { buf = z .buf; len = z .len; chain = h ∷ z .chain; bays = mapS (release h) (z .bays) })) (lookup h z)
+  pub join : (z : Zone) (p : ℕ) → P z → Each (λ (b : Bays (List Cell) Fixed). P (withBays b z)) (joinAt p (z .bays))
+  pub edit : (z : Zone) (h : ℕ) (f : List ℕ → List ℕ) → Feeds f → P z → P (withBays (mapS (Bay.edit h f) (z .bays)) z)
+  pub edit-fixed : (z : Zone) (p : ℕ) (f : List ℕ → List ℕ) → Feeds f → P z → P (withBays (onFixed (alterFixed p f) (z .bays)) z)
+  pub resize : (z : Zone) (h a : ℕ) → a % 4 ≡ 0 → P z → Each (λ (e : Item). a ≤ relocLimit → Each (λ (b : Bays (List Cell) Fixed). P (withBays b z)) (resizeIn h a e (z .bays))) (lookup h z)
+  pub compactBay : (z : Zone) → P z → P (withBays (mapS Bay.compactBay (z .bays)) z)
+  pub grow : (z : Zone) (k : ℕ) → k % 4 ≡ 0 → z .len + k ≤ z .buf → z .len + k ≤ longestZone → P z
+      → P (record { buf = z .buf; len = z .len + k; chain = z .chain; bays = onLast (λ (b : List Cell). joinBays b (gap k [])) (z .bays) })
+  pub takeHigh : (z : Zone) (k n : ℕ) → n ≡ min (k / 4 * 4) (baySum (lastS (z .bays))) → P z
+      → P (record { buf = z .buf; len = z .len - n; chain = z .chain; bays = onLast (Bay.takeHigh n) (z .bays) })
 
-abbrev pub Whatever : (List ℕ → List ℕ) → Type 0
-Whatever f = Unit {0}
+-- what is found by a search that the table lets through
+pub each-got : {A : Type 0} {Q : A → Type 0} {a : A} {t : Bool} {o : Option A} → Found a t o → t ≡ false → Each Q o → Q a
+each-got lost e q = absurd (true≢false e)
+each-got got e (just q) = q
 
-unfed : (c : Call) → Fed Whatever c
-unfed (write t i n buf) = tt
-unfed (allocate-relocatable c) = tt
-unfed (allocate-fixed c) = tt
-unfed (free-handle h) = tt
-unfed (free-pointer p) = tt
-unfed (read t i n buf) = tt
-unfed (view t i n) = tt
-unfed (size t) = tt
-unfed (roster buf) = tt
-unfed check = tt
-unfed length-of = tt
-unfed (resize h c) = tt
-unfed compact = tt
-unfed sums = tt
-unfed (enlarge k) = tt
-unfed (shrink k) = tt
+one : {A : Type 0} {Q : A → Type 0} {a : A} → Each Q (some a) → Q a
+one (just q) = q
 
-module _ {B : Type 0} (o : BayKind B) (K : (List ℕ → List ℕ) → Type 0) (P : State B → Type 0) (k : Closed o K P) where
-  pub step-closed : (c : Call) (s : State B) → Fed K c → P s → Leaves P (step o c s)
-  step-closed (allocate-relocatable c) s fed g =
-      cond-leaves (leb c relocLimit) (λ e. top-leaves s (s .chain) refl g (λ h hs q. or-leaves 5 s g (k .low s h hs c (leb-true c relocLimit e) q g) (λ b r. leaves r))) (leaves g)
-  step-closed (allocate-fixed c) s fed g =
-      cond-leaves (leb c fixedLimit) (λ e. or-leaves 5 s g (k .high s (up4 (fixedHeader + c)) (omega arith) (omega (arith, leb-true c fixedLimit e)) g) (λ b r. leaves r)) (leaves g)
-  step-closed (free-handle h) s fed g = or-leaves 6 s g (k .drop s h g) (λ e r. leaves r)
-  step-closed (free-pointer p) s fed g = or-leaves 7 s g (k .join s p g) (λ e r. leaves r)
-  step-closed (read t i n buf) s fed g =
-      give-leaves s (leaves g) (any (content o t (s .bays))) (λ v q.
-      cond-leaves (leb (i + n) (length v)) (λ e. cond-leaves (leb n (length buf)) (λ e. leaves g) (leaves g)) (leaves g))
-  step-closed (write t i n buf) s fed g =
-      give-leaves s (leaves g) (any (content o t (s .bays))) (λ v q.
-      cond-leaves (leb (i + n) (length v)) (λ e. cond-leaves (leb n (length buf)) (λ e. leaves (rewritten t)) (leaves g)) (leaves g))
+there : {A : Type 0} (f : A → List ℕ) (o : Option A) → isNone (over length (over f o)) ≡ false → isNone o ≡ false
+there f none e = e
+there f (some a) e = refl
+
+shown : {A : Type 0} (f : A → List ℕ) (o : Option A) → isNone (over length (over f o)) ≡ false → isNone (over f o) ≡ false
+shown f none e = e
+shown f (some a) e = refl
+
+each-there : {A : Type 0} {R : Type 0} (o : Option A) → isNone o ≡ false → Each (λ (a : A). R) o → R
+each-there none e q = absurd (true≢false e)
+each-there (some a) e (just r) = r
+
+not-below : (a n : ℕ) → below a n ≡ false → n ≤ a
+not-below a n e = leb-true n a (not-false (leb n a) e)
+
+pub or-parts : (a b c : Bool) → not a || (not b || not c) ≡ false → (a ≡ true) × (b ≡ true) × (c ≡ true)
+or-parts true true true e = (refl, refl, refl)
+or-parts true true false e = absurd (true≢false e)
+or-parts true false c e = absurd (true≢false e)
+or-parts false b c e = absurd (true≢false e)
+
+module _ (P : Zone → Type 0) (k : Closed P) (z : Zone) (g : P z) where
+  allocated : (c : ℕ) → below relocLimit c ≡ false → isEmpty (z .chain) ≡ false → below (maxS baySum (z .bays)) (relocNeed c) ≡ false → P ((Work.allocate c z) .next)
+  allocated c l e n = go (z .chain) refl e
     where
-      rewritten : (t : Target) → P (withBays (rewrite o t (λ (l : List ℕ). sets l i (take n buf)) (s .bays)) s)
-      rewritten (by-handle h) = k .edit s h (λ (l : List ℕ). sets l i (take n buf)) (λ l. length-sets l i (take n buf)) fed g
-      rewritten (by-pointer p) = k .edit-fixed s p (λ (l : List ℕ). sets l i (take n buf)) (λ l. length-sets l i (take n buf)) fed g
-  step-closed (view t i n) s fed g = give-leaves s (leaves g) (any (content o t (s .bays))) (λ v q. cond-leaves (leb (i + n) (length v)) (λ e. leaves g) (leaves g))
-  step-closed (size t) s fed g = give-leaves s (leaves g) (any (content o t (s .bays))) (λ v q. leaves g)
-  step-closed (roster buf) s fed g = cond-leaves (leb (8 * liveCount o s) (length buf)) (λ e. leaves g) (leaves g)
-  step-closed check s fed g = leaves g
-  step-closed length-of s fed g = leaves g
-  step-closed (resize h c) s fed g = or-leaves 6 s g (k .resize s h (up4 c) (omega arith) g) (λ e q. cond-leaves (leb c relocLimit) (λ t. or-leaves 5 s g (q (omega (arith, leb-true c relocLimit t))) (λ b r. leaves r)) (leaves g))
-  step-closed compact s fed g = leaves (k .compactBay s g)
-  step-closed sums s fed g = leaves g
-  step-closed (enlarge n) s fed g =
-      cond-leaves (eqb (n % 4) 0 && leb (s .len + n) (s .buf) && leb (s .len + n) 1048576)
-      (λ e. leaves (k .grow s n (eqb-true (n % 4) 0 (and-left _ _ (and-left _ _ e)))
-      (leb-true (s .len + n) (s .buf) (and-right (eqb (n % 4) 0) _ (and-left _ _ e)))
-      (leb-true (s .len + n) 1048576 (and-right (eqb (n % 4) 0 && leb (s .len + n) (s .buf)) _ e)) g)) (leaves g)
-  step-closed (shrink n) s fed g =
-      cond-leaves (eqb (min (n / 4 * 4) (o .sum (lastS (s .bays)))) 0) (λ e. leaves g)
-      (leaves (k .takeHigh s (min (n / 4 * 4) (o .sum (lastS (s .bays)))) (omega arith) g))
+      need : (h : ℕ) → below (maxS baySum (z .bays)) (itemSize (newItem h c)) ≡ false
+      need h = let q : itemSize (newItem h c) ≡ relocNeed c = omega (arith, length-replicate {A = ℕ} (up4 c) 0) in rw q n
 
-module _ {B : Type 0} (o : BayKind B) (P : State B → Type 0) (k : Closed o Whatever P) where
-  pub step-kept : (c : Call) (s : State B) → P s → Leaves P (step o c s)
-  step-kept c s g = step-closed o Whatever P k c s (unfed c) g
+      go : (hs : List ℕ) → z .chain ≡ hs → isEmpty hs ≡ false → P (record { buf = z .buf; len = z .len; chain = rest hs; bays = Work.placeLow (newItem (top hs) c) (z .bays) })
+      go [] q e = absurd (true≢false e)
+      go (h ∷ hs) q e = each-got (low-found baySum (itemSize (newItem h c)) (put (newItem h c)) (z .bays)) (need h) (k .low z h hs c (not-below relocLimit c l) q g)
+
+  fixed-allocated : (c : ℕ) → below fixedLimit c ≡ false → below (maxS baySum (z .bays)) (fixedNeed c) ≡ false → P ((Work.allocateFixed c z) .next)
+  fixed-allocated c l n =
+      let q : c ≤ fixedLimit = not-below fixedLimit c l in
+      each-got {Q = λ (r : Fixed × Bays (List Cell) Fixed). P (withBays (r .1) z)} (high-found baySum (Bay.takeHigh (fixedNeed c)) [] (fixedNeed c) (z .len) (z .bays)) n (k .high z (fixedNeed c) (omega arith) (omega (arith, q)) g)
+
+  handle-freed : (h : ℕ) → isNone (over length (over (λ (e : Item). e .bytes) (lookup h z))) ≡ false → P ((Work.freeHandle h z) .next)
+  handle-freed h e = each-there (lookup h z) (there (λ (e : Item). e .bytes) (lookup h z) e) (k .drop z h g)
+
+  pointer-freed : (p : ℕ) → isNone (over length (over (λ (x : Fixed). x .bytes) (findF (λ (x : Fixed). eqb p (pointer x)) (z .bays)))) ≡ false → P (withBays (freePointer p (z .bays)) z)
+  pointer-freed p e = each-got {Q = λ (b : Bays (List Cell) Fixed). P (withBays b z)} (join-found (λ b n c. joinBays b (gap n c)) p (z .bays)) (shown (λ (x : Fixed). x .bytes) (findF (λ (x : Fixed). eqb p (pointer x)) (z .bays)) e) (k .join z p g)
+
+  resized-to : (h c : ℕ) → live h (z .bays) ≤ 1 → below relocLimit c ≡ false → isNone (over length (over (λ (e : Item). e .bytes) (lookup h z))) ≡ false
+      → below (ownSum items baySum h (z .bays)) (up4 c - Option·getD (over length (over (λ (e : Item). e .bytes) (lookup h z))) 0) && below (maxS baySum (z .bays)) (relocHeader + up4 c) ≡ false
+      → P ((work (resize h c) z) .next)
+  resized-to h c n l e m = go (lookup h z) refl (block-named h (z .bays)) e m (k .resize z h (up4 c) (omega arith) g)
+    where
+      lim : up4 c ≤ relocLimit
+      lim = let q : c ≤ relocLimit = not-below relocLimit c l in omega arith
+
+      go : (o : Option Item) → lookup h z ≡ o → Named h o → isNone (over length (over (λ (e : Item). e .bytes) o)) ≡ false
+          → below (ownSum items baySum h (z .bays)) (up4 c - Option·getD (over length (over (λ (e : Item). e .bytes) o)) 0) && below (maxS baySum (z .bays)) (relocHeader + up4 c) ≡ false
+          → Each (λ (e : Item). up4 c ≤ relocLimit → Each (λ (b : Bays (List Cell) Fixed). P (withBays b z)) (resizeIn h (up4 c) e (z .bays))) o
+          → P (withBays (Work.resizeIn h (up4 c) (Option·getD (over (λ (e : Item). e .bytes) o) []) (z .bays)) z)
+      go none q unnamed e m r = absurd (true≢false e)
+      go (some i) q (named {d = d}) e m r = each-got {Q = λ (b : Bays (List Cell) Fixed). P (withBays b z)} (resize-found h (up4 c) d (z .bays) n q) m (one r lim)
+
+  rewritten : (t : Target) (f : List ℕ → List ℕ) → Feeds f → P (withBays (rewrite t f (z .bays)) z)
+  rewritten (by-handle h) f y = k .edit z h f y g
+  rewritten (by-pointer p) f y = k .edit-fixed z p f y g
+
+  enlarged : (n : ℕ) → not (eqb (n % 4) 0) || (below (z .buf) (z .len + n) || below longestZone (z .len + n)) ≡ false → P ((Work.enlargeBy n z) .next)
+  enlarged n e =
+      let q = or-parts (eqb (n % 4) 0) (leb (z .len + n) (z .buf)) (leb (z .len + n) longestZone) e in
+      k .grow z n (eqb-true (n % 4) 0 (q .0)) (leb-true (z .len + n) (z .buf) (q .1)) (leb-true (z .len + n) longestZone (q .2)) g
+
+  stripped : (j n : ℕ) → n ≡ min (j / 4 * 4) (baySum (lastS (z .bays))) → P ((Work.strip n z) .next)
+  stripped j zero q = g
+  stripped j (suc n) q = rw (eqb·suc-zero n) (k .takeHigh z j (suc n) q g)
+
+-- the table's cause of number n does not hold
+abbrev passed : (c : Call) (z : Zone) → refusalOf c (facts true z) ≡ 0 → (n : ℕ) → among n order ≡ true → holdsIn n (causes c (facts true z)) ≡ false
+passed c z e n m = clear (causes c (facts true z)) n m e
+
+-- EVERY CALL that nothing refuses; a lent second buffer holds bytes, and no handle stands twice
+module _ (P : Zone → Type 0) (k : Closed P) where
+  pub work-keeps : (c : Call) (z : Zone) → Bytes (secondOf (beside c)) → ((h : ℕ) → live h (z .bays) ≤ 1) → refusalOf c (facts true z) ≡ 0 → P z → P ((work c z) .next)
+  work-keeps (allocate-relocatable c) z y o e g =
+      allocated P k z g c (or-left _ _ (passed (allocate-relocatable c) z e 3 refl)) (or-left _ _ (passed (allocate-relocatable c) z e 4 refl)) (or-left _ _ (passed (allocate-relocatable c) z e 5 refl))
+  work-keeps (allocate-fixed c) z y o e g = fixed-allocated P k z g c (or-left _ _ (passed (allocate-fixed c) z e 3 refl)) (or-left _ _ (passed (allocate-fixed c) z e 5 refl))
+  work-keeps (free-handle h) z y o e g = handle-freed P k z g h (or-left _ _ (passed (free-handle h) z e 6 refl))
+  work-keeps (free-pointer p) z y o e g = pointer-freed P k z g p (or-left _ _ (passed (free-pointer p) z e 7 refl))
+  work-keeps (resize h c) z y o e g =
+      resized-to P k z g h c (o h) (or-left _ _ (passed (resize h c) z e 3 refl)) (or-left _ _ (passed (resize h c) z e 6 refl)) (or-left _ _ (passed (resize h c) z e 5 refl))
+  work-keeps (size t) z y o e g = g
+  work-keeps (read t i n second) z y o e g = g
+  work-keeps (write t i n second) z y o e g = rewritten P k z g t (λ (l : List ℕ). sets l i (take n second)) (fed-write i n second y)
+  work-keeps (view t i n) z y o e g = g
+  work-keeps compact z y o e g = k .compactBay z g
+  work-keeps sums z y o e g = g
+  work-keeps check z y o e g = g
+  work-keeps length-of z y o e g = g
+  work-keeps (enlarge n) z y o e g = enlarged P k z g n (or-left _ _ (passed (enlarge n) z e 9 refl))
+  work-keeps (shrink n) z y o e g = stripped P k z g n _ refl
+  work-keeps (roster second) z y o e g = g

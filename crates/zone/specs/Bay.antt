@@ -5,35 +5,8 @@ use mathlib.Core.List.{List, [], _∷_, _++_, map}
 use Prim.Native.Nat.{ℕ, zero, suc, _+_, _-_}
 use lib.ListN.{length, take, replicate}
 use lib.Dec.{leb, eqb}
-use Rattle.block_type.specs.Limits.{relocHeader}
-use Rattle.zone.specs.Bays.{over}
-
--- ---- relocatable blocks
-
--- what a relocatable block holds
-pub record Item : Type 0 where
-  pub handle : ℕ
-  pub bytes : List ℕ
-
--- whether an item is the one that a key names
-abbrev pub is : ℕ → Item → Bool
-is h e = eqb h (e .handle)
-
--- the size of its block
-abbrev pub itemSize : Item → ℕ
-itemSize e = relocHeader + length (e .bytes)
-
-abbrev pub total : List Item → ℕ
-total [] = 0
-total (e ∷ es) = itemSize e + total es
-
--- the item with its bytes changed by f, where it has the handle h
-abbrev pub alter : ℕ → (List ℕ → List ℕ) → Item → Item
-alter h f e = cond (is h e) (record { handle = e .handle; bytes = f (e .bytes) }) e
-
-abbrev pub get : ℕ → List Item → Option Item
-get h [] = none
-get h (e ∷ es) = cond (is h e) (some e) (get h es)
+use Rattle.calls.specs.Bays.{over}
+use Rattle.calls.specs.State.{Item, itemSize, total, is, alter, sized}
 
 -- ---- a bay's blocks: free ones by their size, relocatable ones by what they hold
 
@@ -120,10 +93,6 @@ edit h f (free n ∷ cs) = free n ∷ edit h f cs
 edit h f (held e ∷ cs) = held (alter h f e) ∷ edit h f cs
 
 -- ---- resize: "new data size a = up4(c), old b"
-
--- "the common first bytes stay, added bytes are zero"
-abbrev pub sized : ℕ → List ℕ → List ℕ
-sized a l = take a l ++ replicate (a - length l) 0
 
 abbrev pub resized : ℕ → Item → Item
 resized a e = record { handle = e .handle; bytes = sized a (e .bytes) }

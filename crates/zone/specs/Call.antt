@@ -1,48 +1,34 @@
 -- What each of the ledger's calls, and initialize, answers and does to the bytes of a buffer, for any buffer and any numbers: it is
 -- refused with the first cause of the table, or the bytes are read as a structure, its blocks are grouped into bays, the work is done
 -- there, and the bytes are written again.
-use mathlib.Core.Bool.{Bool, cond}
-use mathlib.Core.List.{List, [], _∷_, _++_}
+use mathlib.Core.Bool.{cond}
+use mathlib.Core.List.{List, _++_}
 use Prim.Native.Nat.{ℕ, _-_, max}
 use lib.ListN.{length, drop, replicate}
 use lib.Dec.{eqb}
 use Rattle.format.specs.WellFormed.{wellFormed}
-use Rattle.structure.specs.Structure.{Structure, count, start, len, encode, decode}
-use Rattle.calls.specs.Calls.{Call, Answer, answers, refusal, refused}
-use Rattle.calls.specs.Table.{Facts, refusalOf, first, order, badInitialize}
-use Rattle.zone.specs.Bays.{over, maxS}
-use Rattle.zone.specs.Bay.{Cell, baySum}
-use Rattle.zone.specs.Zone.{Zone, Out}
+use Rattle.structure.specs.Structure.{Structure, start, len, encode, decode}
+use Rattle.calls.specs.Calls.{Call, Answer, told, refused}
+use Rattle.calls.specs.State.{Out}
+use Rattle.calls.specs.Table.{refusalOf, initRefusal}
+use Rattle.zone.specs.Bay.{Cell}
 use Rattle.zone.specs.Group.{group, flatten}
-use Rattle.zone.specs.Work.{content, ownSum, liveCount, work, fresh}
+use Rattle.zone.specs.Work.{Zone, facts, work, fresh}
 
 -- the structure of a zone in a buffer of some length, with its blocks in bays; and back
 abbrev pub inBays : ℕ → Structure → Zone
-inBays buf s = record { buf = buf; len = len s; m = count s; chain = s .links; bays = group (start s) (s .blocks) }
+inBays buf s = record { buf = buf; len = len s; chain = s .chain; bays = group (start s) (s .blocks) }
 
 abbrev pub inLine : Zone → Structure
-inLine z = record { links = z .chain; blocks = flatten (z .bays) }
+inLine z = record { chain = z .chain; blocks = flatten (z .bays) }
 
--- the zone in a buffer. (Where the bytes are no zone it says nothing, and cause 1 holds, which comes first.)
+-- the zone in a buffer. (Where the bytes are no zone it is a value that nobody asks for: cause 1 holds, which comes first.)
 abbrev pub zoneIn : List ℕ → Zone
 zoneIn bs = inBays (length bs) (decode bs)
 
--- what the table asks; `well` is whether the bytes are well-formed
-abbrev pub factsOf : Bool → Zone → Facts
-factsOf well z = record {
-  well = well;
-  buf = z .buf;
-  len = z .len;
-  free = z .chain;
-  size = λ t. over length (content t (z .bays));
-  largest = maxS baySum (z .bays);
-  own = λ h. ownSum h (z .bays);
-  live = liveCount z;
-}
-
 -- the refusal number of a call, 0 where nothing refuses it
 abbrev pub numberOf : Call → List ℕ → ℕ
-numberOf c bs = refusalOf c (factsOf (wellFormed bs) (zoneIn bs))
+numberOf c bs = refusalOf c (facts (wellFormed bs) (zoneIn bs))
 
 -- what a call answers, and every byte of the buffer after it
 pub record Result : Type 0 where
@@ -63,7 +49,7 @@ outcome bs s o = record { answer = o .answer; bytes = replacing bs s (inLine (o 
 abbrev pub callWith : ℕ → Call → List ℕ → Result
 callWith n c bs =
     cond (eqb n 0)
-    (cond (wellFormed bs) (outcome bs (decode bs) (work c (zoneIn bs))) (result (answers 0) bs))
+    (cond (wellFormed bs) (outcome bs (decode bs) (work c (zoneIn bs))) (result (told 0 0) bs))
     (result (refused c n) bs)
 
 -- A CALL ON A BUFFER
@@ -73,7 +59,7 @@ call c bs = callWith (numberOf c bs) c bs
 -- ---- initialize (length, m): "all L bytes are set and no later one"
 
 abbrev pub initializeWith : ℕ → ℕ → ℕ → List ℕ → Result
-initializeWith k n m bs = cond (eqb k 0) (result (answers 0) (encode (inLine (fresh (length bs) n m)) ++ drop n bs)) (result (refusal k) bs)
+initializeWith k n m bs = cond (eqb k 0) (result (told 0 0) (encode (inLine (fresh (length bs) n m)) ++ drop n bs)) (result (told k 0) bs)
 
 abbrev pub initialize : ℕ → ℕ → List ℕ → Result
-initialize n m bs = initializeWith (first order (badInitialize (length bs) n m ∷ [])) n m bs
+initialize n m bs = initializeWith (initRefusal (length bs) n m) n m bs

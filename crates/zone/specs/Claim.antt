@@ -11,7 +11,9 @@ use Rattle.bigendian.specs.BigEndian.{Bytes, slice}
 use Rattle.block_type.specs.Limits.{freeCode, fixedCode, relocCode, relocHeader}
 use Rattle.format.specs.WellFormed.{lengthField, firstField, typeOf, sizeOf, handleOf, splitBlocks, masterAt, zoneOf, wellFormed}
 use Rattle.calls.specs.Calls.{Call, Card, Answer, beside, secondOf}
-use Rattle.ledger.specs.Ledger.{Ledger, Entry, Fixed, entryOf, fixedOf, cards, run, after, initial}
+use Rattle.calls.specs.Bays.{findS, findF}
+use Rattle.calls.specs.State.{Item, get, Fixed, pointer}
+use Rattle.ledger.specs.Ledger.{Ledger, Bay, cards, run, ledgerAfter, initial}
 use Rattle.ledger.specs.Still.{Has, NotFreed}
 use Rattle.ledger.specs.Space.{Spot, spot, fixedSpots, baySums, Request, callOf, earlier, fits}
 use Rattle.zone.specs.Promise.{Alike, Promise, InitPromise}
@@ -75,18 +77,18 @@ pub data Where {A : Type 0} (P : A → Type 0) : Option A → Type 0 where
   nowhere : Where P none
   here : {a : A} → P a → Where P (some a)
 
--- what the ledger holds stands in the buffer, and nothing else
+-- what the ledger holds stands in the buffer, and no other block
 pub record Stands (bs : List ℕ) (l : Ledger) : Type 0 where
   -- "each live handle's from the offset in its master"
-  pub live : (h : ℕ) → Where (λ (e : Entry). slice bs (masterAt bs h) (length (e .bytes)) ≡ e .bytes) (entryOf h (l .line))
+  pub live : (h : ℕ) → Where (λ (e : Item). slice bs (masterAt bs h) (length (e .bytes)) ≡ e .bytes) (findS (λ (b : Bay). get h (b .entries)) (l .bays))
   -- a walk meets the ledger's live handles with their data sizes, each once, and no other relocatable block
-  pub blocks : List·Permᴰ (relocIn bs) (cards (l .line))
+  pub blocks : List·Permᴰ (relocIn bs) (cards l)
   -- "each fixed block's from its pointer"
-  pub still : (p : ℕ) → Where (λ (x : Fixed). slice bs p (length (x .bytes)) ≡ x .bytes) (fixedOf p (l .line))
+  pub still : (p : ℕ) → Where (λ (x : Fixed). slice bs p (length (x .bytes)) ≡ x .bytes) (findF (λ (x : Fixed). eqb p (pointer x)) (l .bays))
   -- it meets a fixed block of the ledger's size at each place where the ledger has one, and no other fixed block
-  pub places : fixedIn bs ≡ fixedSpots (l .line)
+  pub places : fixedIn bs ≡ fixedSpots (l .bays)
   -- and between them the free bytes that the ledger counts, bay by bay: what its sums say is there
-  pub sums : freeIn bs ≡ baySums (l .line)
+  pub sums : freeIn bs ≡ baySums (l .bays)
   pub long : lengthField bs ≡ l .len
   pub buffer : length bs ≡ l .buf
   pub well : wellFormed bs ≡ true
@@ -100,7 +102,7 @@ pub record Claim (buf n m : ℕ) (b₀ : List ℕ) : Type 0 where
   -- "1 never comes"
   pub never-1 : (p : List Call) (u : List Answer) (mid : List ℕ) → History b₀ p u mid → Never 1 u
   -- "After the list the ledger's bytes stand in the zone"
-  pub stands : (p : List Call) (u : List Answer) (mid : List ℕ) → History b₀ p u mid → Stands mid (after p (initial buf n m))
+  pub stands : (p : List Call) (u : List Answer) (mid : List ℕ) → History b₀ p u mid → Stands mid (ledgerAfter p (initial buf n m))
   -- "No fixed block moves until it is freed": what a walk meets after the calls p, it meets at the same place and of the same size
   -- after further calls q, unless one of those frees it
   pub unmoved : (p q : List Call) (u v : List Answer) (mid end : List ℕ) → History b₀ p u mid → History mid q v end
@@ -108,7 +110,7 @@ pub record Claim (buf n m : ℕ) (b₀ : List ℕ) : Type 0 where
   -- "Where nothing earlier in the order refuses an allocation or a resize, it gets "no space" exactly when no bay's sum reaches what
   -- the ledger needs of that bay"
   pub space : (p : List Call) (u : List Answer) (mid next : List ℕ) (r : Request) (a : Answer) → History b₀ p u mid → Promise (callOf r) mid a next
-      → earlier r (after p (initial buf n m)) ≡ 0 → a .number ≡ cond (fits r (after p (initial buf n m) .line)) 0 5
+      → earlier r (ledgerAfter p (initial buf n m)) ≡ 0 → a .number ≡ cond (fits r (ledgerAfter p (initial buf n m) .bays)) 0 5
 
 -- Of any buffer, any accepted initialization and any list of calls that keep their promises.
 abbrev pub TheList : Type 0

@@ -5,7 +5,9 @@ use mathlib.Core.List.{List, [], _∷_}
 use Prim.Native.Nat.{ℕ, suc, _-_}
 use lib.ListN.{length}
 use lib.Dec.{leb}
-use Rattle.zone.specs.Bay.{Item, is}
+use Rattle.calls.specs.Bays.{Bays, sumS}
+use Rattle.calls.specs.State.{Item, is, Fixed}
+use Rattle.zone.specs.Bay.{Cell, items}
 
 -- the items with another handle
 abbrev pub remove : ℕ → List Item → List Item
@@ -21,3 +23,7 @@ count h (e ∷ es) = cond (is h e) (suc (count h es)) (count h es)
 abbrev pub roomFor : ℕ → ℕ → Option Item → Bool
 roomFor a n none = false
 roomFor a n (some e) = leb (a - length (e .bytes)) n
+
+-- how many blocks of a zone have it
+abbrev pub live : ℕ → Bays (List Cell) Fixed → ℕ
+live h s = sumS (λ (b : List Cell). count h (items b)) s

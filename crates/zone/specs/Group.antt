@@ -4,9 +4,9 @@ use Prim.Native.Nat.{ℕ, _+_}
 use lib.ListN.{length}
 use Rattle.block_type.specs.Limits.{fixedHeader, relocHeader}
 use Rattle.structure.specs.Structure.{Block, free, fixed, reloc}
-use Rattle.zone.specs.Bays.{Bays, last, more}
+use Rattle.calls.specs.Bays.{Bays, last, more}
+use Rattle.calls.specs.State.{Fixed}
 use Rattle.zone.specs.Bay.{Cell, free as gapCell, held}
-use Rattle.zone.specs.Zone.{Fixed}
 
 -- a block in front of the first bay
 abbrev pub inFront : Cell → Bays (List Cell) Fixed → Bays (List Cell) Fixed

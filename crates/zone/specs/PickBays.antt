@@ -2,7 +2,7 @@
 use mathlib.Core.Bool.{Bool, cond}
 use mathlib.Core.Option.{Option, none, some}
 use Prim.Native.Nat.{ℕ}
-pub use Rattle.zone.specs.Bays.{Bays, last, more, over, orElse, mapS, onFixed, onLast, findS, findF, sumS, concatS, maxS, lastS}
+pub use Rattle.calls.specs.Bays.{Bays, last, more, over, orElse, mapS, onFixed, onLast, findS, findF, sumS, concatS, maxS, lastS}
 
 module _ {B F : Type 0} where
   -- the lowest bay that passes the test is changed

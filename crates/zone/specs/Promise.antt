@@ -1,5 +1,5 @@
--- What a call promises: the proposition that each exported function's contract states of the buffer it was lent, its answer, and
--- the buffer it leaves.
+-- What a call promises: the proposition that the contract of each exported function of a ledger's call, and of initialize, states of the
+-- buffer it was lent, its answer, and the buffer it leaves.
 use mathlib.Core.Path.{_≡_}
 use mathlib.Core.List.{List, List·Permᴰ}
 use Prim.Native.Nat.{ℕ}

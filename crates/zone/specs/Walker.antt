@@ -1,4 +1,4 @@
--- Document 01, 'Census and walker': "A walker goes from block to block and gives back its next position."
+-- Document 01, 'Census and walker': "A walker goes from block to block and gives back its next position".
 use mathlib.Core.Bool.{cond}
 use mathlib.Core.List.{List, [], _∷_}
 use Prim.Native.Nat.{ℕ, _+_}
@@ -32,25 +32,26 @@ pub record Walked : Type 0 where
   pub block : Described
   pub position : ℕ
 
--- the refusal, the block's type, offset and size, and the position after
 abbrev pub described : ℕ → ℕ → ℕ → Described
 described kind offset size = record { kind = kind; offset = offset; size = size }
 
+-- the refusal, the block's type, offset and size, and the position after
 abbrev pub walked : ℕ → ℕ → ℕ → ℕ → ℕ → Walked
 walked number kind offset size position = record { number = number; block = described kind offset size; position = position }
 
--- "starts at bkFst"; 0, which is no block's start, where the zone is not well-formed
+-- "starts at bkFst"; 0, which is no block's start, where the zone is not well-formed (to make a walker is no call of the table: the first
+-- step tells 1)
 abbrev pub walkStart : List ℕ → ℕ
 walkStart bs = cond (wellFormed bs) (firstField bs) 0
+
+-- a block that a walker at offset `at` goes past
+abbrev pub past : ℕ → Described → Walked
+past at d = record { number = 0; block = d; position = at + d .size }
 
 -- "At a block's start a step answers type, offset and size, and the position is then the block's end. At any other offset, L
 -- included, it answers 0 for each and stays, as it does when refused."
 abbrev pub walkStep : List ℕ → ℕ → Walked
 walkStep bs at =
     cond (wellFormed bs)
-    (record {
-      number = 0;
-      block = describe at (start (decode bs)) (decode bs .blocks);
-      position = at + describe at (start (decode bs)) (decode bs .blocks) .size;
-    })
-    (record { number = 1; block = nothing; position = at })
+    (past at (describe at (start (decode bs)) (decode bs .blocks)))
+    (walked 1 0 0 0 at)

@@ -1,0 +1,148 @@
+-- What a zone and a ledger are both made of: relocatable blocks by handle and data, fixed blocks by place and data, and beside the bays
+-- the lengths and the free handles. B is what is kept of a bay.
+use mathlib.Core.Bool.{Bool, cond}
+use mathlib.Core.Option.{Option, none, some, Option·getD}
+use mathlib.Core.List.{List, [], _∷_, _++_}
+use Prim.Native.Nat.{ℕ, zero, suc, _+_, _-_}
+use lib.ListN.{length, getD, take, drop, replicate}
+use lib.Dec.{eqb, leb}
+use Rattle.block_type.specs.Limits.{fixedHeader, relocHeader, masterSize, up4}
+use Rattle.calls.specs.Calls.{Target, by-handle, by-pointer, Card, Answer, told}
+use Rattle.calls.specs.Bays.{Bays, last, more, over, findS, findF, maxS, sumS}
+
+-- ---- relocatable blocks
+
+pub record Item : Type 0 where
+  pub handle : ℕ
+  pub bytes : List ℕ
+
+-- "for each handle, 4 plus data size"
+abbrev pub itemSize : Item → ℕ
+itemSize e = relocHeader + length (e .bytes)
+
+-- the bytes that they take
+abbrev pub total : List Item → ℕ
+total [] = 0
+total (e ∷ es) = itemSize e + total es
+
+-- whether an item has the handle h
+abbrev pub is : ℕ → Item → Bool
+is h e = eqb h (e .handle)
+
+abbrev pub get : ℕ → List Item → Option Item
+get h [] = none
+get h (e ∷ es) = cond (is h e) (some e) (get h es)
+
+-- the item with its bytes changed by f, where it has the handle h
+abbrev pub alter : ℕ → (List ℕ → List ℕ) → Item → Item
+alter h f e = cond (is h e) (record { handle = e .handle; bytes = f (e .bytes) }) e
+
+-- "Data are zero"
+abbrev pub newItem : ℕ → ℕ → Item
+newItem h c = record { handle = h; bytes = replicate (up4 c) 0 }
+
+-- resize: "the common first bytes stay, added bytes are zero"
+abbrev pub sized : ℕ → List ℕ → List ℕ
+sized a l = take a l ++ replicate (a - length l) 0
+
+abbrev pub card : Item → Card
+card e = record { handle = e .handle; amount = length (e .bytes) }
+
+-- n handles: h, h + 4 and so on
+abbrev pub handlesFrom : ℕ → ℕ → List ℕ
+handlesFrom h zero = []
+handlesFrom h (suc n) = h ∷ handlesFrom (h + masterSize) n
+
+-- the first of them (0 for none), and the others
+abbrev pub top : List ℕ → ℕ
+top hs = getD hs 0 0
+
+abbrev pub rest : List ℕ → List ℕ
+rest hs = drop 1 hs
+
+-- ---- fixed blocks
+
+pub record Fixed : Type 0 where
+  pub place : ℕ
+  pub bytes : List ℕ
+
+abbrev pub fsize : Fixed → ℕ
+fsize x = fixedHeader + length (x .bytes)
+
+-- "Answers the data offset, its pointer"; "A pointer is a fixed block's place plus 2"
+abbrev pub pointer : Fixed → ℕ
+pointer x = x .place + fixedHeader
+
+-- "a fixed block's place is the bay's end less its size": of n bytes, before `end`
+abbrev pub newFixed : ℕ → ℕ → Fixed
+newFixed n end = record { place = end - n; bytes = replicate (n - fixedHeader) 0 }
+
+-- the fixed block with its bytes changed by f, where it has the pointer p
+abbrev pub alterFixed : ℕ → (List ℕ → List ℕ) → Fixed → Fixed
+alterFixed p f x = cond (eqb p (pointer x)) (record { place = x .place; bytes = f (x .bytes) }) x
+
+-- ---- a state, and what a call makes of it
+
+pub record State (B : Type 0) : Type 0 where
+  -- the buffer's length, and L
+  pub buf : ℕ
+  pub len : ℕ
+  -- the free handles: the chain from its head on, the stack from its top on
+  pub chain : List ℕ
+  pub bays : Bays B Fixed
+
+-- what a call answers, and the state after it
+pub record Out (B : Type 0) : Type 0 where
+  pub answer : Answer
+  pub next : State B
+
+module _ {B : Type 0} where
+  abbrev pub says : Answer → State B → Out B
+  says a s = record { answer = a; next = s }
+
+  -- with one value
+  abbrev pub done : ℕ → State B → Out B
+  done v s = says (told 0 v) s
+
+  abbrev pub withBays : Bays B Fixed → State B → State B
+  withBays b s = record { buf = s .buf; len = s .len; chain = s .chain; bays = b }
+
+  -- ---- fixed blocks come and go
+
+  -- in the highest bay whose sum μ reaches n (the first, where none does), a new fixed block of n bytes: that bay changed by f, the block, the
+  -- bay e; `end` is where the last bay ends
+  abbrev pub cutHigh : (B → ℕ) → (B → B) → B → ℕ → ℕ → Bays B Fixed → Fixed × Bays B Fixed
+  cutHigh μ f e n end (last b) = (newFixed n end, more (f b) (newFixed n end) (last e))
+  cutHigh μ f e n end (more b x s) =
+      cond (leb n (maxS μ s))
+      (cutHigh μ f e n end s .0, more b x (cutHigh μ f e n end s .1))
+      (newFixed n (x .place), more (f b) (newFixed n (x .place)) (more e x s))
+
+  -- the bay b, the freed bytes of x and the first bay after those are one bay, by j
+  abbrev pub joinOver : (B → ℕ → B → B) → B → Fixed → Bays B Fixed → Bays B Fixed
+  joinOver j b x (last c) = last (j b (fsize x) c)
+  joinOver j b x (more c y s) = more (j b (fsize x) c) y s
+
+  -- the fixed block of pointer p is freed, where there is one
+  abbrev pub joinAt : (B → ℕ → B → B) → ℕ → Bays B Fixed → Bays B Fixed
+  joinAt j p (last b) = last b
+  joinAt j p (more b x s) = cond (eqb p (pointer x)) (joinOver j b x s) (more b x (joinAt j p s))
+
+-- ---- what is in the bays; `all` are a bay's relocatable blocks, μ is its sum
+
+module _ {B : Type 0} (all : B → List Item) where
+  -- the data of the block that a stretch names
+  abbrev pub content : Target → Bays B Fixed → Option (List ℕ)
+  content (by-handle h) s = over (λ (e : Item). e .bytes) (findS (λ b. get h (all b)) s)
+  content (by-pointer p) s = over (λ (x : Fixed). x .bytes) (findF (λ (x : Fixed). eqb p (pointer x)) s)
+
+  -- [] where there is none
+  abbrev pub dataOf : Target → State B → List ℕ
+  dataOf t s = Option·getD (content t (s .bays)) []
+
+  -- the sum of the bay that has the handle; 0 where none has it
+  abbrev pub ownSum : (B → ℕ) → ℕ → Bays B Fixed → ℕ
+  ownSum μ h s = Option·getD (findS (λ b. over (λ (e : Item). μ b) (get h (all b))) s) 0
+
+  abbrev pub liveCount : State B → ℕ
+  liveCount s = sumS (λ b. length (all b)) (s .bays)

@@ -1,0 +1,112 @@
+-- A bay of a zone and a bay of the ledger that are one: the size is the capacity, and the relocatable blocks are the entries up to order.
+-- Each change of a bay that a call makes keeps it.
+use mathlib.Core.Path.{_≡_, refl, ap, ap₂, _∙_, sym}
+use mathlib.Core.Bool.{Bool, true, false, cond}
+use mathlib.Core.Option.{Option, none, some}
+use mathlib.Core.List.{List, [], _∷_, _++_, map, List·Permᴰ, List·Permᴰ·nil, List·Permᴰ·cons, List·Permᴰ·trans, Permᴰ·append-left, Permᴰ·append-right, Permᴰ·append-nil}
+use Prim.Native.Nat.{ℕ, suc, _+_, _-_, _%_, _≤_}
+use native.Mathlib.Omega.{arith}
+use lib.ListN.{length}
+use Rattle.calls.specs.State.{Item, is, itemSize, total, alter, get, sized, Fixed, fsize}
+use Rattle.ledger.specs.Ledger.{Bay, bay, sumOf, onEntries, without, less}
+use Rattle.ledger.proofs.Space.{countIn}
+use Rattle.zone.specs.Bay.{Cell, baySize, baySum, items, gap, joinBays, compactBay, put, takeHigh, release, edit, reshape}
+use Rattle.zone.specs.Counted.{count, remove}
+use Rattle.zone.specs.Search.{own}
+use Rattle.zone.proofs.BayLaws.{bsize-split, bsize-gap, items-gap, bsize-weld, items-weld, put-keeps, tidy-size, tidy-items, cut-less, release-size, release-items, edit-size, edit-items, perm-total, perm-map, perm-remove, perm-count, perm-get}
+use Rattle.zone.proofs.Resize.{reshape-sound}
+use Rattle.zone.proofs.Own.{own-shaped}
+use Rattle.zone.proofs.Sound.{Block, Sound, s-nil, gap-sound, put-sound, release-sound, edit-sound, cut-sound, weld-sound, tidy-sound}
+
+pub record Fits (b : List Cell) (c : Bay) : Type 0 where
+  pub size : baySize b ≡ c .capacity
+  pub perm : List·Permᴰ (items b) (c .entries)
+  pub sound : Sound b
+
+-- the same fixed block, of a block's size
+pub record Equal (x y : Fixed) : Type 0 where
+  pub equal : x ≡ y
+  pub block : Block (fsize x)
+
+-- ---- what the ledger says of entries is what the zone's laws say of items
+
+pub without-is : (h : ℕ) (es : List Item) → without h es ≡ remove h es
+without-is h [] = refl
+without-is h (e ∷ es) = ap₂ (cond (is h e)) (without-is h es) (ap (e ∷_) (without-is h es))
+
+pub count-is : (h : ℕ) (es : List Item) → countIn h es ≡ count h es
+count-is h [] = refl
+count-is h (e ∷ es) = ap₂ (cond (is h e)) (ap suc (count-is h es)) (count-is h es)
+
+-- ---- one bay
+
+module _ {b : List Cell} {c : Bay} (r : Fits b c) where
+  pub same-sum : baySum b ≡ sumOf c
+  same-sum = omega (arith, bsize-split b, perm-total (r .perm), r .size)
+
+  pub same-get : (h : ℕ) → count h (items b) ≤ 1 → get h (items b) ≡ get h (c .entries)
+  same-get h n = perm-get h (r .perm) n
+
+  pub same-count : (h : ℕ) → countIn h (c .entries) ≡ count h (items b)
+  same-count h = count-is h (c .entries) ∙ sym (perm-count h (r .perm))
+
+  pub put-fits : (e : Item) → Block (itemSize e) → itemSize e ≤ baySum b → Fits (put e b) (onEntries (e ∷_) c)
+  put-fits e k h = record {
+    size = put-keeps e b h .size ∙ r .size;
+    perm = List·Permᴰ·trans (put-keeps e b h .perm) (List·Permᴰ·cons refl (r .perm));
+    sound = put-sound e k h (r .sound);
+  }
+
+  pub release-fits : (h : ℕ) → Fits (release h b) (onEntries (without h) c)
+  release-fits h = record {
+    size = release-size h b ∙ r .size;
+    perm = rw (release-items h b, without-is h (c .entries)) (perm-remove h (r .perm));
+    sound = release-sound h (r .sound);
+  }
+
+  pub edit-fits : (h : ℕ) (f : List ℕ → List ℕ) → ((l : List ℕ) → length (f l) ≡ length l) → Fits (edit h f b) (onEntries (map (alter h f)) c)
+  edit-fits h f q = record { size = edit-size h f q b ∙ r .size; perm = rw edit-items (perm-map (alter h f) (r .perm)); sound = edit-sound h f q (r .sound) }
+
+  pub reshape-fits : (h a : ℕ) → a % 4 ≡ 0 → own h a b ≡ true → Fits (reshape h a b) (onEntries (map (alter h (sized a))) c)
+  reshape-fits h a q t =
+      let k = own-shaped h a b t in
+      record { size = k .size ∙ r .size; perm = rw (k .same) (perm-map (alter h (sized a)) (r .perm)); sound = reshape-sound h a q (r .sound) }
+
+  -- a bay that has not the handle
+  pub absent-fits : (h : ℕ) (f : List ℕ → List ℕ) → count h (items b) ≡ 0 → Fits b (onEntries (map (alter h f)) c)
+  absent-fits h f n = record { size = r .size; perm = rw (untouched (c .entries) (same-count h ∙ n)) (r .perm); sound = r .sound }
+    where
+      untouched : (es : List Item) → countIn h es ≡ 0 → map (alter h f) es ≡ es
+      untouched [] n = refl
+      untouched (e ∷ es) n = go (is h e) (λ k. untouched es k) n
+        where
+          go : (t : Bool) → (countIn h es ≡ 0 → map (alter h f) es ≡ es) → cond t (suc (countIn h es)) (countIn h es) ≡ 0
+              → cond t (record { handle = e .handle; bytes = f (e .bytes) }) e ∷ map (alter h f) es ≡ e ∷ es
+          go true g n = absurd (omega arith)
+          go false g n = ap (e ∷_) (g n)
+
+  pub high-fits : (n : ℕ) → n % 4 ≡ 0 → n ≤ baySum b → Fits (takeHigh n b) (less n c)
+  high-fits n q h = record { size = omega (arith, cut-less n b h .size, r .size); perm = rw (cut-less n b h .same) (r .perm); sound = cut-sound n q h (r .sound) }
+
+  pub compact-fits : Fits (compactBay b) c
+  compact-fits = record { size = tidy-size b ∙ r .size; perm = rw tidy-items (r .perm); sound = tidy-sound (r .sound) }
+
+  pub grow-fits : (n : ℕ) → n % 4 ≡ 0 → Fits (joinBays b (gap n [])) (bay (c .capacity + n) (c .entries))
+  grow-fits n q = record {
+    size = omega (arith, bsize-weld b (gap n []), bsize-gap n [], r .size);
+    perm = rw (items-weld, items-gap) (List·Permᴰ·trans (Permᴰ·append-nil (items b)) (r .perm));
+    sound = weld-sound (r .sound) (gap-sound n q s-nil);
+  }
+
+pub fresh-fits : (n : ℕ) → n % 4 ≡ 0 → Fits (gap n []) (bay n [])
+fresh-fits n q = record { size = omega (arith, bsize-gap n []); perm = rw (items-gap n []) List·Permᴰ·nil; sound = gap-sound n q s-nil }
+
+perm-append : {a b c d : List Item} → List·Permᴰ a b → List·Permᴰ c d → List·Permᴰ (a ++ c) (b ++ d)
+perm-append {b = b} {c = c} p q = List·Permᴰ·trans (Permᴰ·append-right c p) (Permᴰ·append-left b q)
+
+pub join-fits : (n : ℕ) → n % 4 ≡ 0 → {b b′ : List Cell} {c c′ : Bay} → Fits b c → Fits b′ c′ → Fits (joinBays b (gap n b′)) (bay (c .capacity + n + c′ .capacity) (c .entries ++ c′ .entries))
+join-fits n q {b} {b′} r r′ = record {
+  size = omega (arith, bsize-weld b (gap n b′), bsize-gap n b′, r .size, r′ .size);
+  perm = rw (items-weld, items-gap) (perm-append (r .perm) (r′ .perm));
+  sound = weld-sound (r .sound) (gap-sound n q (r′ .sound));
+}

@@ -1,0 +1,85 @@
+-- A zone and a ledger that are one, and what the table asks of them: the same facts.
+use mathlib.Core.Path.{_≡_, refl, ap, ap₂, sym, _∙_}
+use mathlib.Core.Bool.{Bool, true, cond}
+use mathlib.Core.Option.{Option, Option·getD}
+use mathlib.Core.List.{List, map, List·Permᴰ}
+use Prim.Native.Nat.{ℕ, _+_, _≤_, max}
+use native.Mathlib.Omega.{arith}
+use lib.ListN.{length}
+use lib.Dec.{eqb}
+use Rattle.calls.specs.Calls.{Target, by-handle, by-pointer, Card}
+use Rattle.calls.specs.Bays.{Bays, last, more, over, orElse, findS, findF, sumS, maxS, concatS}
+use Rattle.calls.specs.State.{Item, get, card, Fixed, pointer, State, content, ownSum, liveCount}
+use Rattle.ledger.specs.Ledger.{Bay, Ledger, entriesOf, sumOf}
+use Rattle.ledger.specs.Ledger as Book
+use Rattle.ledger.proofs.Space.{liveIn}
+use Rattle.zone.specs.Bay.{Cell, items, baySum}
+use Rattle.zone.specs.Counted.{count, live}
+use Rattle.zone.specs.Work as Work
+use Rattle.zone.specs.Work.{Zone}
+use Rattle.zone.proofs.BayLaws.{perm-length, perm-map}
+use Rattle.zone.proofs.BaysLaws.{Like, like-last, like-more, maxS-like, sumS-like, concatS-like}
+use Rattle.zone.proofs.Fits.{Fits, Equal, same-sum, same-get, same-count}
+
+abbrev pub Paired : Bays (List Cell) Fixed → Bays Bay Fixed → Type 0
+Paired s t = Like Fits Equal s t
+
+-- all but the bays is shared
+pub data Matches : Zone → Ledger → Type 0 where
+  matches : {buf len : ℕ} {chain : List ℕ} {s : Bays (List Cell) Fixed} {t : Bays Bay Fixed} → Paired s t
+      → Matches (record { buf = buf; len = len; chain = chain; bays = s }) (record { buf = buf; len = len; chain = chain; bays = t })
+
+-- ---- what is found, where no handle stands twice
+
+find-same : (h : ℕ) {s : Bays (List Cell) Fixed} {t : Bays Bay Fixed} → Paired s t → live h s ≤ 1 → findS (λ (b : List Cell). get h (items b)) s ≡ findS (λ (c : Bay). get h (c .entries)) t
+find-same h (like-last r) n = same-get r h n
+find-same h (like-more r q l) n = ap₂ orElse (same-get r h (omega arith)) (find-same h l (omega arith))
+
+own-same : (h : ℕ) {s : Bays (List Cell) Fixed} {t : Bays Bay Fixed} → Paired s t → live h s ≤ 1
+    → findS (λ (b : List Cell). over (λ (e : Item). baySum b) (get h (items b))) s ≡ findS (λ (c : Bay). over (λ (e : Item). sumOf c) (get h (c .entries))) t
+own-same h (like-last r) n = ap₂ (λ (k : ℕ) (o : Option Item). over (λ (e : Item). k) o) (same-sum r) (same-get r h n)
+own-same h (like-more r q l) n = ap₂ orElse (ap₂ (λ (k : ℕ) (o : Option Item). over (λ (e : Item). k) o) (same-sum r) (same-get r h (omega arith))) (own-same h l (omega arith))
+
+pub fixed-same : (p : ℕ) {s : Bays (List Cell) Fixed} {t : Bays Bay Fixed} → Paired s t → findF (λ (x : Fixed). eqb p (pointer x)) s ≡ findF (λ (x : Fixed). eqb p (pointer x)) t
+fixed-same p (like-last r) = refl
+fixed-same p (like-more r q l) = ap₂ (λ (x : Fixed) (o : Option Fixed). cond (eqb p (pointer x)) (Option.some x) o) (q .equal) (fixed-same p l)
+
+module _ {s : Bays (List Cell) Fixed} {t : Bays Bay Fixed} (l : Paired s t) where
+  pub largest-same : maxS baySum s ≡ maxS sumOf t
+  largest-same = maxS-like Fits Equal baySum sumOf (λ b c r. same-sum r) l
+
+  pub total-same : sumS baySum s ≡ sumS sumOf t
+  total-same = sumS-like Fits Equal baySum sumOf (λ b c r. same-sum r) l
+
+  pub count-same : sumS (λ (b : List Cell). length (items b)) s ≡ sumS (λ (c : Bay). length (c .entries)) t
+  count-same = sumS-like Fits Equal (λ (b : List Cell). length (items b)) (λ (c : Bay). length (c .entries)) (λ b c r. perm-length (r .perm)) l
+
+  pub cards-same : List·Permᴰ (concatS (λ (b : List Cell). map card (items b)) s) (concatS (λ (c : Bay). map card (c .entries)) t)
+  cards-same = concatS-like Fits Equal (λ (b : List Cell). map card (items b)) (λ (c : Bay). map card (c .entries)) (λ b c r. perm-map card (r .perm)) l
+
+  pub live-same : (h : ℕ) → liveIn h t ≡ live h s
+  live-same h = sym (sumS-like Fits Equal (λ (b : List Cell). count h (items b)) (λ (c : Bay). _) (λ b c r. sym (same-count r h)) l)
+
+  module _ (o : (h : ℕ) → live h s ≤ 1) where
+    pub content-same : (k : Target) → content items k s ≡ content entriesOf k t
+    content-same (by-handle h) = ap (over (λ (e : Item). e .bytes)) (find-same h l (o h))
+    content-same (by-pointer p) = ap (over (λ (x : Fixed). x .bytes)) (fixed-same p l)
+
+    pub handle-same : (h : ℕ) → findS (λ (b : List Cell). get h (items b)) s ≡ findS (λ (c : Bay). get h (c .entries)) t
+    handle-same h = find-same h l (o h)
+
+    pub own-sum-same : (h : ℕ) → ownSum items baySum h s ≡ ownSum entriesOf sumOf h t
+    own-sum-same h = ap (λ (k : Option ℕ). Option·getD k 0) (own-same h l (o h))
+
+-- THE SAME FACTS
+pub facts-same : {z : Zone} {l : Ledger} → ((h : ℕ) → live h (z .bays) ≤ 1) → Matches z l → Work.facts true z ≡ Book.facts l
+facts-same o (matches {buf = buf} {len = len} {chain = chain} k) = λ i. record {
+  well = true;
+  buf = buf;
+  len = len;
+  handles = chain;
+  size = λ t. over length (content-same k o t i);
+  largest = largest-same k i;
+  own = λ h. own-sum-same k o h i;
+  live = count-same k i;
+}

@@ -1,0 +1,224 @@
+-- A call that nothing refuses does the same work on a zone and on the ledger that is one with it: alike answers, and again one.
+use mathlib.Core.Path.{_≡_, refl, ap, ap₂, sym, _∙_, subst}
+use mathlib.Core.Bool.{Bool, true, false, cond, _&&_, not, true≢false}
+use mathlib.Core.Option.{Option, none, some, Option·getD}
+use mathlib.Core.List.{List, [], _∷_, _++_, map, Permᴰ·refl}
+use Prim.Native.Nat.{ℕ, zero, suc, _+_, _-_, _*_, _/_, _%_, _≤_, min}
+use native.Mathlib.Omega.{arith}
+use lib.ListN.{length, take, drop, length-replicate}
+use lib.Seq.{sets, length-sets}
+use lib.Dec.{leb, eqb, eqb·suc-zero}
+use borrow.Author.Tests.{leb-true, leb-false, eqb-true, lt-leb, not-false}
+use Rattle.block_type.specs.Limits.{relocHeader, fixedHeader, up4, relocNeed, fixedNeed, recordSize, longestZone}
+use Rattle.calls.specs.Calls.{Target, by-handle, by-pointer, Call, allocate-relocatable, allocate-fixed, free-handle, free-pointer, read, write, size, compact, sums, enlarge, shrink, view, roster, check, length-of, resize, Answer, told, toldTwo, shows, lists}
+use Rattle.calls.specs.Bays.{Bays, last, more, over, orElse, onLowest, mapS, onLast, findS, findF, lastS, maxS}
+use Rattle.calls.specs.State.{Item, itemSize, get, is, newItem, sized, alter, Fixed, fsize, pointer, newFixed, alterFixed, State, Out, dataOf, ownSum, top, rest}
+use Rattle.calls.specs.Table.{below, isNone, isEmpty, refusalOf, causes, holdsIn, order}
+use Rattle.calls.proofs.First.{among, clear, or-left}
+use Rattle.ledger.specs.Ledger as Book
+use Rattle.ledger.specs.Ledger.{Bay, Ledger, bay, sumOf, entriesOf, onEntries, without, less}
+use Rattle.zone.specs.Bay.{Cell, baySum, items, gap, joinBays, put, takeHigh, release, compactBay, edit, reshape}
+use Rattle.zone.specs.Counted.{count, live, roomFor}
+use Rattle.zone.specs.PickBays.{onLow}
+use Rattle.zone.specs.Search.{own}
+use Rattle.zone.specs.Work as Work
+use Rattle.zone.specs.Work.{Zone, has}
+use Rattle.zone.specs.Promise.{Alike}
+use Rattle.zone.proofs.Walk.{or-parts}
+use Rattle.zone.proofs.BaysLaws.{Both, absent, present, Like, like-last, like-more, onLow-like, onHigh-like, onJoin-like, mapS-like, onFixed-like, onLast-like, lastS-like}
+use Rattle.zone.proofs.Sound.{Block, sum-by4}
+use Rattle.zone.proofs.Places.{alter-fsize}
+use Rattle.zone.proofs.Resize.{length-sized, resized-block}
+use Rattle.zone.proofs.Solid.{new-block, new-sized}
+use Rattle.zone.proofs.Found.{Found, lost, got, low-found, high-found, join-found, count-get, often, max-same, Named, unnamed, named, block-named}
+use Rattle.zone.proofs.Fits.{Fits, Equal, same-sum, put-fits, release-fits, edit-fits, reshape-fits, absent-fits, high-fits, compact-fits, grow-fits, fresh-fits, join-fits}
+use Rattle.zone.proofs.Matches.{Paired, Matches, matches, fixed-same, largest-same, total-same, count-same, cards-same, content-same, handle-same, own-sum-same}
+
+-- ---- where two searches find what the table lets through
+
+both-got : {A B : Type 0} {R : A → B → Type 0} {a : A} {b : B} {t u : Bool} {o : Option A} {p : Option B} → Found a t o → t ≡ false → Found b u p → Both R o p → R a b
+both-got lost e g q = absurd (true≢false e)
+both-got got e got (present r) = r
+
+not-below : (a n : ℕ) → below a n ≡ false → n ≤ a
+not-below a n e = leb-true n a (not-false (leb n a) e)
+
+module _ {s : Bays (List Cell) Fixed} {t : Bays Bay Fixed} (l : Paired s t) where
+  -- a block comes into the lowest bay whose sum reaches n
+  low-same : (e : Item) (n : ℕ) → Block (itemSize e) → itemSize e ≡ n → below (maxS baySum s) n ≡ false → Paired (Work.placeLow e s) (Book.enter n e t)
+  low-same e n k q m =
+      rw (← q)
+      (both-got (low-found baySum (itemSize e) (put e) s) (rw q m) (low-found sumOf (itemSize e) (onEntries (e ∷_)) t)
+      (onLow-like Fits Equal (λ b. leb (itemSize e) (baySum b)) (λ c. leb (itemSize e) (sumOf c)) (λ b c r. ap (leb (itemSize e)) (same-sum r))
+      (put e) (onEntries (e ∷_)) (λ b c r h. put-fits r e k (leb-true (itemSize e) (baySum b) h)) l))
+
+  -- a fixed block comes into the highest
+  high-same : (n end : ℕ) → Block n → below (maxS baySum s) n ≡ false
+      → (Work.placeHigh n end s .0 ≡ Book.highest n end t .0) × Paired (Work.placeHigh n end s .1) (Book.highest n end t .1)
+  high-same n end k m =
+      let r = both-got (high-found baySum (takeHigh n) [] n end s) m (high-found sumOf (less n) (bay 0 []) n end t)
+      (onHigh-like Fits Equal (λ b. leb n (baySum b)) (λ c. leb n (sumOf c)) (λ b c r. ap (leb n) (same-sum r))
+      (takeHigh n) (less n) (λ b c r h. high-fits r n (k .by4) (leb-true n (baySum b) h))
+      (newFixed n) (newFixed n) (λ end. record { equal = refl; block = new-sized n end k .block }) [] (bay 0 []) (fresh-fits 0 refl)
+      (λ (x : Fixed). x .place) (λ (x : Fixed). x .place) (λ x y q. ap (λ (x : Fixed). x .place) (q .equal)) end l) in
+      (r .0 .equal, r .1)
+
+  -- a fixed block goes
+  join-same : (p : ℕ) → isNone (over (λ (x : Fixed). x .bytes) (findF (λ (x : Fixed). eqb p (pointer x)) s)) ≡ false → Paired (Work.freePointer p s) (Book.strike p t)
+  join-same p m =
+      both-got (join-found (λ b n c. joinBays b (gap n c)) p s) m (join-found (λ b n c. bay (b .capacity + n + c .capacity) (b .entries ++ c .entries)) p t)
+      (onJoin-like Fits Equal (λ (b : List Cell) (x : Fixed) (c : List Cell). joinBays b (gap (fsize x) c)) (λ (b : Bay) (x : Fixed) (c : Bay). bay (b .capacity + fsize x + c .capacity) (b .entries ++ c .entries))
+      (λ b b′ c c′ x y r r′ q. rw (← q .equal) (join-fits (fsize x) (q .block .by4) r r′))
+      (λ (x : Fixed). eqb p (pointer x)) (λ (x : Fixed). eqb p (pointer x)) (λ x y q. ap (λ (x : Fixed). eqb p (pointer x)) (q .equal)) l)
+
+  release-same : (h : ℕ) → Paired (mapS (release h) s) (mapS (onEntries (without h)) t)
+  release-same h = mapS-like Fits Equal (release h) (onEntries (without h)) (λ b c r. release-fits r h) l
+
+  rewrite-same : (k : Target) (f : List ℕ → List ℕ) → ((w : List ℕ) → length (f w) ≡ length w) → Paired (Work.rewrite k f s) (Book.change k f t)
+  rewrite-same (by-handle h) f q = mapS-like Fits Equal (edit h f) (onEntries (map (alter h f))) (λ b c r. edit-fits r h f q) l
+  rewrite-same (by-pointer p) f q =
+      onFixed-like Fits Equal (alterFixed p f) (alterFixed p f) (λ x y k. record { equal = ap (alterFixed p f) (k .equal); block = rw (alter-fsize p f q x) (k .block) }) l
+
+compacted : {s : Bays (List Cell) Fixed} {t : Bays Bay Fixed} → Paired s t → Paired (mapS compactBay s) t
+compacted (like-last r) = like-last (compact-fits r)
+compacted (like-more r q l) = like-more (compact-fits r) q (compacted l)
+
+-- ---- a resize in the own bay
+
+absent-same : (h : ℕ) (f : List ℕ → List ℕ) {s : Bays (List Cell) Fixed} {t : Bays Bay Fixed} → Paired s t → live h s ≡ 0 → Paired s (mapS (onEntries (map (alter h f))) t)
+absent-same h f (like-last r) n = like-last (absent-fits r h f n)
+absent-same h f (like-more r q l) n = like-more (absent-fits r h f (omega arith)) q (absent-same h f l (omega arith))
+
+-- the bay has the handle once, and its sum reaches a − b
+own-of : (h a : ℕ) (b : List Cell) (e : Item) → count h (items b) ≤ 1 → get h (items b) ≡ some e → leb (a - length (e .bytes)) (baySum b) ≡ true → own h a b ≡ true
+own-of h a b e n q m =
+    let k : count h (items b) ≡ 1 = count-get h (items b) n ∙ ap often q in
+    rw (k, q) m
+
+own-same : (h a : ℕ) → a % 4 ≡ 0 → {s : Bays (List Cell) Fixed} {t : Bays Bay Fixed} → Paired s t → live h s ≤ 1 → (e : Item) → findS (λ (b : List Cell). get h (items b)) s ≡ some e
+    → leb (a - length (e .bytes)) (ownSum items baySum h s) ≡ true → Paired (onLowest (has h) (reshape h a) s) (mapS (onEntries (map (alter h (sized a)))) t)
+own-same h a q (like-last {b = b} r) n e g m = like-last (reshape-fits r h a q (own-of h a b e n g (rw g at m)))
+own-same h a q (like-more {b = b} {c = c} {x = x} {y = y} {s = s} {t = t} r k l) n e g m =
+    go (get h (items b)) refl (count-get h (items b) (omega arith)) g m (λ i j. own-same h a q l (omega arith) e i j)
+  where
+    go : (o : Option Item) → get h (items b) ≡ o → count h (items b) ≡ often o → orElse o (findS (λ (b : List Cell). get h (items b)) s) ≡ some e → leb (a - length (e .bytes)) (Option·getD (orElse (over (λ (i : Item). baySum b) o) (findS (λ (b : List Cell). over (λ (i : Item). baySum b) (get h (items b))) s)) 0) ≡ true
+        → (findS (λ (b : List Cell). get h (items b)) s ≡ some e → leb (a - length (e .bytes)) (ownSum items baySum h s) ≡ true → Paired (onLowest (has h) (reshape h a) s) (mapS (onEntries (map (alter h (sized a)))) t))
+        → Paired (cond (not (isNone o)) (more (reshape h a b) x s) (more b x (onLowest (has h) (reshape h a) s))) (more (onEntries (map (alter h (sized a))) c) y (mapS (onEntries (map (alter h (sized a)))) t))
+    go none p w g m f = like-more (absent-fits r h (sized a) w) k (f g m)
+    go (some i) p w g m f = like-more (reshape-fits r h a q (own-of h a b e (omega arith) (p ∙ g) m)) k (absent-same h (sized a) l (omega arith))
+
+resize-same : (h a : ℕ) (d : List ℕ) → a % 4 ≡ 0 → {s : Bays (List Cell) Fixed} {t : Bays Bay Fixed} → Paired s t → ((k : ℕ) → live k s ≤ 1)
+    → findS (λ (b : List Cell). get h (items b)) s ≡ some (record { handle = h; bytes = d })
+    → below (ownSum items baySum h s) (a - length d) && below (maxS baySum s) (relocHeader + a) ≡ false → Paired (Work.resizeIn h a d s) (Book.resizeIn h a d t)
+resize-same h a d q {s} {t} l o g m = rw (← own-sum-same l o h) (go (leb (a - length d) (ownSum items baySum h s)) refl m)
+  where
+    i : Item
+    i = record { handle = h; bytes = sized a d }
+
+    moved : leb (a - length d) (ownSum items baySum h s) ≡ false → below (maxS baySum s) (relocHeader + a) ≡ false → Paired (Work.placeLow i (mapS (release h) s)) (Book.enter (relocHeader + a) i (mapS (onEntries (without h)) t))
+    moved p m =
+        low-same (release-same l h) i (relocHeader + a) (resized-block a (record { handle = h; bytes = d }) q) (ap (relocHeader +_) (length-sized a d))
+        (max-same h a s (o h) (ap (roomFor a (ownSum items baySum h s)) g ∙ p) ∙ m)
+
+    go : (u : Bool) → leb (a - length d) (ownSum items baySum h s) ≡ u → not u && below (maxS baySum s) (relocHeader + a) ≡ false
+        → Paired (cond u (onLowest (has h) (reshape h a) s) (Work.placeLow i (mapS (release h) s))) (cond u (Book.change (by-handle h) (sized a) t) (Book.enter (relocHeader + a) i (mapS (onEntries (without h)) t)))
+    go true p m = own-same h a q l (o h) (record { handle = h; bytes = d }) g p
+    go false p m = moved p m
+
+-- ---- the calls
+
+pub record Same (o : Out (List Cell)) (p : Out Bay) : Type 0 where
+  pub answer : Alike (o .answer) (p .answer)
+  pub next : Matches (o .next) (p .next)
+
+equal : {a b : Answer} → a ≡ b → Alike a b
+equal e = record {
+  number = ap (λ (x : Answer). x .number) e;
+  value = ap (λ (x : Answer). x .value) e;
+  second = ap (λ (x : Answer). x .second) e;
+  bytes = ap (λ (x : Answer). x .bytes) e;
+  records = rw (← e) (Permᴰ·refl _);
+}
+
+-- the answer is the same, and the bays are paired
+told-same : {a b : Answer} {buf n : ℕ} {hs : List ℕ} {u : Bays (List Cell) Fixed} {v : Bays Bay Fixed} → a ≡ b → Paired u v
+    → Same (record { answer = a; next = record { buf = buf; len = n; chain = hs; bays = u } }) (record { answer = b; next = record { buf = buf; len = n; chain = hs; bays = v } })
+told-same e p = record { answer = equal e; next = matches p }
+
+module _ (buf len : ℕ) (chain : List ℕ) {s : Bays (List Cell) Fixed} {t : Bays Bay Fixed} (l : Paired s t) (o : (h : ℕ) → live h s ≤ 1) where
+  abbrev z : Zone
+  z = record { buf = buf; len = len; chain = chain; bays = s }
+
+  abbrev k : Ledger
+  k = record { buf = buf; len = len; chain = chain; bays = t }
+
+  data-same : (q : Target) → dataOf items q z ≡ dataOf entriesOf q k
+  data-same q = ap (λ (x : Option (List ℕ)). Option·getD x []) (content-same l o q)
+
+  allocate-same : (c : ℕ) → below (maxS baySum s) (relocNeed c) ≡ false → Same (Work.allocate c z) (Book.allocate c k)
+  allocate-same c m = told-same refl (low-same l (newItem (top chain) c) (relocNeed c) (new-block (top chain) c) (omega (arith, length-replicate {A = ℕ} (up4 c) 0)) m)
+
+  fixed-same′ : (c : ℕ) → below (maxS baySum s) (fixedNeed c) ≡ false → Same (Work.allocateFixed c z) (Book.allocateFixed c k)
+  fixed-same′ c m = let r = high-same l (fixedNeed c) len (omega arith) m in told-same (ap (λ (x : Fixed). told 0 (pointer x)) (r .0)) (r .1)
+
+  resized-same : (h c : ℕ) → isNone (over length (over (λ (e : Item). e .bytes) (findS (λ (b : List Cell). get h (items b)) s))) ≡ false
+      → below (ownSum items baySum h s) (up4 c - Option·getD (over length (over (λ (e : Item). e .bytes) (findS (λ (b : List Cell). get h (items b)) s))) 0) && below (maxS baySum s) (relocHeader + up4 c) ≡ false
+      → Same (Work.work (resize h c) z) (Book.work (resize h c) k)
+  resized-same h c e m = told-same refl (rw (← data-same (by-handle h)) (go (findS (λ (b : List Cell). get h (items b)) s) refl (block-named h s) e m))
+    where
+      go : (i : Option Item) → findS (λ (b : List Cell). get h (items b)) s ≡ i → Named h i → isNone (over length (over (λ (e : Item). e .bytes) i)) ≡ false
+          → below (ownSum items baySum h s) (up4 c - Option·getD (over length (over (λ (e : Item). e .bytes) i)) 0) && below (maxS baySum s) (relocHeader + up4 c) ≡ false
+          → Paired (Work.resizeIn h (up4 c) (Option·getD (over (λ (e : Item). e .bytes) i) []) s) (Book.resizeIn h (up4 c) (Option·getD (over (λ (e : Item). e .bytes) i) []) t)
+      go none g unnamed e m = absurd (true≢false e)
+      go (some i) g (named {d = d}) e m = resize-same h (up4 c) d (omega arith) l o g m
+
+  strip-same : (n : ℕ) → n % 4 ≡ 0 → n ≤ baySum (lastS s) → Same (Work.strip n z) (Book.strip n k)
+  strip-same zero q m = record { answer = equal refl; next = rw (none-off, last-same t) (matches l) }
+    where
+      none-off : len - 0 ≡ len
+      none-off = omega arith
+
+      last-same : (v : Bays Bay Fixed) → onLast (less 0) v ≡ v
+      last-same (last b) = ap (λ (n : ℕ). last (bay n (b .entries))) (omega arith)
+      last-same (more b x v) = ap (more b x) (last-same v)
+  strip-same (suc n) q m = rw (eqb·suc-zero n) (told-same refl (onLast-like Fits Equal (takeHigh (suc n)) (less (suc n)) l (high-fits (lastS-like Fits Equal l) (suc n) q m)))
+
+-- the table's cause of number n does not hold
+abbrev passed : (c : Call) (z : Zone) → refusalOf c (Work.facts true z) ≡ 0 → (n : ℕ) → among n order ≡ true → holdsIn n (causes c (Work.facts true z)) ≡ false
+passed c z e n m = clear (causes c (Work.facts true z)) n m e
+
+shown : {A : Type 0} (f : A → List ℕ) (o : Option A) → isNone (over length (over f o)) ≡ false → isNone (over f o) ≡ false
+shown f none e = e
+shown f (some a) e = refl
+
+-- EVERY CALL that nothing refuses
+pub work-same : (c : Call) {z : Zone} {k : Ledger} → ((h : ℕ) → live h (z .bays) ≤ 1) → refusalOf c (Work.facts true z) ≡ 0 → Matches z k → Same (Work.work c z) (Book.work c k)
+work-same (allocate-relocatable c) {z} o e (matches {buf = x} {len = y} {chain = w} l) = allocate-same x y w l o c (or-left _ _ (passed (allocate-relocatable c) z e 5 refl))
+work-same (allocate-fixed c) {z} o e (matches {buf = x} {len = y} {chain = w} l) = fixed-same′ x y w l o c (or-left _ _ (passed (allocate-fixed c) z e 5 refl))
+work-same (free-handle h) o e (matches {buf = x} {len = y} {chain = w} l) = told-same refl (release-same l h)
+work-same (free-pointer p) {z} o e (matches {buf = x} {len = y} {chain = w} l) = told-same refl (join-same l p (shown (λ (x : Fixed). x .bytes) (findF (λ (x : Fixed). eqb p (pointer x)) (z .bays)) (or-left _ _ (passed (free-pointer p) z e 7 refl))))
+work-same (resize h c) {z} o e (matches {buf = x} {len = y} {chain = w} l) = resized-same x y w l o h c (or-left _ _ (passed (resize h c) z e 6 refl)) (or-left _ _ (passed (resize h c) z e 5 refl))
+work-same (size t) o e (matches {buf = x} {len = y} {chain = w} l) = told-same (ap (λ (d : List ℕ). told 0 (length d)) (data-same x y w l o t)) l
+work-same (read t i n second) o e (matches {buf = x} {len = y} {chain = w} l) = told-same (ap (λ (d : List ℕ). shows 0 (take n (drop i d) ++ drop n second)) (data-same x y w l o t)) l
+work-same (write t i n second) o e (matches {buf = x} {len = y} {chain = w} l) = told-same refl (rewrite-same l t (λ (w : List ℕ). sets w i (take n second)) (λ w. length-sets w i (take n second)))
+work-same (view t i n) o e (matches {buf = x} {len = y} {chain = w} l) = told-same (ap (λ (d : List ℕ). shows 0 (take n (drop i d))) (data-same x y w l o t)) l
+work-same compact o e (matches {buf = x} {len = y} {chain = w} l) = told-same (ap (told 0) (largest-same l)) (compacted l)
+work-same sums o e (matches {buf = x} {len = y} {chain = w} l) = told-same (ap₂ (toldTwo 0) (total-same l) (largest-same l)) l
+work-same check o e (matches {buf = x} {len = y} {chain = w} l) = told-same (ap (toldTwo 0 1) (count-same l)) l
+work-same length-of o e (matches {buf = x} {len = y} {chain = w} l) = told-same refl l
+work-same (enlarge k) {z} o e (matches {buf = x} {len = y} {chain = w} l) =
+    let q = or-parts (eqb (k % 4) 0) (leb (z .len + k) (z .buf)) (leb (z .len + k) longestZone) (or-left _ _ (passed (enlarge k) z e 9 refl)) in
+    told-same refl (onLast-like Fits Equal _ _ l (grow-fits (lastS-like Fits Equal l) k (eqb-true (k % 4) 0 (q .0))))
+work-same (shrink j) o e (matches {buf = x} {len = y} {chain = w} {s = s} l) =
+    let r = lastS-like Fits Equal l in
+    rw (← same-sum r) (strip-same x y w l o (min (j / 4 * 4) (baySum (lastS s))) (omega (arith, sum-by4 (r .sound))) (omega arith))
+work-same (roster second) o e (matches {buf = x} {len = y} {chain = w} l) = record {
+  answer = record {
+    number = refl;
+    value = count-same l;
+    second = refl;
+    bytes = ap (λ (n : ℕ). drop (recordSize * n) second) (count-same l);
+    records = cards-same l;
+  };
+  next = matches l;
+}
