@@ -137,7 +137,7 @@ class Seals(Trial):
 
     def test_name_from_two_places(self):
         file, name, of = THEOREMS[0]
-        self.put(file, f"use Rattle.zone.specs.OnBays.{{{of}}}\n" + sources.read(self.root, file))
+        self.put(file, f"use Rattle.zone.specs.PickBays.{{{of}}}\n" + sources.read(self.root, file))
         self.noticed(seals, ["no theorem", name, of])
         self.change("crates/nafelode/src/lib.rt", r"^(?=ghost use Rattle)", "ghost use Rattle.zone.specs.Other.{InitPromise};\n")
         self.noticed(seals, ["seal differs", "contract nafelode::initialize"])
@@ -151,7 +151,7 @@ class Seals(Trial):
         for file, name, of in THEOREMS:
             if of in seals.statements(self.root):
                 self.change(file, rf"\b{of}(?=[,}}])", "other")
-                self.put(file, f"use Rattle.zone.specs.OnBays.{{{of}}}\n" + sources.read(self.root, file))
+                self.put(file, f"use Rattle.zone.specs.PickBays.{{{of}}}\n" + sources.read(self.root, file))
                 self.noticed(seals, ["no theorem", name, of, "which is not sealed"])
                 self.restore(file)
 

@@ -1,3 +1,4 @@
+pub mod Checked
 pub mod PlaceLaws
 pub mod PutLaws
 pub mod Size

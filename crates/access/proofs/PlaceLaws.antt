@@ -7,11 +7,13 @@ use native.Mathlib.Omega.{arith}
 use lib.Dec.{eqb}
 use borrow.Author.Tests.{ne-eqb}
 use lib.ListN.{length, drop}
+use Rattle.format.specs.Occurs.{occurs}
+use Rattle.block_type.specs.Limits.{masterSize}
 use Rattle.bigendian.specs.BigEndian.{fromBE, slice}
 use Rattle.format.specs.WellFormed.{firstField, mastersField, chainField, isMaster, masterAt, splitBlocks}
 use Rattle.format.proofs.Bool.{not-both}
 use Rattle.format.proofs.Masters.{is-master}
-use Rattle.format.proofs.Count.{occurs, all-at}
+use Rattle.format.proofs.Count.{all-at}
 use Rattle.format.proofs.Live.{handles, live-of, live-high, handles-high}
 use Rattle.structure.specs.Structure.{placeOf, decodeZone, decodeBlock}
 use Rattle.structure.proofs.Table.{Whole, places, start-is}
@@ -42,9 +44,6 @@ module _ (z : List ℕ) (i : IsZone z) (h : ℕ) where
       go zero e = sym (by-count ∙ (rw e))
       go (suc k) e = absurd (f (omega arith))
 
-  pub zone-long : 8 ≤ length z
-  zone-long = omega (arith, w .long)
-
   module _ (first : ℕ) (t : Bool) (ef : first ≡ firstField z) (et : t ≡ isMaster first h) where
     pub place-no : t ≡ false → _≡_ {A = ℕ} 0 place
     place-no q = dead (λ l.
@@ -60,5 +59,5 @@ module _ (z : List ℕ) (i : IsZone z) (h : ℕ) where
         let p = live-of z (firstField z) (mastersField z) (chainField z) (w .begin) (w .parts) h m (omega arith) in
         e ∙ sym (by-count ∙ (rw (ne-eqb n 0 (λ x. omega arith))))
 
-    pub handle-fits : t ≡ true → h + 4 ≤ length z
+    pub handle-fits : t ≡ true → h + masterSize ≤ length z
     handle-fits q = let m = is-master first h (sym et ∙ q) in omega (arith, w .within)

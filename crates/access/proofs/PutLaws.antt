@@ -8,8 +8,10 @@ use mir.Val.{Fits}
 use mir.Syntax.{w64}
 use lib.Dec.{eqb}
 use lib.ListN.{length}
+use Rattle.block_type.specs.Limits.{fixedHeader, relocHeader}
 use Rattle.bigendian.specs.BigEndian.{overwrite}
-use Rattle.structure.specs.Structure.{Block, free, fixed, reloc, start, sizes, placeOf, encode, decodeZone}
+use Rattle.structure.specs.Structure.{Block, fixed, start, sizes, placeOf, encode, decodeZone, cell}
+use Rattle.bay.specs.Bay.{free, held}
 use Rattle.structure.proofs.Table.{Whole, encode-zone, len-is}
 use Rattle.structure.proofs.Sound.{valid-zone}
 use Rattle.access.specs.Edit.{dataOf, store, placeIn, dataIn, IsZone}
@@ -19,13 +21,13 @@ use Rattle.access.proofs.Store.{store-bytes}
 pub data-fits : (h at : ℕ) (bs : List Block) → 0 < placeOf h at bs → placeOf h at bs + length (dataOf h bs) ≤ at + sizes bs
 unfolding placeOf sizes dataOf
 data-fits h at [] p = let x : ⊥ = omega arith in absurd x
-data-fits h at (free n ∷ bs) p = omega (arith, data-fits h (at + n) bs p)
-data-fits h at (fixed d ∷ bs) p = omega (arith, data-fits h (at + (2 + length d)) bs p)
-data-fits h at (reloc k d ∷ bs) p = go (eqb h k) p (data-fits h (at + (4 + length d)) bs)
+data-fits h at (cell (free n) ∷ bs) p = omega (arith, data-fits h (at + n) bs p)
+data-fits h at (fixed d ∷ bs) p = omega (arith, data-fits h (at + (fixedHeader + length d)) bs p)
+data-fits h at (cell (held it) ∷ bs) p = go (eqb h (it .handle)) p (data-fits h (at + (relocHeader + length (it .bytes))) bs)
   where
-    go : (t : Bool) → 0 < cond t (at + 4) (placeOf h (at + (4 + length d)) bs)
-        → (0 < placeOf h (at + (4 + length d)) bs → placeOf h (at + (4 + length d)) bs + length (dataOf h bs) ≤ at + (4 + length d) + sizes bs)
-        → cond t (at + 4) (placeOf h (at + (4 + length d)) bs) + length (cond t d (dataOf h bs)) ≤ at + (4 + length d + sizes bs)
+    go : (t : Bool) → 0 < cond t (at + relocHeader) (placeOf h (at + (relocHeader + length (it .bytes))) bs)
+        → (0 < placeOf h (at + (relocHeader + length (it .bytes))) bs → placeOf h (at + (relocHeader + length (it .bytes))) bs + length (dataOf h bs) ≤ at + (relocHeader + length (it .bytes)) + sizes bs)
+        → cond t (at + relocHeader) (placeOf h (at + (relocHeader + length (it .bytes))) bs) + length (cond t (it .bytes) (dataOf h bs)) ≤ at + (relocHeader + length (it .bytes) + sizes bs)
     go true p f = omega arith
     go false p f = omega (arith, f p)
 

@@ -6,21 +6,23 @@ use Prim.Native.Nat.{ℕ}
 use lib.Dec.{eqb}
 use Rattle.bigendian.specs.BigEndian.{Bytes, overwrite}
 use Rattle.format.specs.WellFormed.{wellFormed, zoneOf}
-use Rattle.structure.specs.Structure.{Block, free, fixed, reloc, Structure, start, placeOf, decodeZone}
+use Rattle.structure.specs.Structure.{Block, fixed, Structure, start, placeOf, decodeZone, cell}
+use Rattle.kinds.specs.Kinds.{item}
+use Rattle.bay.specs.Bay.{free, held}
 
 -- the data of handle h
 unfoldable pub dataOf : ℕ → List Block → List ℕ
 dataOf h [] = []
-dataOf h (free n ∷ bs) = dataOf h bs
+dataOf h (cell (free n) ∷ bs) = dataOf h bs
 dataOf h (fixed d ∷ bs) = dataOf h bs
-dataOf h (reloc k d ∷ bs) = cond (eqb h k) d (dataOf h bs)
+dataOf h (cell (held it) ∷ bs) = cond (eqb h (it .handle)) (it .bytes) (dataOf h bs)
 
 -- the blocks with src at offset off of the data of handle h
 unfoldable pub edit : ℕ → ℕ → List ℕ → List Block → List Block
 edit h off src [] = []
-edit h off src (free n ∷ bs) = free n ∷ edit h off src bs
+edit h off src (cell (free n) ∷ bs) = cell (free n) ∷ edit h off src bs
 edit h off src (fixed d ∷ bs) = fixed d ∷ edit h off src bs
-edit h off src (reloc k d ∷ bs) = cond (eqb h k) (reloc k (overwrite d off src) ∷ bs) (reloc k d ∷ edit h off src bs)
+edit h off src (cell (held it) ∷ bs) = cond (eqb h (it .handle)) (cell (held (item (it .handle) (overwrite (it .bytes) off src))) ∷ bs) (cell (held it) ∷ edit h off src bs)
 
 unfoldable pub store : ℕ → ℕ → List ℕ → Structure → Structure
 store h off src s = record { chain = s .chain; blocks = edit h off src (s .blocks) }

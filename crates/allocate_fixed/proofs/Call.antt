@@ -1,85 +1,102 @@
--- The call.
-use mathlib.Core.Path.{_≡_, sym, ap, _∙_}
-use mathlib.Core.List.{List, _++_}
-use mathlib.Core.Bool.{Bool, true, false, not}
-use Prim.Native.Nat.{ℕ, _+_, _-_, _≤_}
+-- The plan and the call.
+use mathlib.Core.Path.{_≡_, refl, sym, ap, ap₂, _∙_}
+use mathlib.Core.List.{List, [], _∷_, _++_}
+use mathlib.Core.Bool.{Bool, true, false, cond, not}
+use Prim.Native.Nat.{ℕ, _+_, _-_, _<_, _≤_}
 use native.Mathlib.Omega.{arith}
-use borrow.Author.Tests.{ne-eqb, not-true, not-false}
+use borrow.Author.Tests.{le-leb, lt-leb}
+use lib.Dec.{leb}
 use lib.ListN.{length, getD, take, drop}
 use mir.Val.{Fits}
 use mir.Syntax.{w8, w32, w64}
 use Rattle.bigendian.specs.BigEndian.{fromBE, slice}
-use Rattle.block_type.specs.Limits.{fixedNeed}
-use Rattle.format.specs.WellFormed.{wellFormed, lengthField}
-use Rattle.structure.specs.Structure.{decodeZone, decode, encode}
+use Rattle.block_type.specs.Limits.{fixedHeader, fixedNeed, fixedLimit}
+use Rattle.structure.specs.Structure.{Structure, start, len, decodeZone, encode}
+use Rattle.access.specs.Edit.{IsZone}
 use Rattle.calls.specs.Calls.{told, allocate-fixed}
+use Rattle.calls.specs.Bays.{Bays, maxS}
+use Rattle.calls.specs.State.{Fixed, pointer}
+use Rattle.calls.specs.Table.{cause, first, order, refusalOf}
+use Rattle.bay.specs.Bay.{Cell, baySum, takeHigh}
+use Rattle.zone.specs.Group.{group}
+use Rattle.zone.specs.Work.{facts}
 use Rattle.zone.specs.Call.{result, call}
-use Rattle.call_laws.proofs.Plan.{bytes-of}
-use Rattle.allocate_fixed.proofs.Bays.{fixed-is}
-use Rattle.allocate_fixed.specs.Fixed.{allocated, pointerOf, fixedNumber, fixedOut}
-use Rattle.allocate_fixed.specs.Site.{SiteIn, PlannedIn, planned-in, Planned, refused, planned}
-use Rattle.allocate_fixed.proofs.Placed.{ask-sub, ask-end, pointer-here}
+use Rattle.bays.specs.Places.{BayN, bayN, baysAt, highBay}
+use Rattle.bays.proofs.High.{high-is, high-found}
+use Rattle.bay_end.proofs.Found.{zone-tiled, zone-high}
+use Rattle.call_laws.specs.Frame.{zoneAt, Does, PlannedIn, refuses, goes, Planned}
+use Rattle.call_laws.proofs.Outcome.{none-lent}
+use Rattle.call_laws.proofs.Frame.{frame-ready, frame-done}
+use Rattle.allocate_fixed.specs.Placed.{room, placed, Site}
+use Rattle.allocate_fixed.specs.Ready.{ReadyIn}
+use Rattle.allocate_fixed.proofs.Placed.{ask-sub, ask-end}
 
-done : (s : List ℕ) (c l need v : ℕ) (y : List ℕ) → wellFormed s ≡ true → l ≡ lengthField s → fixedNumber (decodeZone (take l s)) c ≡ 0 → need ≡ fixedNeed c
-    → v ≡ pointerOf need (decodeZone (take l s)) → y ≡ encode (allocated need (decodeZone (take l s))) → result (told 0 v) (y ++ drop l s) ≡ fixedOut s c
-unfolding fixedOut decode
-done s c l need v y w el k en ev ey = rw (w, ← el, k, ev, ey, en)
+-- ---- the refusals
 
-module _ (s : List ℕ) (c number l need a e sum tail : ℕ) where
-  pub plan-no : (ok : Bool) → ok ≡ wellFormed s → not ok ≡ true → number ≡ 1 → Planned s c number l need a e sum tail
-  plan-no ok w q k = refused (sym w ∙ not-true ok q) k
+abbrev bays : List ℕ → Bays (List Cell) Fixed
+bays z = group (start (decodeZone z)) (decodeZone z .blocks)
 
-  pub plan-yes : (ok : Bool) → ok ≡ wellFormed s → not ok ≡ false → l ≡ fromBE (slice s 0 4) → l ≤ length s → PlannedIn (take l s) c number need a e sum tail → Planned s c number l need a e sum tail
-  plan-yes ok w q el f p = planned (sym w ∙ not-false ok q) el f p
+-- by whether c is small, and whether a bay reaches the need
+number-of : (z : List ℕ) (c : ℕ) (t u : Bool) → leb c fixedLimit ≡ t → leb (fixedNeed c) (maxS baySum (bays z)) ≡ u
+    → (buf : ℕ) → refusalOf (allocate-fixed c) (facts true (zoneAt buf z)) ≡ cond t (cond u 0 5) 3
+number-of z c t u et eu buf = ap₂ (λ (a b : Bool). first order (cause 1 false ∷ cause 3 (not a) ∷ cause 5 (not b) ∷ [])) et eu ∙ go t u
+  where
+    go : (t u : Bool) → first order (cause 1 false ∷ cause 3 (not t) ∷ cause 5 (not u) ∷ []) ≡ cond t (cond u 0 5) 3
+    go true true = refl
+    go true false = refl
+    go false u = refl
 
-  record Ready : Type 0 where
-    well : wellFormed s ≡ true
-    is-len : l ≡ lengthField s
-    fits : l ≤ length s
-    is-number : number ≡ fixedNumber (decodeZone (take l s)) c
-    is-need : need ≡ fixedNeed c
-    site : SiteIn (take l s) need a e sum tail
+pub in-3 : (z : List ℕ) (c number : ℕ) (R : Type 0) → number ≡ 3 → fixedLimit < c → PlannedIn (allocate-fixed c) z number R
+in-3 z c number R q l = refuses (record { some = λ x. omega arith; is = λ buf. number-of z c false _ (lt-leb c fixedLimit l) refl buf ∙ sym q })
 
-  module _ (p : Planned s c number l need a e sum tail) where
-    ready : number ≡ 0 → Ready
-    ready z = go p
-      where
-        go : Planned s c number l need a e sum tail → Ready
-        go (refused w k) = let x : ⊥ = omega arith in absurd x
-        go (planned w el f (planned-in q g)) = record { well = w; is-len = el; fits = f; is-number = q; is-need = g z .0; site = g z .1 }
+-- ---- the bay
 
-    module _ (z : number ≡ 0) where
-      pub call-fits : l ≤ length s
-      call-fits = ready z .fits
+module _ (z : List ℕ) (i : IsZone z) (first : ℕ) (ef : first ≡ fromBE (slice z 4 4)) (c need a e sum tail : ℕ) (f : Bool) (l : c ≤ fixedLimit) (en : need ≡ fixedNeed c)
+    (q : bayN f a e sum tail ≡ highBay need first (baysAt z first)) where
+  abbrev d : Structure
+  d = decodeZone z
 
-      pub call-site : SiteIn (take l s) need a e sum tail
-      call-site = ready z .site
+  numbers : bayN f a e sum tail ≡ highBay need (start d) (bays z)
+  numbers = zone-high z i first ef need _ q
 
-      pub call-sub : need ≤ e
-      call-sub = ask-sub (take l s) need a e sum tail call-site
+  reach : (t : Bool) → f ≡ t → leb (fixedNeed c) (maxS baySum (bays z)) ≡ t
+  reach t x = ap (λ (n : ℕ). leb n (maxS baySum (bays z))) (sym en) ∙ sym (high-is need (start d) (bays z)) ∙ sym (ap (λ (n : BayN). n .found) numbers) ∙ x
 
-      pub call-add : Fits w64 (e - need + 2)
-      call-add = record { fits = omega (arith, ask-end (take l s) need a e sum tail call-site) }
+  pub in-0 : (number : ℕ) → number ≡ 0 → f ≡ true → PlannedIn (allocate-fixed c) z number (ReadyIn z c need a e sum tail)
+  in-0 number qn t =
+      goes qn (record {
+        need-is = en;
+        passed = number-of z c true true (le-leb c fixedLimit l) (reach true t);
+        site = record { zone = i; found = high-found need (len d) (takeHigh need) f a e sum tail t (bays z) (start d) (zone-tiled z i first ef) numbers; low = omega arith; four = omega arith; high = omega arith };
+      })
 
-      pub call-word : Fits w32 (e - need + 2)
-      call-word = record { fits = omega (arith, ask-end (take l s) need a e sum tail call-site) }
+  pub in-5 : (number : ℕ) (R : Type 0) → number ≡ 5 → f ≡ false → PlannedIn (allocate-fixed c) z number R
+  in-5 number R qn x = refuses (record { some = λ y. omega arith; is = λ buf. number-of z c true false (le-leb c fixedLimit l) (reach false x) buf ∙ sym qn })
 
-      pub call-end : (y : List ℕ) → ((i : ℕ) → Fits w8 (getD s i 0)) → y ≡ encode (allocated need (decodeZone (take l s)))
-          → result (told 0 (e - need + 2)) (y ++ drop l s) ≡ call (allocate-fixed c) s
-      call-end y g q =
-          let r = ready z in
-          done s c l need (e - need + 2) y (r .well) (r .is-len) (sym (r .is-number) ∙ z) (r .is-need) (pointer-here (take l s) need a e sum tail call-site) q
-          ∙ fixed-is s c (bytes-of s g)
+-- ---- the call
 
-    flat-no : (number ≡ 0 → ⊥) → result (told number 0) s ≡ fixedOut s c
-    unfolding fixedOut decode
-    flat-no ne = go p
-      where
-        go : Planned s c number l need a e sum tail → result (told number 0) s ≡ fixedOut s c
-        go (refused w k) = rw (w, k)
-        go (planned w el f (planned-in q g)) =
-            let k : number ≡ fixedNumber (decodeZone (take (lengthField s) s)) c = q ∙ ap (λ (m : ℕ). fixedNumber (decodeZone (take m s)) c) el in
-            rw (w, ← k, ne-eqb number 0 ne)
+does : (z : List ℕ) (buf c need a e sum tail : ℕ) → ReadyIn z c need a e sum tail → Does (allocate-fixed c) buf z (told 0 (e - need + fixedHeader)) (placed need (decodeZone z))
+does z buf c need a e sum tail r = record {
+  passed = r .passed buf;
+  answer = ap (λ (n : ℕ). told 0 (pointer (room n (decodeZone z) .0))) (sym (r .need-is)) ∙ ap (λ (x : Fixed). told 0 (pointer x)) (r .site .found .block);
+  line = ap (λ (n : ℕ). placed n (decodeZone z)) (sym (r .need-is));
+}
 
-    pub call-no : ((i : ℕ) → Fits w8 (getD s i 0)) → (number ≡ 0 → ⊥) → result (told number 0) s ≡ call (allocate-fixed c) s
-    call-no g ne = flat-no ne ∙ fixed-is s c (bytes-of s g)
+module _ (s : List ℕ) (c number l need a e sum tail : ℕ) (p : Planned (allocate-fixed c) s number l (ReadyIn (take l s) c need a e sum tail)) (z : number ≡ 0) where
+  r : ReadyIn (take l s) c need a e sum tail
+  r = frame-ready (allocate-fixed c) s number l _ p z
+
+  pub call-site : Site (take l s) need a e sum tail
+  call-site = r .site
+
+  pub call-sub : need ≤ e
+  call-sub = ask-sub (take l s) need a e sum tail call-site
+
+  pub call-add : Fits w64 (e - need + fixedHeader)
+  call-add = record { fits = omega (arith, ask-end (take l s) need a e sum tail call-site) }
+
+  pub call-word : Fits w32 (e - need + fixedHeader)
+  call-word = record { fits = omega (arith, ask-end (take l s) need a e sum tail call-site) }
+
+  pub call-end : (y : List ℕ) → ((i : ℕ) → Fits w8 (getD s i 0)) → y ≡ encode (placed need (decodeZone (take l s))) → result (told 0 (e - need + fixedHeader)) (y ++ drop l s) ≡ call (allocate-fixed c) s
+  call-end y g q = frame-done (allocate-fixed c) s number l _ p g z (does (take l s) (length s) c need a e sum tail r) none-lent refl y q

@@ -1,5 +1,3 @@
-pub mod Bays
+pub mod Placed
 pub mod Call
 pub mod Outcome
-pub mod Placed
-pub mod Zone

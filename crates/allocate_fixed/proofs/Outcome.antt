@@ -14,13 +14,13 @@ use Rattle.calls.specs.Calls.{by-pointer, Answer, told, shows, Call, allocate-f
 use Rattle.calls.specs.Bays.{Bays, last, more, over, findF}
 use Rattle.calls.specs.State.{Fixed, pointer, newFixed, withBays, content}
 use Rattle.calls.proofs.First.{or-left}
-use Rattle.zone.specs.Bay.{Cell, items, baySize, baySum, takeHigh}
+use Rattle.bay.specs.Bay.{Cell, items, baySize, baySum, takeHigh}
 use Rattle.zone.specs.Search.{placeHigh}
 use Rattle.zone.specs.Work as Work
 use Rattle.zone.specs.Work.{Zone}
 use Rattle.zone.specs.Call.{zoneIn, call}
-use Rattle.zone.proofs.BayLaws.{Each, nothing, just, each-over, each-cond, bsize-split}
-use Rattle.zone.proofs.Sums.{each-orElse}
+use Rattle.bay.proofs.Each.{Each, nothing, just, each-over, each-cond, each-orElse}
+use Rattle.bay.proofs.Laws.{bsize-split}
 use Rattle.zone.proofs.Places.{Tiled, tile-last, tile-more}
 use Rattle.zone.proofs.Found.{high-found}
 use Rattle.zone.proofs.Walk.{each-got}

@@ -1,160 +1,169 @@
 -- The new block is in its place: the bytes are those of the structure with it.
-use mathlib.Core.Path.{_≡_, sym, ap, ap₂, _∙_}
-use mathlib.Core.List.{List, [], _∷_, _++_, append-assoc, append-nil}
-use Prim.Native.Nat.{ℕ, suc, _+_, _-_, _/_, _≤_}
+use mathlib.Core.Path.{_≡_, refl, sym, ap, ap₂, _∙_}
+use mathlib.Core.List.{List, [], _∷_, _++_, map, append-assoc, append-nil}
+use Prim.Native.Nat.{ℕ, suc, _+_, _-_, _*_, _/_, _<_, _≤_}
 use native.Mathlib.Omega.{arith}
-use lib.ListN.{length, take, drop, replicate, length-replicate, length-append, length-take}
+use lib.ListN.{length, replicate, length-replicate}
 use mir.Val.{Fits}
 use mir.Syntax.{w32}
+use Rattle.structure.proofs.Append.{sizes-append, handles-append}
+use Rattle.block_type.specs.Limits.{fixedCode, fixedHeader, longestZone, typeUnit, zoneHeader}
 use Rattle.bigendian.specs.BigEndian.{toBE, overwrite}
 use Rattle.bigendian.proofs.Laws.{length-toBE}
-use Rattle.structure.specs.Structure.{Block, fixed, Structure, sizes, start, encodeBlock, join, encode, decodeZone}
-use Rattle.structure.specs.Valid.{Valid}
-use Rattle.structure.proofs.Table.{Whole, encode-zone}
-use Rattle.structure.proofs.Sound.{valid-zone}
-use Rattle.access.specs.Edit.{IsZone}
-use Rattle.access.proofs.Zone.{whole-of}
-use Rattle.row.specs.Row.{bytesOf}
-use Rattle.row.proofs.Laws.{bytes-long, bytes-append}
-use Rattle.find_bay.specs.Spots.{Spot, some, gapOf}
-use Rattle.release.proofs.ZoneLayout.{write-mid}
-use Rattle.compact_bay.proofs.Squeeze.{gap-sound, gap-sizes}
-use Rattle.surgery.proofs.Plain.{fixed-placed}
-use Rattle.bay_changes.proofs.TakeHigh.{takeOff}
-use Rattle.take_high.specs.Taken.{takenBytes, Free, BayIn, bay-in}
-use Rattle.take_high.proofs.Taken.{Open, opened, free-in, taken-long}
-use Rattle.allocate_fixed.specs.Fixed.{bayFor, withFixed, allocated, pointerOf}
-use Rattle.allocate_fixed.specs.Site.{Site, SiteIn, site-in}
+use Rattle.format.proofs.Count.{occurs}
+use Rattle.kinds.specs.Kinds.{Item}
+use Rattle.bay.specs.Bay.{Cell, baySize, packed, takeHigh}
+use Rattle.bay.specs.Sound.{bytesOf}
+use Rattle.bay.proofs.Laws.{cut-less}
+use Rattle.bay.proofs.BayBytes.{bytes-long}
+use Rattle.structure.specs.Structure.{Block, cell, fixed, Structure, size, sizes, count, start, encodeBlock, join, encode, decodeZone}
+use Rattle.structure.specs.Valid.{handlesOf, Valid}
+use Rattle.structure.proofs.Round.{offset-is}
+use Rattle.row.specs.Row as Row
+use Rattle.row.proofs.Laws.{bytes-append, sound-append}
+use Rattle.zone.proofs.GroupLaws.{flatten-group}
+use Rattle.compact_bay.specs.Tidy as Tidy
+use Rattle.slide.specs.ZoneBay.{setAll, bayCells}
+use Rattle.slide.proofs.Change.{Kept}
+use Rattle.surgery.proofs.Sound.{handle-in}
+use Rattle.surgery.proofs.Replace.{moved, occurs-parts}
+use Rattle.settle.proofs.Cells.{all-bytes, all-sizes, all-sound, all-set, handles-items}
+use Rattle.bay_end.specs.Taken.{beforeZeros, CanTake}
+use Rattle.bay_end.specs.Run.{Run}
+use Rattle.bay_end.proofs.Masters.{all-write}
+use Rattle.bay_end.proofs.Trimmed.{write-in}
+use Rattle.bay_end.proofs.Zone.{run-valid, run-take, run-end, run-kept, run-left, body, body-long, run-long}
+use Rattle.allocate_fixed.specs.Placed.{placed, Site}
 
--- ---- the header of a block over zeros
+-- ---- the block's bytes
 
-regroup : {A : Type 0} (a g x t d : List A) → (a ++ (g ++ (x ++ t))) ++ d ≡ (a ++ g) ++ (x ++ (t ++ d))
-regroup a g x t d = simp append-assoc
+-- its header over zeros
+two-zeros : (n : ℕ) → fixedHeader ≤ n → replicate {A = ℕ} n 0 ≡ (0 ∷ 0 ∷ []) ++ replicate (n - fixedHeader) 0
+two-zeros n l = let e : n ≡ suc (suc (n - fixedHeader)) = omega arith in ap (λ (k : ℕ). replicate {A = ℕ} k 0) e
 
-two-zeros : (n : ℕ) → 2 ≤ n → replicate {A = ℕ} n 0 ≡ (0 ∷ 0 ∷ []) ++ replicate (n - 2) 0
-two-zeros n l = let e : n ≡ suc (suc (n - 2)) = omega arith in ap (λ (k : ℕ). replicate {A = ℕ} k 0) e
-
-header-in : (z g h : List ℕ) (at n o : ℕ) → length h ≡ 2 → at ≤ length z → 2 ≤ n → o ≡ at + length g
-    → overwrite (overwrite z at (g ++ replicate n 0)) o h ≡ overwrite z at (g ++ (h ++ replicate (n - 2) 0))
-header-in z g h at n o lh l l₂ eo =
-    let t = replicate {A = ℕ} (n - 2) 0 in
-    let d = drop (at + length (g ++ replicate n 0)) z in
-    let q : length (g ++ replicate n 0) ≡ length (g ++ (h ++ t)) =
-    ap (λ (x : List ℕ). length (g ++ x)) (two-zeros n l₂) ∙ length-append g ((0 ∷ 0 ∷ []) ++ t) ∙ omega (arith, length-append g (h ++ t), length-append h t) in
-    ap (λ (x : List ℕ). overwrite ((take at z ++ (g ++ x)) ++ d) o h) (two-zeros n l₂)
-    ∙ ap (λ (x : List ℕ). overwrite x o h) (regroup (take at z) g (0 ∷ 0 ∷ []) t d)
-    ∙ write-mid (take at z ++ g) (0 ∷ 0 ∷ []) h (t ++ d) o (length-append (take at z) g ∙ omega (arith, length-take at z)) (sym lh)
-    ∙ sym (regroup (take at z) g h t d)
-    ∙ ap (λ (k : ℕ). (take at z ++ (g ++ (h ++ t))) ++ drop (at + k) z) q
-
-fixed-bytes : (n : ℕ) → 2 ≤ n → bytesOf (fixed (replicate (n - 2) 0) ∷ []) ≡ toBE 2 (16384 + n / 2) ++ replicate (n - 2) 0
+fixed-bytes : (n : ℕ) → fixedHeader ≤ n → Row.bytesOf (fixed (replicate (n - fixedHeader) 0) ∷ []) ≡ toBE 2 (fixedCode * typeUnit + n / 2) ++ replicate (n - fixedHeader) 0
 unfolding join encodeBlock
 fixed-bytes n l =
-    let e : 2 + length (replicate {A = ℕ} (n - 2) 0) ≡ n = omega (arith, length-replicate {A = ℕ} (n - 2) 0) in
-    append-nil _ ∙ ap (λ (k : ℕ). toBE 2 (16384 + k / 2) ++ replicate (n - 2) 0) e
+    let e : fixedHeader + length (replicate {A = ℕ} (n - fixedHeader) 0) ≡ n = omega (arith, length-replicate {A = ℕ} (n - fixedHeader) 0) in
+    append-nil _ ∙ ap (λ (k : ℕ). toBE 2 (fixedCode * typeUnit + k / 2) ++ replicate (n - fixedHeader) 0) e
 
--- ---- in the structure
+-- it has no master
+set-fixed : (at : ℕ) (bs : List Block) (d z : List ℕ) → Tidy.setAll at (bs ++ (fixed d ∷ [])) z ≡ Tidy.setAll at bs z
+unfolding Tidy.setAll Tidy.setOne
+set-fixed at [] d z = refl
+set-fixed at (b ∷ bs) d z = set-fixed (at + size b) bs d (Tidy.setOne at b z)
 
-pub allocated-is : (need : ℕ) (s : Structure) (p : Spot) → bayFor need s ≡ some p → allocated need s ≡ record { chain = s .chain; blocks = withFixed need p }
-unfolding allocated
-allocated-is need s p e = rw e
+handles-fixed : (bs : List Block) (d : List ℕ) → handlesOf (bs ++ (fixed d ∷ [])) ≡ handlesOf bs
+unfolding handlesOf
+handles-fixed bs d = handles-append bs (fixed d ∷ []) ∙ append-nil (handlesOf bs)
 
-pub pointer-is : (need : ℕ) (s : Structure) (p : Spot) → bayFor need s ≡ some p → pointerOf need s ≡ start s + (sizes (p .before) + sizes (p .inside)) - need + 2
-unfolding pointerOf
-pointer-is need s p e = rw e
+fixed-size : (d : List ℕ) → sizes (fixed d ∷ []) ≡ fixedHeader + length d
+unfolding sizes
+fixed-size d = omega arith
 
-module _ (s : Structure) (v : Valid s) (need a e sum tail : ℕ) (x : Site s need a e sum tail) where
-  abbrev p : Spot
-  p = x .spot
+-- ---- in the bytes of a zone
 
-  open₁ : Open s p need a e sum tail
-  open₁ = opened s v p need a e sum tail (x .bay)
+module _ (z : List ℕ) (need a e sum tail : ℕ) (x : Site z need a e sum tail) where
+  abbrev s : Structure
+  s = decodeZone z
 
-  abbrev k : ℕ
-  k = open₁ .k
+  abbrev pre : List Block
+  pre = x .found .before
+
+  abbrev cs : List Cell
+  cs = x .found .bay
+
+  abbrev post : List Block
+  post = x .found .after
+
+  abbrev run : Run z need a e sum tail
+  run = record {
+    zone = x .zone;
+    before = pre;
+    bay = cs;
+    after = post;
+    parts = sym (flatten-group (start s) (s .blocks)) ∙ x .found .old;
+    numbers = x .found .numbers;
+    low = x .low;
+    fits = x .found .enough;
+    four = x .four;
+  }
+
+  abbrev zs : List ℕ
+  zs = replicate (need - fixedHeader) 0
+
+  abbrev ds : List Cell
+  ds = takeHigh need cs
 
   abbrev new : List Block
-  new = gapOf (k - need) ++ fixed (replicate (need - 2) 0) ∷ []
+  new = map cell ds ++ (fixed zs ∷ [])
 
-  hole : Free (encode (open₁ .zone)) e k need
-  hole = free-in (open₁ .zone) (open₁ .valid) (open₁ .pre) (p .after) e k need (open₁ .parts) (open₁ .is-end) (open₁ .low) (open₁ .fits) (open₁ .four)
+  abbrev h : List ℕ
+  h = toBE 2 (fixedCode * typeUnit + need / 2)
 
-  gap-long : length (bytesOf (gapOf (k - need))) ≡ k - need
-  gap-long =
-      bytes-long (gapOf (k - need)) (gap-sound (k - need) (omega (arith, hole .four, hole .four-k, hole .fits)) (omega (arith, hole .order, hole .inside, hole .short)))
-      ∙ gap-sizes (k - need)
+  v : Valid s
+  v = run-valid z need a e sum tail run
 
-  blocks-are : open₁ .pre ++ (new ++ p .after) ≡ withFixed need p
-  blocks-are =
-      let f : List Block = fixed (replicate (need - 2) 0) ∷ [] in
-      four (open₁ .pre) (gapOf (k - need)) f (p .after) ∙ ap (λ (y : List Block). y ++ (f ++ p .after)) (open₁ .off) ∙ sym (four (p .before) (takeOff need (p .inside)) f (p .after))
-    where
-      four : (a b c d : List Block) → a ++ ((b ++ c) ++ d) ≡ (a ++ b) ++ (c ++ d)
-      four a b c d = simp append-assoc
+  kept : Kept a (e - a - need) ds
+  kept = run-kept z need a e sum tail run
 
-  placed : overwrite (takenBytes (encode s) need a e sum tail) (e - need) (toBE 2 (16384 + need / 2)) ≡ encode (allocated need s)
-  placed =
-      let h = toBE 2 (16384 + need / 2) in
-      let z = encode (open₁ .zone) in
-      let at : e - k ≡ start (open₁ .zone) + sizes (open₁ .pre) = omega (arith, open₁ .is-end) in
-      ap (λ (y : List ℕ). overwrite y (e - need) h) (open₁ .bytes)
-      ∙ header-in z (bytesOf (gapOf (k - need))) h (e - k) need (e - need) (length-toBE 2 (16384 + need / 2)) (omega (arith, hole .inside)) (omega (arith, hole .low)) (omega (arith, gap-long, hole .fits, hole .order))
-      ∙ ap (λ (y : List ℕ). overwrite z (e - k) (bytesOf (gapOf (k - need)) ++ y)) (sym (fixed-bytes need (omega (arith, hole .low))))
-      ∙ ap (overwrite z (e - k)) (sym (bytes-append (gapOf (k - need)) (fixed (replicate (need - 2) 0) ∷ [])))
-      ∙ ap (λ (o : ℕ). overwrite z o (bytesOf new)) at
-      ∙ fixed-placed (open₁ .zone) (open₁ .valid) (open₁ .pre) (p .after) k need (open₁ .parts) (hole .fits) (hole .low) (hole .four) (hole .four-k) (omega (arith, hole .order, hole .inside, hole .short)) (x .high)
-      ∙ ap₂ (λ (ls : List ℕ) (bs : List Block). encode (record { chain = ls; blocks = bs })) (open₁ .same-chain) blocks-are
-      ∙ ap encode (sym (allocated-is need s p (x .chosen)))
+  ends : (e - need ≡ a + baySize ds) × (need ≤ e) × (e ≤ length (encode s)) × (length (encode s) ≤ longestZone)
+  ends = run-end z need a e sum tail run
 
--- ---- the same in the bytes of a zone
+  long-zs : length zs ≡ need - fixedHeader
+  long-zs = length-replicate {A = ℕ} (need - fixedHeader) 0
 
-module _ (z : List ℕ) (need a e sum tail : ℕ) (x : SiteIn z need a e sum tail) where
-  zone : IsZone z
-  zone = go x
-    where
-      go : SiteIn z need a e sum tail → IsZone z
-      go (site-in i y) = i
+  same-handles : handlesOf new ≡ handlesOf (map cell cs)
+  same-handles =
+      handles-fixed (map cell ds) zs ∙ handles-items ds ∙ ap (λ (es : List Item). handlesOf (map cell (packed es []))) (cut-less need cs (x .found .enough) .same) ∙ sym (handles-items cs)
 
-  here : Site (decodeZone z) need a e sum tail
-  here = go x
-    where
-      go : SiteIn z need a e sum tail → Site (decodeZone z) need a e sum tail
-      go (site-in i y) = y
+  same-size : sizes new ≡ sizes (map cell cs)
+  same-size = omega (arith, sizes-append (map cell ds) (fixed zs ∷ []), fixed-size zs, long-zs, all-sizes ds, all-sizes cs, cut-less need cs (x .found .enough) .size)
 
-  w : Whole z
-  w = whole-of z zone
+  masters : (k : ℕ) → 0 < occurs k (handlesOf (map cell ds)) → 0 < k
+  masters k l =
+      let o : occurs k (handlesOf (map cell ds)) ≡ occurs k (handlesOf (map cell cs)) = ap (occurs k) (sym (handles-fixed (map cell ds) zs) ∙ same-handles) in
+      let i = handle-in s v k (omega (arith, ap (λ (b : List Block). occurs k (handlesOf b)) (run .parts), occurs-parts k pre (map cell cs) post)) in
+      omega (arith, offset-is k zoneHeader (count s) i .0)
 
-  v₀ : Valid (decodeZone z)
-  v₀ = valid-zone z w
+  spot : e - need ≡ a + length (bytesOf ds)
+  spot = omega (arith, ends, bytes-long ds (kept .sound))
 
-  is-z : encode (decodeZone z) ≡ z
-  is-z = encode-zone z w
+  -- the header over the first zeros
+  written : overwrite (beforeZeros (encode s) a ds need) (e - need) h ≡ encode (record { chain = s .chain; blocks = pre ++ (map cell ds ++ (fixed zs ∷ post)) })
+  unfolding beforeZeros
+  written =
+      let y = encode s in
+      sym (all-write a (e - need) (omega (arith, ends)) a ds (body z need a e sum tail run) h (kept .low) (omega (arith, body-long z need a e sum tail run, ends)))
+      ∙ ap (setAll a ds)
+      (ap (λ (x : List ℕ). overwrite (overwrite y a (bytesOf ds ++ x)) (e - need) h) (two-zeros need (omega (arith, x .low)))
+      ∙ write-in y (bytesOf ds) (0 ∷ 0 ∷ []) h zs a (e - need) (omega (arith, ends)) spot (sym (length-toBE 2 (fixedCode * typeUnit + need / 2)))
+      ∙ ap (overwrite y a) (ap₂ _++_ (all-bytes ds) (sym (fixed-bytes need (omega (arith, x .low)))) ∙ sym (bytes-append (map cell ds) (fixed zs ∷ []))))
+      ∙ all-set a ds (overwrite y a (Row.bytesOf new)) masters
+      ∙ sym (set-fixed a (map cell ds) zs (overwrite y a (Row.bytesOf new)))
+      ∙ ap (λ (o : ℕ). Tidy.setAll o new (overwrite y o (Row.bytesOf new))) (run .numbers .start-is)
+      ∙ moved s v pre (map cell cs) new post (s .chain) (run .parts) same-size
+      (sound-append (map cell ds) (fixed zs ∷ []) (all-sound ds (kept .sound)) ((omega (arith, long-zs, x .low, x .four), omega (arith, long-zs, x .high)), tt)) same-handles refl
+      ∙ ap (λ (b : List Block). encode (record { chain = s .chain; blocks = pre ++ b })) (append-assoc (map cell ds) (fixed zs ∷ []) post)
 
-  pub ask-bay : BayIn z need a e sum tail
-  ask-bay = bay-in zone (here .spot) (here .bay)
-
-  hole₀ : Free (encode (open₁ (decodeZone z) v₀ need a e sum tail here .zone)) e (open₁ (decodeZone z) v₀ need a e sum tail here .k) need
-  hole₀ = hole (decodeZone z) v₀ need a e sum tail here
+  pub ask-take : CanTake z need a e sum tail
+  ask-take = run-take z need a e sum tail run
 
   pub ask-sub : need ≤ e
-  ask-sub = omega (arith, hole₀ .order, hole₀ .fits)
+  ask-sub = ends .1
 
-  pub ask-end : e ≤ 1048576
-  ask-end = omega (arith, hole₀ .inside, hole₀ .short)
+  pub ask-end : e ≤ longestZone
+  ask-end = omega (arith, ends)
 
-  pub ask-word : Fits w32 (16384 + need / 2)
-  ask-word = record { fits = omega (arith, here .high) }
+  pub ask-word : Fits w32 (typeUnit + need / 2)
+  ask-word = record { fits = omega (arith, x .high) }
 
-  pub ask-put : (y : List ℕ) → y ≡ takenBytes z need a e sum tail → e - need + 2 ≤ length y
-  ask-put y q = omega (arith, taken-long z y need a e sum tail ask-bay q, ask-sub, hole₀ .low)
+  module _ (y : List ℕ) (q : y ≡ beforeZeros z a (takeHigh need (bayCells z a e)) need) where
+    pub ask-put : e - need + fixedHeader ≤ length y
+    ask-put = omega (arith, run-long z need a e sum tail run y q, ends, x .low)
 
-  pub place-done : (y y₂ : List ℕ) → y ≡ takenBytes z need a e sum tail → y₂ ≡ overwrite y (e - need) (toBE 2 (16384 + need / 2)) → y₂ ≡ encode (allocated need (decodeZone z))
-  place-done y y₂ q q₂ =
-      q₂ ∙ ap (λ (u : List ℕ). overwrite u (e - need) (toBE 2 (16384 + need / 2))) (q ∙ ap (λ (u : List ℕ). takenBytes u need a e sum tail) (sym is-z))
-      ∙ placed (decodeZone z) v₀ need a e sum tail here
-
-  -- the pointer
-  pub pointer-here : e - need + 2 ≡ pointerOf need (decodeZone z)
-  pointer-here =
-      let q : start (decodeZone z) + (sizes (here .spot .before) + sizes (here .spot .inside)) ≡ e = omega (arith, here .bay .is-start, here .bay .is-end) in
-      ap (λ (k : ℕ). k - need + 2) (sym q) ∙ sym (pointer-is need (decodeZone z) (here .spot) (here .chosen))
+    pub place-done : (y₂ : List ℕ) → y₂ ≡ overwrite y (e - need) (toBE 2 (fixedCode * typeUnit + need / 2)) → y₂ ≡ encode (placed need s)
+    place-done y₂ q₂ =
+        q₂ ∙ ap (λ (u : List ℕ). overwrite u (e - need) h) (run-left z need a e sum tail run y q)
+        ∙ written
+        ∙ ap (λ (b : List Block). encode (record { chain = s .chain; blocks = b })) (sym (x .found .new))

@@ -1,2 +1,2 @@
-pub mod Fixed
-pub mod Site
+pub mod Placed
+pub mod Ready

@@ -1,21 +1,23 @@
 // Allocate fixed: a block at the high end of the highest bay whose sum reaches its size.
 ghost use mathlib.Core.Path.{_≡_};
 ghost use Prim.Native.Nat.{_+_};
+ghost use lib.ListN.{take};
 ghost use Rattle.structure.specs.Structure.{encode, decodeZone};
 ghost use Rattle.access.specs.Edit.{IsZone};
 ghost use Rattle.calls.specs.Calls.{told, allocate-fixed};
 ghost use Rattle.zone.specs.Call.{result, call};
-ghost use Rattle.allocate_fixed.specs.Fixed.{allocated};
-ghost use Rattle.allocate_fixed.specs.Site.{SiteIn, PlannedIn, Planned};
+ghost use Rattle.call_laws.specs.Frame.{PlannedIn, Planned};
+ghost use Rattle.allocate_fixed.specs.Placed.{placed, Site};
+ghost use Rattle.allocate_fixed.specs.Ready.{Ready};
 use block_type::BlockType;
 use calls::Told;
 
 // The new block of need bytes at the end of the bay from a to e. Its data are zero, also where a free block's header stood.
 fn place(z: &mut [u8], need: usize, a: usize, e: usize, sum: usize, tail: usize)
-    requires { ⌜ SiteIn (now z) need a e sum tail ⌝ }
-    ensures { λ _. ⌜ now (z .exit) ≡ encode (allocated need (decodeZone (now (z .entry)))) ⌝ }
+    requires { ⌜ Site (now z) need a e sum tail ⌝ }
+    ensures { λ _. ⌜ now (z .exit) ≡ encode (placed need (decodeZone (now (z .entry)))) ⌝ }
 {
-    take_high::take_high(z, need, a, e, sum, tail);
+    bay_end::take_high(z, need, a, e, sum, tail);
     bigendian::put2(
         z,
         e - need,
@@ -50,14 +52,14 @@ fn no_plan(number: u32) -> Plan
 // The plan in a well-formed zone.
 fn plan_in(z: &[u8], c: u32) -> Plan
     requires { ⌜ IsZone (now z) ⌝ }
-    ensures { λ r. ⌜ PlannedIn (now (z .entry)) c (r .number) (r .need) (r .start) (r .end) (r .sum) (r .tail) ⌝ }
+    ensures { λ r. ⌜ PlannedIn (allocate-fixed c) (now (z .entry)) (r .number) (Ready (now (z .entry)) c r) ⌝ }
 {
     if BlockType::FIXED_LIMIT < c {
         return no_plan(3);
     }
     let need = (BlockType::FIXED_HEADER + c as usize + 3) / 4 * 4;
     let first = bigendian::get4(z, 4) as usize;
-    let b = take_high::find_high(z, first, need);
+    let b = bays::find_high(z, first, need);
     let found = b.found;
     let start = b.start;
     let end = b.end;
@@ -79,7 +81,7 @@ fn plan_in(z: &[u8], c: u32) -> Plan
 
 // The plan: the refusal, 0 for none, and then where the new block goes.
 fn plan_zone(zone: &[u8], c: u32) -> Plan
-    ensures { λ r. ⌜ Planned (now (zone .entry)) c (r .number) (r .len) (r .need) (r .start) (r .end) (r .sum) (r .tail) ⌝ }
+    ensures { λ r. ⌜ Planned (allocate-fixed c) (now (zone .entry)) (r .number) (r .len) (Ready (take (r .len) (now (zone .entry))) c r) ⌝ }
 {
     let k = zone_check::check(zone);
     let ok = k.ok;

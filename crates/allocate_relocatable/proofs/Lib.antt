@@ -1,7 +1,7 @@
-pub mod Bays
-pub mod Block
-pub mod Call
-pub mod Outcome
+pub mod Bay
+pub mod Writes
 pub mod Placed
 pub mod PlanLaws
 pub mod Zone
+pub mod Call
+pub mod Outcome

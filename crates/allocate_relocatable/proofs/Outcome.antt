@@ -9,18 +9,21 @@ use lib.ListN.{length, replicate, length-replicate}
 use lib.Dec.{leb}
 use borrow.Author.Tests.{eq-eqb, leb-true}
 use Rattle.bigendian.specs.BigEndian.{Bytes}
-use Rattle.block_type.specs.Limits.{up4}
+use Rattle.block_type.specs.Limits.{up4, zoneHeader}
 use Rattle.calls.specs.Calls.{by-handle, Answer, told, shows, Call, allocate-relocatable, size, view}
 use Rattle.calls.specs.Bays.{Bays, last, more, over, orElse, findS, maxS}
-use Rattle.calls.specs.State.{Item, itemSize, is, get, newItem, top, Fixed, content}
+use Rattle.kinds.specs.Kinds.{Item, itemSize}
+use Rattle.calls.specs.State.{is, get, newItem, top, Fixed, content}
 use Rattle.calls.specs.Table.{below, isEmpty}
 use Rattle.calls.proofs.First.{or-left}
-use Rattle.zone.specs.Bay.{Cell, items, baySum, put}
-use Rattle.zone.specs.Counted.{count, live}
+use Rattle.bay.specs.Bay.{Cell, items, baySum, put}
+use Rattle.bay.specs.Counted.{count, live}
 use Rattle.zone.specs.Search.{placeLow}
 use Rattle.zone.specs.Work.{Zone, work}
 use Rattle.zone.specs.Call.{zoneIn, call}
-use Rattle.zone.proofs.BayLaws.{Each, nothing, just, each-over, each-cond, put-keeps, perm-count, perm-get}
+use Rattle.bay.proofs.Each.{Each, nothing, just, each-over, each-cond}
+use Rattle.bay.proofs.Perm.{perm-count, perm-get}
+use Rattle.bay.proofs.Holes.{put-keeps}
 use Rattle.zone.proofs.Found.{low-found as total-low}
 use Rattle.zone.proofs.Walk.{each-got}
 use Rattle.zone.proofs.Handles.{occurs, occurs-once}
@@ -28,7 +31,7 @@ use Rattle.zone.proofs.Run.{well-whole}
 use Rattle.call_laws.proofs.Outcome.{step, none-lent}
 use Rattle.call_laws.proofs.Accepted.{Accepted, accepted, cleared, answered, after}
 use Rattle.call_laws.proofs.Named.{size-there, view-there}
-use Rattle.allocate_relocatable.proofs.Bays.{need-is}
+use Rattle.allocate_relocatable.proofs.Call.{need-is}
 
 pub get-none : (h : ℕ) (es : List Item) → count h es ≡ 0 → get h es ≡ none
 get-none h [] e = refl
@@ -86,7 +89,7 @@ module _ (s : List ℕ) (c : ℕ) (y : Bytes s) (e : (call (allocate-relocatable
       go (k ∷ ks) q n =
           let w = well-whole s y (a .well) in
           let o : occurs k (z .chain) ≡ suc (occurs k ks) = ap (occurs k) q ∙ (rw (eq-eqb k k refl)) in
-          omega (arith, w .owned .owns k, occurs-once k 16 (w .m), o)
+          omega (arith, w .owned .owns k, occurs-once k zoneHeader (w .m), o)
 
   abbrev next : Zone
   next = (work (allocate-relocatable c) z) .next

@@ -1,151 +1,120 @@
--- The plan in a zone.
-use mathlib.Core.Path.{_≡_, refl, sym, ap, ap₂, _∙_}
+-- The plan in a zone: which cause refuses the call, or the lowest bay whose sum reaches the need.
+use mathlib.Core.Path.{_≡_, refl, sym, ap, ap₂, _∙_, subst}
+use mathlib.Core.Bool.{Bool, true, false, not}
 use mathlib.Core.List.{List, [], _∷_}
-use mathlib.Core.Bool.{Bool, true, false}
-use Prim.Native.Nat.{ℕ, suc, _+_, _-_, _%_, _<_, _≤_}
-use native.Mathlib.Nat.{add-zero}
+use Prim.Native.Nat.{ℕ, _<_, _≤_}
 use native.Mathlib.Omega.{arith}
-use borrow.Author.Tests.{eq-eqb, ne-eqb, lt-ltb, le-ltb}
+use borrow.Author.Tests.{le-leb, lt-leb}
 use lib.ListN.{length, drop}
+use lib.Dec.{leb}
+use Rattle.block_type.specs.Limits.{longestZone, relocLimit, relocNeed}
 use Rattle.bigendian.specs.BigEndian.{fromBE, slice}
-use Rattle.format.proofs.Bool.{not-both}
-use Rattle.format.proofs.Count.{occurs, one-same}
-use Rattle.structure.specs.Structure.{Block, Structure, sizes, count, start, headOf, decodeZone}
+use Rattle.format.specs.WellFormed.{firstField}
+use Rattle.structure.specs.Structure.{Structure, start, headOf, decodeZone}
 use Rattle.structure.specs.Valid.{Valid}
-use Rattle.structure.proofs.Table.{Whole, encode-zone, start-is, head-is}
+use Rattle.structure.proofs.Table.{start-is, head-is}
 use Rattle.structure.proofs.Sound.{valid-zone}
-use Rattle.structure.proofs.Round.{offset-is, rest-is}
 use Rattle.access.specs.Edit.{IsZone}
 use Rattle.access.proofs.Zone.{whole-of}
-use Rattle.row.specs.Row.{blocksOf, Row, row}
-use Rattle.find_bay.specs.Spots.{freeTotal, Spot, Choice, none, some, firstFit, bays}
-use Rattle.find_bay.specs.Find.{BayN, bayN, findBay, bayAt}
-use Rattle.find_bay.proofs.Numbers.{bay-numbers}
-use Rattle.surgery.proofs.Sound.{valid-sound}
-use Rattle.allocate_relocatable.specs.Alloc.{bayFor, needOf, allocCode}
-use Rattle.allocate_relocatable.specs.Site.{SiteIn, site-in, BayIn, bay-in, PlannedIn, planned-in}
+use Rattle.row.specs.Row.{Row}
+use Rattle.kinds.specs.Kinds.{itemSize}
+use Rattle.calls.specs.Calls.{allocate-relocatable}
+use Rattle.calls.specs.Bays.{Bays, maxS}
+use Rattle.calls.specs.State.{Fixed}
+use Rattle.calls.specs.Table.{cause, isEmpty, first, order, refusalOf}
+use Rattle.bay.specs.Bay.{Cell, baySum, put}
+use Rattle.zone.specs.Work.{facts, placeLow}
+use Rattle.bays.specs.Places.{BayN, bayN, baysAt, lowBay}
+use Rattle.bays.specs.Found.{Found}
+use Rattle.bays.proofs.Low.{low-is, low-found}
+use Rattle.bays.proofs.Zone.{ZoneBays, zone-bays}
+use Rattle.place.specs.Fit.{blank}
+use Rattle.place.proofs.Cut.{blank-size}
+use Rattle.place.proofs.Placed.{head-low}
+use Rattle.call_laws.specs.Frame.{zoneAt, PlannedIn, refuses, goes}
+use Rattle.allocate_relocatable.specs.Ready.{baysOf, BayIn, GoingIn, ReadyIn}
 
-pub need-four : (c : ℕ) → needOf c % 4 ≡ 0
-need-four c = omega arith
-
-pub start-numbers : (need first : ℕ) (bs : List Block) → bayAt first (firstFit need (bays bs)) ≡ findBay need first first 0 bs
-unfolding sizes freeTotal
-start-numbers need first bs = rw (add-zero first, add-zero first) at (bay-numbers need first [] [] bs)
-
-occurs-first : (g : ℕ) (ls : List ℕ) → 0 < occurs g (g ∷ ls)
-unfolding occurs
-occurs-first g ls = omega (arith, one-same g g refl)
-
-none-left : (s : Structure) → Valid s → headOf (s .chain) ≡ 0 → length (s .chain) ≡ 0
-none-left s v e = go (s .chain) refl e
-  where
-    go : (ls : List ℕ) → s .chain ≡ ls → headOf ls ≡ 0 → length ls ≡ 0
-    go [] q x = refl
-    go (g ∷ ls) q x =
-        let r = offset-is g 16 (count s) (omega (arith, v .owned g, ap (occurs g) q, occurs-first g ls)) in
-        let y : ⊥ = omega (arith, r .0) in
-        absurd y
-
--- ---- the refusals
-
-pub number-3 : (s : Structure) (c : ℕ) → 32760 < c → allocCode s c ≡ 3
-unfolding allocCode
-number-3 s c l = rw (lt-ltb 32760 c l)
-
-pub number-4 : (s : Structure) (c : ℕ) → c ≤ 32760 → length (s .chain) ≡ 0 → allocCode s c ≡ 4
-unfolding allocCode
-number-4 s c l e = rw (le-ltb 32760 c l, eq-eqb (length (s .chain)) 0 e)
-
-pub number-5 : (s : Structure) (c : ℕ) → c ≤ 32760 → (length (s .chain) ≡ 0 → ⊥) → bayFor (needOf c) s ≡ none → allocCode s c ≡ 5
-unfolding allocCode
-number-5 s c l e b = rw (le-ltb 32760 c l, ne-eqb (length (s .chain)) 0 e, b)
-
-pub number-0 : (s : Structure) (c : ℕ) (p : Spot) → c ≤ 32760 → (length (s .chain) ≡ 0 → ⊥) → bayFor (needOf c) s ≡ some p → allocCode s c ≡ 0
-unfolding allocCode
-number-0 s c p l e b = rw (le-ltb 32760 c l, ne-eqb (length (s .chain)) 0 e, b)
-
-other : {A : Type 0} (number k : ℕ) → number ≡ suc k → number ≡ 0 → A
-other number k e q = let x : ⊥ = omega arith in absurd x
-
-module _ (z : List ℕ) (c number need h next a e at n : ℕ) (t : Bool) where
-  pub in-3 : number ≡ 3 → 32760 < c → PlannedIn z c number need h next a e at n t
-  in-3 q l = planned-in (q ∙ sym (number-3 (decodeZone z) c l)) (λ x. other number 2 q x)
-
-  pub in-4 : (k : ℕ) → number ≡ 4 → c ≤ 32760 → IsZone z → k ≡ fromBE (slice z 12 2) → k ≡ 0 → PlannedIn z c number need h next a e at n t
-  in-4 k q l i ek k0 = planned-in (q ∙ sym (number-4 (decodeZone z) c l (none-left (decodeZone z) (valid-zone z (whole-of z i)) (head-is z (whole-of z i) ∙ sym ek ∙ k0)))) (λ x. other number 3 q x)
-
-  pub in-0 : number ≡ 0 → c ≤ 32760 → (k : ℕ) → need ≡ k → k ≡ needOf c → SiteIn z need h next a e at n t → PlannedIn z c number need h next a e at n t
-  in-0 q l k ek en (site-in i x) =
-      planned-in (q ∙ sym (number-0 (decodeZone z) c (x .bay) l (λ y. omega (arith, ap length (x .is-chain))) (ap (λ (m : ℕ). bayFor m (decodeZone z)) (sym (ek ∙ en)) ∙ x .is-bay)))
-      (λ y. (ek ∙ en, site-in i x))
-
--- ---- the bay
-
-module _ (z : List ℕ) (i : IsZone z) (first : ℕ) (ef : first ≡ fromBE (slice z 4 4)) where
-  w : Whole z
-  w = whole-of z i
-
+module _ (z : List ℕ) (c : ℕ) where
   abbrev s : Structure
   s = decodeZone z
 
-  v : Valid s
-  v = valid-zone z w
+  -- ---- the refusal, by whether c is small, the chain, and whether the largest sum reaches the need
 
-  start-of : first ≡ start s
-  start-of = ef ∙ sym (start-is z w)
+  abbrev asks : Bool → List ℕ → Bool → ℕ
+  asks t ls u = first order (cause 1 false ∷ cause 3 (not t) ∷ cause 4 (isEmpty ls) ∷ cause 5 (not u) ∷ [])
 
-  pub zone-row : Row (drop first z)
-  zone-row = row (s .blocks) (valid-sound s v) (ap₂ (λ (k : ℕ) (y : List ℕ). drop k y) start-of (sym (encode-zone z w)) ∙ rest-is s v)
+  abbrev fits : Bool
+  fits = leb (relocNeed c) (maxS baySum (baysOf z))
 
-  pub zone-start : first ≤ length z
-  zone-start = omega (arith, ef, w .within)
+  asked : {t u : Bool} {ls : List ℕ} → leb c relocLimit ≡ t → s .chain ≡ ls → fits ≡ u → (buf : ℕ) → refusalOf (allocate-relocatable c) (facts true (zoneAt buf z)) ≡ asks t ls u
+  asked p q r buf = λ j. asks (p j) (q j) (r j)
 
-  pub zone-short : length z ≤ 1048576
-  zone-short = omega (arith, w .limit, w .all)
+  module _ (R : Type 0) (number : ℕ) where
+    pub in-3 : number ≡ 3 → relocLimit < c → PlannedIn (allocate-relocatable c) z number R
+    in-3 q l = refuses (record { some = λ y. omega arith; is = λ buf. asked (lt-leb c relocLimit l) refl refl buf ∙ sym q })
 
-  tiles-are : blocksOf (drop first z) ≡ s .blocks
-  unfolding blocksOf decodeZone
-  tiles-are = rw ef
+    module _ (l : c ≤ relocLimit) (i : IsZone z) (k : ℕ) (ek : k ≡ fromBE (slice z 12 2)) where
+      v : Valid s
+      v = valid-zone z (whole-of z i)
 
-  bay-of : (need : ℕ) {y : BayN} → y ≡ findBay need first first 0 (blocksOf (drop first z)) → y ≡ bayAt first (bayFor need s)
-  bay-of need {y} q =
-      let b : bayAt first (bayFor need s) ≡ findBay need first first 0 (s .blocks) = start-numbers need first (s .blocks) in
-      q ∙ ap (findBay need first first 0) tiles-are ∙ sym b
+      head-of : headOf (s .chain) ≡ k
+      head-of = head-is z (whole-of z i) ∙ sym ek
 
-  module _ (c need k a e sum : ℕ) (f : Bool) (l : c ≤ 32760) (ek : k ≡ fromBE (slice z 12 2)) (k0 : k ≡ 0 → ⊥) (en : need ≡ needOf c)
-      (q : bayN f a e sum ≡ findBay need first first 0 (blocksOf (drop first z))) where
-    linked : (ks : List ℕ) × (s .chain ≡ k ∷ ks)
-    linked = go (s .chain) refl
-      where
-        go : (ls : List ℕ) → s .chain ≡ ls → (ks : List ℕ) × (s .chain ≡ k ∷ ks)
-        go [] y = absurd (k0 (ek ∙ sym (head-is z w) ∙ ap headOf y))
-        go (g ∷ ls) y = (ls, y ∙ ap (λ (m : ℕ). m ∷ ls) (sym (ek ∙ sym (head-is z w) ∙ ap headOf y)))
+      pub in-4 : number ≡ 4 → k ≡ 0 → PlannedIn (allocate-relocatable c) z number R
+      in-4 q k0 = refuses (record { some = λ y. omega arith; is = λ buf. asked (le-leb c relocLimit l) (go (s .chain) refl) refl buf ∙ sym q })
+        where
+          go : (ls : List ℕ) → s .chain ≡ ls → s .chain ≡ []
+          go [] e = e
+          go (g ∷ ls) e = let x : ⊥ = omega (arith, head-low s v g ls e .0, head-of, ap headOf e) in absurd x
+
+-- ---- the bay
+
+module _ (z : List ℕ) (c : ℕ) (l : c ≤ relocLimit) (i : IsZone z) (k : ℕ) (ek : k ≡ fromBE (slice z 12 2)) (k0 : k ≡ 0 → ⊥) (first : ℕ) (ef : first ≡ firstField z) where
+  linked : (ks : List ℕ) × (decodeZone z .chain ≡ k ∷ ks)
+  linked = go (decodeZone z .chain) refl
+    where
+      go : (ls : List ℕ) → decodeZone z .chain ≡ ls → (ks : List ℕ) × (decodeZone z .chain ≡ k ∷ ks)
+      go [] q = absurd (k0 (ek ∙ sym (head-is z (whole-of z i)) ∙ ap headOf q))
+      go (g ∷ ls) q = (ls, q ∙ ap (λ (m : ℕ). m ∷ ls) (sym (ek ∙ sym (head-is z (whole-of z i)) ∙ ap headOf q)))
+
+  zb : ZoneBays z first
+  zb = zone-bays z i first ef
+
+  pub ask-row : Row (drop first z)
+  ask-row = zb .row
+
+  pub ask-first : first ≤ length z
+  ask-first = zb .low
+
+  pub ask-limit : length z ≤ longestZone
+  ask-limit = zb .short
+
+  module _ (need a e sum tail : ℕ) (f : Bool) (en : need ≡ relocNeed c) (q : bayN f a e sum tail ≡ lowBay need first (baysAt z first)) where
+    reach : leb (relocNeed c) (maxS baySum (baysOf z)) ≡ f
+    reach =
+        ap₂ (λ (m : ℕ) (b : Bays (List Cell) Fixed). leb m (maxS baySum b)) (sym en) (sym (zb .bays)) ∙ sym (low-is need first (baysAt z first)) ∙ ap (λ (b : BayN). b .found) (sym q)
+
+    is-found : f ≡ true → Found (itemSize (blank need k)) (start (decodeZone z)) (length z) (put (blank need k)) (baysOf z) (placeLow (blank need k) (baysOf z)) a e sum tail
+    is-found t =
+        let b : need ≡ itemSize (blank need k) = sym (blank-size need k (omega arith)) in
+        let p : first ≡ start (decodeZone z) = ef ∙ sym (start-is z (whole-of z i)) in
+        subst (λ (o : ℕ). Found (itemSize (blank need k)) o (length z) (put (blank need k)) (baysOf z) (placeLow (blank need k) (baysOf z)) a e sum tail) p
+        (subst (λ (u : Bays (List Cell) Fixed). Found (itemSize (blank need k)) first (length z) (put (blank need k)) u (placeLow (blank need k) u) a e sum tail) (zb .bays)
+        (low-found (itemSize (blank need k)) (length z) (put (blank need k)) f a e sum tail t (baysAt z first) first (zb .tiled) (q ∙ ap (λ (m : ℕ). lowBay m first (baysAt z first)) b)))
 
     pub bay-here : f ≡ true → BayIn z need k a e sum
-    bay-here t = go (bayFor need s) refl (bay-of need q)
-      where
-        go : (ch : Choice) → bayFor need s ≡ ch → bayN f a e sum ≡ bayAt first ch → BayIn z need k a e sum
-        go none y x = absurd (not-both t (ap (λ (b : BayN). b .found) x))
-        go (some p) y x = bay-in i (record {
-          bay = p;
-          is-bay = y;
-          ks = linked .0;
-          is-chain = linked .1;
-          is-start = ap (λ (b : BayN). b .start) x ∙ ap (λ (o : ℕ). o + sizes (p .before)) start-of;
-          is-end = omega (arith, ap (λ (b : BayN). b .end) x, ap (λ (b : BayN). b .start) x);
-          is-sum = ap (λ (b : BayN). b .sum) x;
-          low = omega arith;
-          high = omega arith;
-          four = rw en (need-four c);
-        })
+    bay-here t = record {
+      zone = i;
+      ks = linked .0;
+      is-chain = linked .1;
+      size = record { low = omega arith; high = omega arith; four = omega arith };
+      tail = tail;
+      found = is-found t;
+    }
 
-    pub in-5 : (number need′ h next a′ e′ at n : ℕ) (t : Bool) → number ≡ 5 → f ≡ false → PlannedIn z c number need′ h next a′ e′ at n t
-    in-5 number need′ h next a′ e′ at n t qc fx =
-        planned-in (qc ∙ sym (number-5 s c l (λ y. omega (arith, ap length (linked .1))) (ap (λ (m : ℕ). bayFor m s) (sym en) ∙ no-bay))) (λ x. other number 4 qc x)
-      where
-        no-bay : bayFor need s ≡ none
-        no-bay = go (bayFor need s) refl (bay-of need q)
-          where
-            go : (ch : Choice) → bayFor need s ≡ ch → bayN f a e sum ≡ bayAt first ch → bayFor need s ≡ none
-            go none y x = y
-            go (some p) y x = absurd (not-both refl (ap (λ (b : BayN). b .found) (sym x) ∙ fx))
+    pub in-5 : (R : Type 0) (number : ℕ) → number ≡ 5 → f ≡ false → PlannedIn (allocate-relocatable c) z number R
+    in-5 R number k t = refuses (record { some = λ y. omega arith; is = λ buf. asked z c (le-leb c relocLimit l) (linked .1) (reach ∙ t) buf ∙ sym k })
+
+    pub in-0 : f ≡ true → (number need′ h next a′ e′ at n : ℕ) (tidy : Bool) → number ≡ 0 → need′ ≡ need → GoingIn z need′ h next a′ e′ at n tidy
+        → PlannedIn (allocate-relocatable c) z number (ReadyIn z c need′ (GoingIn z need′ h next a′ e′ at n tidy))
+    in-0 t number need′ h next a′ e′ at n tidy en′ eq g = goes en′ (record { is-need = eq ∙ en; passed = asked z c (le-leb c relocLimit l) (linked .1) (reach ∙ t); goes = g })

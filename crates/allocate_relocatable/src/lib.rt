@@ -1,75 +1,21 @@
 // Allocate relocatable: a block with the chain's head as its handle, in the lowest bay whose sum reaches its size.
 ghost use mathlib.Core.Path.{_≡_};
-ghost use Prim.Native.Nat.{_+_, _<_, _≤_};
-ghost use lib.ListN.{length};
+ghost use mathlib.Core.List.{[], _∷_};
+ghost use Prim.Native.Nat.{_-_, _≤_};
+ghost use lib.ListN.{take};
+ghost use Rattle.block_type.specs.Limits.{zoneHeader};
 ghost use Rattle.bigendian.specs.BigEndian.{toBE, overwrite};
 ghost use Rattle.structure.specs.Structure.{encode, decodeZone};
 ghost use Rattle.access.specs.Edit.{IsZone};
-ghost use Rattle.row.specs.Row.{bytesOf};
-ghost use Rattle.surgery.specs.Carved.{carvedFrom, carvedBytes};
-ghost use Rattle.allocate_relocatable.specs.Alloc.{allocated};
+ghost use Rattle.bay.specs.Bay.{held, gap};
+ghost use Rattle.slide.specs.ZoneBay.{settled};
+ghost use Rattle.place.specs.Fit.{blank, Fit};
 ghost use Rattle.calls.specs.Calls.{told, allocate-relocatable};
 ghost use Rattle.zone.specs.Call.{result, call};
-ghost use Rattle.allocate_relocatable.specs.Site.{Fit, SiteIn, BayIn, PlannedIn, Planned};
+ghost use Rattle.call_laws.specs.Frame.{PlannedIn, Planned};
+ghost use Rattle.allocate_relocatable.specs.Ready.{allocated, BayIn, Going, Ready};
 use block_type::BlockType;
 use calls::Told;
-
-// A relocatable block of `need` bytes with handle h from the low end of the free block of n bytes at `at`; the rest of that stays free.
-pub fn cut_block(z: &mut [u8], at: usize, n: usize, need: usize, h: usize)
-    requires { ⌜ Fit (now z) at n need h ⌝ }
-    ensures { λ _. ⌜ now (z .exit) ≡ overwrite (now (z .entry)) at (bytesOf (carvedFrom need h n)) ⌝ }
-{
-    bigendian::put2(
-        z,
-        at,
-        (BlockType::RELOCATABLE_CODE as usize * 16384 + need / 2) as u32,
-    );
-    bigendian::put2(z, at + 2, h as u32);
-    if need < n {
-        bigendian::put4(z, at + need, ((n - need) / 2) as u32);
-    }
-}
-
-// Master h leaves the chain, which goes on with `next`, and holds the first data byte of the block at `at`.
-fn unlink(z: &mut [u8], h: usize, next: u32, at: usize)
-    requires { ⌜ (14 ≤ length (now z)) × (h + 4 ≤ length (now z)) × (at ≤ 1048576) ⌝ }
-    ensures { λ _. ⌜ now (z .exit) ≡ overwrite (overwrite (now (z .entry)) 12 (toBE 2 next)) h (toBE 4 (at + 4)) ⌝ }
-{
-    bigendian::put2(z, 12, next);
-    bigendian::put4(z, h, (at + BlockType::RELOCATABLE_HEADER) as u32);
-}
-
-// The new block in the free block of n bytes at `at`.
-fn carve(z: &mut [u8], at: usize, n: usize, need: usize, h: usize, next: u32)
-    requires { ⌜ Fit (now z) at n need h ⌝ }
-    ensures { λ _. ⌜ now (z .exit) ≡ carvedBytes (now (z .entry)) need h next at n ⌝ }
-{
-    cut_block(z, at, n, need, h);
-    unlink(z, h, next, at);
-}
-
-// The new block in the bay from a to e: in the free block of n bytes at `at`, which is there after compacting where tidy says so.
-fn place(
-    z: &mut [u8],
-    need: usize,
-    h: usize,
-    next: u32,
-    a: usize,
-    e: usize,
-    at: usize,
-    n: usize,
-    tidy: bool,
-)
-    requires { ⌜ SiteIn (now z) need h next a e at n tidy ⌝ }
-    ensures { λ _. ⌜ now (z .exit) ≡ encode (allocated need (decodeZone (now (z .entry)))) ⌝ }
-{
-    if tidy {
-        compact_bay::compact_bay(z, a, e);
-        carve(z, at, n, need, h, next);
-    } else {
-        carve(z, at, n, need, h, next);
-    }
-}
 
 pub struct Plan {
     pub number: u32,
@@ -84,8 +30,31 @@ pub struct Plan {
     pub tidy: bool,
 }
 
+// Master h leaves the chain, which goes on with `next`, for a new block in the free block of n bytes at `at`.
+fn carve(z: &mut [u8], at: usize, n: usize, need: usize, h: usize, next: u32)
+    requires { ⌜ Fit (now z) at n need h × (zoneHeader ≤ h) ⌝ }
+    ensures { λ _. ⌜ now (z .exit) ≡ settled (overwrite (now (z .entry)) 12 (toBE 2 next)) at (held (blank need h) ∷ gap (n - need) []) ⌝ }
+{
+    bigendian::put2(z, 12, next);
+    place::cut_block(z, at, n, need, h);
+    bigendian::put4(z, h, (at + BlockType::RELOCATABLE_HEADER) as u32);
+}
+
+// The new block in its bay, which is compacted first where the plan says so.
+fn allocate_in(z: &mut [u8], p: Plan)
+    requires { ⌜ Going (now z) p ⌝ }
+    ensures { λ _. ⌜ now (z .exit) ≡ encode (allocated (p .need) (decodeZone (now (z .entry)))) ⌝ }
+{
+    if p.tidy {
+        slide::compact_bay(z, p.start, p.end);
+        carve(z, p.at, p.size, p.need, p.handle, p.next);
+    } else {
+        carve(z, p.at, p.size, p.need, p.handle, p.next);
+    }
+}
+
 fn no_plan(number: u32) -> Plan
-    ensures { λ r. ⌜ (r .number ≡ number) × (r .len ≡ 0) ⌝ }
+    ensures { λ r. ⌜ r .number ≡ number ⌝ }
 {
     Plan {
         number,
@@ -104,10 +73,10 @@ fn no_plan(number: u32) -> Plan
 // The plan in a well-formed zone, in a bay that has been found.
 fn plan_bay(z: &[u8], need: usize, h: usize, start: usize, end: usize, sum: usize) -> Plan
     requires { ⌜ BayIn (now z) need h start end sum ⌝ }
-    ensures { λ r. ⌜ (r .number ≡ 0) × (r .need ≡ need) × (r .handle ≡ h) × SiteIn (now (z .entry)) (r .need) (r .handle) (r .next) (r .start) (r .end) (r .at) (r .size) (r .tidy) ⌝ }
+    ensures { λ r. ⌜ (r .number ≡ 0) × (r .need ≡ need) × Going (now (z .entry)) r ⌝ }
 {
     let next = bigendian::get4(z, h);
-    let hole = find_bay::find_hole(&z[start..end], need);
+    let hole = place::find_hole(&z[start..end], need);
     let found = hole.found;
     let at = hole.at;
     let size = hole.size;
@@ -142,7 +111,7 @@ fn plan_bay(z: &[u8], need: usize, h: usize, start: usize, end: usize, sum: usiz
 // The plan in a well-formed zone.
 fn plan_in(z: &[u8], c: u32) -> Plan
     requires { ⌜ IsZone (now z) ⌝ }
-    ensures { λ r. ⌜ PlannedIn (now (z .entry)) c (r .number) (r .need) (r .handle) (r .next) (r .start) (r .end) (r .at) (r .size) (r .tidy) ⌝ }
+    ensures { λ r. ⌜ PlannedIn (allocate-relocatable c) (now (z .entry)) (r .number) (Ready (now (z .entry)) c r) ⌝ }
 {
     if BlockType::RELOCATABLE_LIMIT < c {
         return no_plan(3);
@@ -153,7 +122,7 @@ fn plan_in(z: &[u8], c: u32) -> Plan
     }
     let need = (BlockType::RELOCATABLE_HEADER + c as usize + 3) / 4 * 4;
     let first = bigendian::get4(z, 4) as usize;
-    let b = find_bay::find_bay(z, first, need);
+    let b = bays::find_low(z, first, need);
     let found = b.found;
     let start = b.start;
     let end = b.end;
@@ -166,7 +135,7 @@ fn plan_in(z: &[u8], c: u32) -> Plan
 
 // The plan: the refusal, 0 for none, and then what the call is to write.
 fn plan_zone(zone: &[u8], c: u32) -> Plan
-    ensures { λ r. ⌜ Planned (now (zone .entry)) c (r .number) (r .len) (r .need) (r .handle) (r .next) (r .start) (r .end) (r .at) (r .size) (r .tidy) ⌝ }
+    ensures { λ r. ⌜ Planned (allocate-relocatable c) (now (zone .entry)) (r .number) (r .len) (Ready (take (r .len) (now (zone .entry))) c r) ⌝ }
 {
     let k = zone_check::check(zone);
     let ok = k.ok;
@@ -205,26 +174,9 @@ pub fn allocate_relocatable(zone: &mut [u8], c: u32) -> Told
     let p = plan_zone(zone, c);
     let number = p.number;
     let l = p.len;
-    let need = p.need;
     let handle = p.handle;
-    let next = p.next;
-    let start = p.start;
-    let end = p.end;
-    let at = p.at;
-    let size = p.size;
-    let tidy = p.tidy;
     if number == 0 {
-        place(
-            &mut zone[..l],
-            need,
-            handle,
-            next,
-            start,
-            end,
-            at,
-            size,
-            tidy,
-        );
+        allocate_in(&mut zone[..l], p);
         let value = handle as u32;
         return Told { number: 0, value };
     }

@@ -5,7 +5,8 @@ use mathlib.Core.Bool.{Bool, true, false, cond}
 use mathlib.Core.List.{List, [], _∷_, _++_, append-assoc}
 use Prim.Native.Nat.{ℕ}
 use native.Mathlib.Omega.{arith}
-use Rattle.structure.specs.Structure.{Block, free, fixed, reloc}
+use Rattle.structure.specs.Structure.{Block, fixed, cell}
+use Rattle.bay.specs.Bay.{free, held}
 use Rattle.row.specs.Row.{freeB, fixedB}
 use Rattle.find_bay.specs.Spots.{Spot, spot, baysFrom, bays, Choice, none as noSpot, some as theSpot}
 use Rattle.surgery.proofs.Sound.{lastFree}
@@ -17,9 +18,9 @@ last-snoc q [] b = refl
 last-snoc q (x ∷ a) b = last-snoc (freeB x) a b
 
 fixed-used : (b : Block) → fixedB b ≡ true → freeB b ≡ false
-fixed-used (free n) e = let z : _≡_ {A = ℕ} 0 1 = cc in let x : ⊥ = omega arith in absurd x
+fixed-used (cell (free n)) e = let z : _≡_ {A = ℕ} 0 1 = cc in let x : ⊥ = omega arith in absurd x
 fixed-used (fixed d) e = refl
-fixed-used (reloc h d) e = refl
+fixed-used (cell (held it)) e = refl
 
 all-from : (ws pre mid bs : List Block) → ws ≡ pre ++ (mid ++ bs) → lastFree false pre ≡ false → AllS (IsBay ws) (baysFrom pre mid bs)
 unfolding baysFrom
@@ -70,6 +71,3 @@ module _ (P : Spot → Type 0) (t : List Block → Bool) where
 
 pub low-bay : (t : List Block → Bool) (bs : List Block) (p : Spot) → firstBy t (bays bs) ≡ theSpot p → IsBay bs p × (t (p .inside) ≡ true)
 low-bay t bs p e = first-all (IsBay bs) t (bays bs) p (all-bays bs) e
-
-pub high-bay : (t : List Block → Bool) (bs : List Block) (p : Spot) → lastBy t (bays bs) ≡ theSpot p → IsBay bs p × (t (p .inside) ≡ true)
-high-bay t bs p e = last-all (IsBay bs) t (bays bs) p (all-bays bs) e

@@ -6,25 +6,26 @@ use mathlib.Core.List.{List, [], _∷_, _++_}
 use Prim.Native.Nat.{ℕ, suc, _+_, _-_, _≤_}
 use native.Mathlib.Omega.{arith}
 use borrow.Author.Tests.{eqb-true}
-use Rattle.format.proofs.Count.{occurs}
-use Rattle.structure.specs.Structure.{Block, free, reloc}
+use Rattle.format.specs.Occurs.{occurs}
+use Rattle.structure.specs.Structure.{Block, cell}
 use Rattle.structure.specs.Valid.{handlesOf}
 use Rattle.calls.specs.Bays.{over}
-use Rattle.calls.specs.State.{Item, is}
-use Rattle.zone.specs.Bay.{Cell, free as gapCell, held, items, inPlace, growHere}
-use Rattle.zone.specs.Counted.{count}
+use Rattle.kinds.specs.Kinds.{Item, item}
+use Rattle.calls.specs.State.{is}
+use Rattle.bay.specs.Bay.{Cell, free, held, items, inPlace, growHere}
+use Rattle.bay.specs.Counted.{count}
 use Rattle.bay_spots.proofs.Spots.{blocksIn}
 
 -- where the block of handle h stands: pre before it, the cells rest behind it
 pub record Stands (h a : ℕ) (cs : List Cell) : Type 0 where
   pub pre : List Block
-  pub item : Item
+  pub mine : Item
   pub rest : List Cell
-  pub its : h ≡ item .handle
-  pub parts : blocksIn cs ≡ pre ++ (reloc (item .handle) (item .bytes) ∷ blocksIn rest)
+  pub its : h ≡ mine .handle
+  pub parts : blocksIn cs ≡ pre ++ (cell (held mine) ∷ blocksIn rest)
   pub first : occurs h (handlesOf pre) ≡ 0
   -- what growing in place leaves
-  pub grows : over blocksIn (growHere h a cs) ≡ over (λ (ds : List Cell). pre ++ blocksIn ds) (inPlace item a rest)
+  pub grows : over blocksIn (growHere h a cs) ≡ over (λ (ds : List Cell). pre ++ blocksIn ds) (inPlace mine a rest)
 
 over-front : (b : Block) (f : List Cell → List Cell) → ((ds : List Cell) → blocksIn (f ds) ≡ b ∷ blocksIn ds) → (o p : Option (List Cell)) (pre : List Block)
     → over blocksIn o ≡ over (λ (ds : List Cell). pre ++ blocksIn ds) p → over blocksIn (over f o) ≡ over (λ (ds : List Cell). (b ∷ pre) ++ blocksIn ds) p
@@ -42,23 +43,23 @@ over-same (some ds) = refl
 pub stands : (h a : ℕ) (cs : List Cell) → 1 ≤ count h (items cs) → Stands h a cs
 unfolding occurs handlesOf
 stands h a [] l = let x : ⊥ = omega arith in absurd x
-stands h a (gapCell k ∷ cs) l =
+stands h a (free k ∷ cs) l =
     let r = stands h a cs l in
     record {
-      pre = free k ∷ r .pre;
-      item = r .item;
+      pre = cell (free k) ∷ r .pre;
+      mine = r .mine;
       rest = r .rest;
       its = r .its;
-      parts = ap (free k ∷_) (r .parts);
+      parts = ap (cell (free k) ∷_) (r .parts);
       first = r .first;
-      grows = over-front (free k) (gapCell k ∷_) (λ ds. refl) (growHere h a cs) (inPlace (r .item) a (r .rest)) (r .pre) (r .grows);
+      grows = over-front (cell (free k)) (free k ∷_) (λ ds. refl) (growHere h a cs) (inPlace (r .mine) a (r .rest)) (r .pre) (r .grows);
     }
 stands h a (held e ∷ cs) l = go (is h e) refl l (stands h a cs)
   where
     go : (t : Bool) → is h e ≡ t → 1 ≤ cond t (suc (count h (items cs))) (count h (items cs)) → (1 ≤ count h (items cs) → Stands h a cs) → Stands h a (held e ∷ cs)
     go true q l f = record {
       pre = [];
-      item = e;
+      mine = e;
       rest = cs;
       its = eqb-true h (e .handle) q;
       parts = refl;
@@ -68,11 +69,11 @@ stands h a (held e ∷ cs) l = go (is h e) refl l (stands h a cs)
     go false q l f =
         let r = f l in
         record {
-          pre = reloc (e .handle) (e .bytes) ∷ r .pre;
-          item = r .item;
+          pre = cell (held e) ∷ r .pre;
+          mine = r .mine;
           rest = r .rest;
           its = r .its;
-          parts = ap (reloc (e .handle) (e .bytes) ∷_) (r .parts);
+          parts = ap (cell (held e) ∷_) (r .parts);
           first = rw q (omega (arith, r .first));
-          grows = (rw q) ∙ over-front (reloc (e .handle) (e .bytes)) (held e ∷_) (λ ds. refl) (growHere h a cs) (inPlace (r .item) a (r .rest)) (r .pre) (r .grows);
+          grows = (rw q) ∙ over-front (cell (held e)) (held e ∷_) (λ ds. refl) (growHere h a cs) (inPlace (r .mine) a (r .rest)) (r .pre) (r .grows);
         }

@@ -8,12 +8,12 @@ use native.Mathlib.Omega.{arith}
 use lib.ListN.{length}
 use lib.Dec.{eqb, leb}
 use borrow.Author.Tests.{eqb-true}
-use Rattle.format.proofs.Count.{occurs}
+use Rattle.format.specs.Occurs.{occurs}
 use Rattle.structure.specs.Valid.{handlesOf}
 use Rattle.access.specs.Edit.{dataOf}
 use Rattle.calls.specs.State.{is, get}
-use Rattle.zone.specs.Bay.{Cell, free as gapCell, held, baySum, items}
-use Rattle.zone.specs.Counted.{count, roomFor}
+use Rattle.bay.specs.Bay.{Cell, free, held, baySum, items}
+use Rattle.bay.specs.Counted.{count, roomFor}
 use Rattle.zone.specs.Search.{own}
 use Rattle.bay_spots.proofs.Spots.{blocksIn, sum-flat}
 pub use Rattle.bay_changes.specs.OwnBay.{ownBlocks}
@@ -21,7 +21,7 @@ pub use Rattle.bay_changes.specs.OwnBay.{ownBlocks}
 pub count-flat : (h : ℕ) (cs : List Cell) → count h (items cs) ≡ occurs h (handlesOf (blocksIn cs))
 unfolding occurs handlesOf
 count-flat h [] = refl
-count-flat h (gapCell n ∷ cs) = count-flat h cs
+count-flat h (free n ∷ cs) = count-flat h cs
 count-flat h (held e ∷ cs) = go (is h e) (count-flat h cs)
   where
     go : (t : Bool) → count h (items cs) ≡ occurs h (handlesOf (blocksIn cs)) → cond t (suc (count h (items cs))) (count h (items cs)) ≡ cond t 1 0 + occurs h (handlesOf (blocksIn cs))
@@ -31,7 +31,7 @@ count-flat h (held e ∷ cs) = go (is h e) (count-flat h cs)
 room-flat : (h a n : ℕ) (cs : List Cell) → 1 ≤ count h (items cs) → roomFor a n (get h (items cs)) ≡ leb (a - length (dataOf h (blocksIn cs))) n
 unfolding dataOf
 room-flat h a n [] l = let x : ⊥ = omega arith in absurd x
-room-flat h a n (gapCell k ∷ cs) l = room-flat h a n cs l
+room-flat h a n (free k ∷ cs) l = room-flat h a n cs l
 room-flat h a n (held e ∷ cs) l = go (is h e) l (room-flat h a n cs)
   where
     go : (t : Bool) → 1 ≤ cond t (suc (count h (items cs))) (count h (items cs)) → (1 ≤ count h (items cs) → roomFor a n (get h (items cs)) ≡ leb (a - length (dataOf h (blocksIn cs))) n)

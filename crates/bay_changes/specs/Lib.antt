@@ -1,2 +1,1 @@
-pub mod TakeOff
 pub mod OwnBay

@@ -1,28 +1,55 @@
 -- A new relocatable block in a bay: in the flat list of its blocks it is `settle`.
 use mathlib.Core.Path.{_≡_, refl, sym, ap, _∙_}
-use mathlib.Core.Option.{Option, Option·getD}
-use mathlib.Core.List.{List, [], _∷_, _++_, append-assoc, append-nil}
+use mathlib.Core.Bool.{Bool, true, false, cond}
+use mathlib.Core.Option.{Option, none, some}
+use mathlib.Core.List.{List, [], _∷_, _++_, map, append-assoc}
 use Prim.Native.Nat.{ℕ, zero, suc, _+_, _-_}
 use native.Mathlib.Nat.{add-zero}
 use native.Mathlib.Omega.{arith}
 use lib.Dec.{leb}
 use borrow.Author.Tests.{ne-eqb}
-use lib.ListN.{replicate}
-use Rattle.structure.specs.Structure.{Block, free, reloc}
-use Rattle.find_bay.specs.Spots.{freeTotal, Spot, spot, put, holesFrom, holes, Choice, firstFit, used, gapOf, carve, orElse, settle}
-use Rattle.zone.specs.Bay as Bay
-use Rattle.calls.specs.State.{Item, itemSize}
-use Rattle.zone.specs.Bay.{Cell, free as gapCell, held, baySum, items, gap, packed, fit}
-use Rattle.zone.proofs.Sound.{Sound, s-nil, s-end, s-free, s-held}
-use Rattle.bay_spots.proofs.Spots.{blocksIn, sum-flat, packed-flat, gap-flat, Paired, neither, both, paired-over, paired-cond}
+use Rattle.structure.specs.Structure.{Block, cell}
+use Rattle.find_bay.specs.Spots.{freeTotal, Spot, put, holesFrom, holes, firstFit, gapOf}
+use Rattle.calls.specs.Bays.{over}
+use Rattle.bay.specs.Bay as Bay
+use Rattle.kinds.specs.Kinds.{Item, itemSize}
+use Rattle.bay.specs.Bay.{Cell, free, held, gap, Hole, behind, holes as holesIn, choose, fill}
+use Rattle.bay.proofs.Sound.{Sound, s-nil, s-end, s-free, s-held}
+use Rattle.bay_spots.proofs.Spots.{blocksIn, gap-flat, Paired, neither, both, paired-over, paired-cond}
+
+-- the choice and the filling in one recursion over the bay
+abbrev pub fit : Item → List Cell → Option (List Cell)
+fit e [] = none
+fit e (free k ∷ cs) = cond (leb (itemSize e) k) (some (held e ∷ gap (k - itemSize e) cs)) (over (free k ∷_) (fit e cs))
+fit e (held d ∷ cs) = over (held d ∷_) (fit e cs)
+
+over-behind : (e : Item) (n : ℕ) (c : Cell) (xs : List Hole) → over (fill e) (choose n (map (behind c) xs)) ≡ over (c ∷_) (over (fill e) (choose n xs))
+over-behind e n c [] = refl
+over-behind e n c (x ∷ xs) = go (leb n (x .size)) (over-behind e n c xs)
+  where
+    go : (t : Bool) → over (fill e) (choose n (map (behind c) xs)) ≡ over (c ∷_) (over (fill e) (choose n xs))
+        → over (fill e) (cond t (some (behind c x)) (choose n (map (behind c) xs))) ≡ over (c ∷_) (over (fill e) (cond t (some x) (choose n xs)))
+    go true q = refl
+    go false q = q
+
+pub fit-is : (e : Item) (cs : List Cell) → over (fill e) (choose (itemSize e) (holesIn cs)) ≡ fit e cs
+fit-is e [] = refl
+fit-is e (free k ∷ cs) = go (leb (itemSize e) k) (over-behind e (itemSize e) (free k) (holesIn cs) ∙ ap (over (free k ∷_)) (fit-is e cs))
+  where
+    go : (t : Bool) → over (fill e) (choose (itemSize e) (map (behind (free k)) (holesIn cs))) ≡ over (free k ∷_) (fit e cs)
+        → over (fill e) (cond t (some (record { before = []; size = k; after = cs })) (choose (itemSize e) (map (behind (free k)) (holesIn cs))))
+        ≡ cond t (some (held e ∷ gap (k - itemSize e) cs)) (over (free k ∷_) (fit e cs))
+    go true q = refl
+    go false q = q
+fit-is e (held d ∷ cs) = over-behind e (itemSize e) (held d) (holesIn cs) ∙ ap (over (held d ∷_)) (fit-is e cs)
 
 -- in a sound bay no free block follows a free block
-pub gap-behind : (k n : ℕ) (cs : List Cell) → Sound (gapCell k ∷ cs) → blocksIn (gap n cs) ≡ gapOf n ++ blocksIn cs
+pub gap-behind : (k n : ℕ) (cs : List Cell) → Sound (free k ∷ cs) → blocksIn (gap n cs) ≡ gapOf n ++ blocksIn cs
 gap-behind k zero cs d = refl
 gap-behind k (suc n) [] (s-end b) = ap (_++ []) (gap-flat (suc n))
 gap-behind k (suc n) (held e ∷ cs) (s-free b d) = rw (ne-eqb (suc n) 0 (λ e. omega arith))
 
-tail : (k : ℕ) (cs : List Cell) → Sound (gapCell k ∷ cs) → Sound cs
+tail : (k : ℕ) (cs : List Cell) → Sound (free k ∷ cs) → Sound cs
 tail k [] (s-end b) = s-nil
 tail k (held e ∷ cs) (s-free b d) = d
 
@@ -34,7 +61,7 @@ module _ (e : Item) where
   need = itemSize e
 
   abbrev new : Spot → List Block
-  new p = put p (reloc (e .handle) (e .bytes) ∷ gapOf (freeTotal (p .inside) - need))
+  new p = put p (cell (held e) ∷ gapOf (freeTotal (p .inside) - need))
 
   -- the cells ds are the blocks with the new block in the hole p, pre standing before them
   abbrev Fits : List Block → List Cell → Spot → Type 0
@@ -43,32 +70,13 @@ module _ (e : Item) where
   fit-from : (pre : List Block) (cs : List Cell) → Sound cs → Paired (Fits pre) (fit e cs) (firstFit need (holesFrom pre (blocksIn cs)))
   unfolding holesFrom firstFit freeTotal
   fit-from pre [] d = neither
-  fit-from pre (gapCell k ∷ cs) d =
+  fit-from pre (free k ∷ cs) d =
       paired-cond (leb need k) (leb need (k + 0)) (ap (leb need) (sym (add-zero k)))
-      (λ q. both (ap (λ (r : List Block). pre ++ (reloc (e .handle) (e .bytes) ∷ r)) (gap-behind k (k - need) cs d ∙ ap (λ (j : ℕ). gapOf (j - need) ++ blocksIn cs) (sym (add-zero k)))))
-      (λ q. paired-over (gapCell k ∷_) (λ ds p r. sym (append-assoc pre (free k ∷ []) (blocksIn ds)) ∙ r) (fit-from (pre ++ free k ∷ []) cs (tail k cs d)))
+      (λ q. both (ap (λ (r : List Block). pre ++ (cell (held e) ∷ r)) (gap-behind k (k - need) cs d ∙ ap (λ (j : ℕ). gapOf (j - need) ++ blocksIn cs) (sym (add-zero k)))))
+      (λ q. paired-over (free k ∷_) (λ ds p r. sym (append-assoc pre (cell (free k) ∷ []) (blocksIn ds)) ∙ r) (fit-from (pre ++ cell (free k) ∷ []) cs (tail k cs d)))
   fit-from pre (held i ∷ cs) d =
-      paired-over (held i ∷_) (λ ds p r. sym (append-assoc pre (reloc (i .handle) (i .bytes) ∷ []) (blocksIn ds)) ∙ r)
-      (fit-from (pre ++ reloc (i .handle) (i .bytes) ∷ []) cs (tail-held i cs d))
+      paired-over (held i ∷_) (λ ds p r. sym (append-assoc pre (cell (held i) ∷ []) (blocksIn ds)) ∙ r)
+      (fit-from (pre ++ cell (held i) ∷ []) cs (tail-held i cs d))
 
   pub fit-hole : (cs : List Cell) → Sound cs → Paired (Fits []) (fit e cs) (firstFit need (holes (blocksIn cs)))
   fit-hole cs d = fit-from [] cs d
-
-  -- "In it the lowest free block that is big enough, from its low end; if none is, the bay is compacted first."
-  pub put-settle : (cs : List Cell) → Sound cs → e .bytes ≡ replicate (need - 4) 0 → blocksIn (Bay.put e cs) ≡ settle need (e .handle) (blocksIn cs)
-  unfolding settle carve freeTotal
-  put-settle cs d z = go (fit-hole cs d)
-    where
-      full : (p : Spot) → new p ≡ put p (reloc (e .handle) (replicate (need - 4) 0) ∷ gapOf (freeTotal (p .inside) - need))
-      full p = ap (λ (x : List ℕ). put p (reloc (e .handle) x ∷ gapOf (freeTotal (p .inside) - need))) z
-
-      go : {o : Option (List Cell)} {c : Choice} → Paired (Fits []) o c
-          → blocksIn (Option·getD o (packed (items cs) (held e ∷ gap (baySum cs - need) [])))
-          ≡ carve need (e .handle) (orElse c (spot (used (blocksIn cs)) (free (freeTotal (blocksIn cs)) ∷ []) []))
-      go neither =
-          packed-flat cs (held e ∷ gap (baySum cs - need) [])
-          ∙ ap (used (blocksIn cs) ++_)
-          (ap (reloc (e .handle) (e .bytes) ∷_) (gap-flat (baySum cs - need) ∙ ap (λ (j : ℕ). gapOf (j - need)) (sym (add-zero (freeTotal (blocksIn cs)) ∙ sum-flat cs)))
-          ∙ sym (append-nil _))
-          ∙ full (spot (used (blocksIn cs)) (free (freeTotal (blocksIn cs)) ∷ []) [])
-      go (both {p = p} r) = r ∙ full p

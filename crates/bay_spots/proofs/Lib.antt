@@ -1,4 +1,3 @@
 pub mod Fit
-pub mod High
 pub mod Low
 pub mod Spots

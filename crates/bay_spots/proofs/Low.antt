@@ -9,7 +9,7 @@ use Rattle.structure.specs.Structure.{Block, fixed}
 use Rattle.find_bay.specs.Spots.{freeTotal, Spot, put, bays, firstFit}
 use Rattle.calls.specs.Bays.{Bays, last, more}
 use Rattle.zone.specs.PickBays.{onLow, AllS}
-use Rattle.zone.specs.Bay.{Cell}
+use Rattle.bay.specs.Bay.{Cell}
 use Rattle.calls.specs.State.{Fixed}
 use Rattle.zone.specs.Search.{reaches}
 use Rattle.zone.specs.Group.{flatBay, flatten}

@@ -8,10 +8,12 @@ use native.Mathlib.Omega.{arith}
 use lib.Dec.{leb}
 use borrow.Author.Tests.{ne-eqb}
 use lib.ListN.{length}
-use Rattle.structure.specs.Structure.{Block, free, fixed, reloc, sizes}
+use Rattle.block_type.specs.Limits.{relocHeader}
+use Rattle.structure.specs.Structure.{Block, fixed, sizes, cell}
 use Rattle.find_bay.specs.Spots.{freeTotal, Spot, spot, baysFrom, bays, Choice, none as noSpot, some as theSpot, firstFit, used, gapOf}
 use Rattle.calls.specs.Bays.{Bays, last, more, over, orElse}
-use Rattle.zone.specs.Bay.{Cell, free as gapCell, held, baySize, baySum, items, gap, packed}
+use Rattle.bay.specs.Bay.{Cell, free, held, baySize, baySum, items, gap, packed}
+use Rattle.kinds.specs.Kinds.{item}
 use Rattle.calls.specs.State.{Fixed}
 use Rattle.zone.specs.Group.{flatBay, flatten}
 pub use Rattle.bay_spots.specs.Choose.{orSpot, firstBy, lastBy}
@@ -20,8 +22,8 @@ pub use Rattle.bay_spots.specs.Choose.{orSpot, firstBy, lastBy}
 
 pub flat-append : (cs : List Cell) (a r : List Block) → flatBay cs (a ++ r) ≡ flatBay cs a ++ r
 flat-append [] a r = refl
-flat-append (gapCell n ∷ cs) a r = ap (free n ∷_) (flat-append cs a r)
-flat-append (held e ∷ cs) a r = ap (reloc (e .handle) (e .bytes) ∷_) (flat-append cs a r)
+flat-append (free n ∷ cs) a r = ap (cell (free n) ∷_) (flat-append cs a r)
+flat-append (held e ∷ cs) a r = ap (cell (held e) ∷_) (flat-append cs a r)
 
 abbrev pub blocksIn : List Cell → List Block
 blocksIn cs = flatBay cs []
@@ -32,21 +34,21 @@ flat-split cs r = flat-append cs [] r
 pub sum-flat : (cs : List Cell) → freeTotal (blocksIn cs) ≡ baySum cs
 unfolding freeTotal
 sum-flat [] = refl
-sum-flat (gapCell n ∷ cs) = ap (n +_) (sum-flat cs)
+sum-flat (free n ∷ cs) = ap (n +_) (sum-flat cs)
 sum-flat (held e ∷ cs) = omega (arith, sum-flat cs)
 
 pub size-flat : (cs : List Cell) → sizes (blocksIn cs) ≡ baySize cs
 unfolding sizes
 size-flat [] = refl
-size-flat (gapCell n ∷ cs) = ap (n +_) (size-flat cs)
-size-flat (held e ∷ cs) = ap (4 + length (e .bytes) +_) (size-flat cs)
+size-flat (free n ∷ cs) = ap (n +_) (size-flat cs)
+size-flat (held e ∷ cs) = ap (relocHeader + length (e .bytes) +_) (size-flat cs)
 
 -- the relocatable blocks at the start, then the cells t
 pub packed-flat : (cs t : List Cell) → blocksIn (packed (items cs) t) ≡ used (blocksIn cs) ++ blocksIn t
 unfolding used
 packed-flat [] t = refl
-packed-flat (gapCell n ∷ cs) t = packed-flat cs t
-packed-flat (held e ∷ cs) t = ap (reloc (e .handle) (e .bytes) ∷_) (packed-flat cs t)
+packed-flat (free n ∷ cs) t = packed-flat cs t
+packed-flat (held e ∷ cs) t = ap (cell (held e) ∷_) (packed-flat cs t)
 
 -- n free bytes with nothing behind them
 pub gap-flat : (n : ℕ) → blocksIn (gap n []) ≡ gapOf n
@@ -62,10 +64,10 @@ spotsFrom pre (more b x s) = spot pre (blocksIn b) (fixed (x .bytes) ∷ flatten
 bay-walk : (pre mid : List Block) (cs : List Cell) (r : List Block) → baysFrom pre mid (flatBay cs r) ≡ baysFrom pre (mid ++ blocksIn cs) r
 unfolding baysFrom
 bay-walk pre mid [] r = ap (λ (m : List Block). baysFrom pre m r) (sym (append-nil mid))
-bay-walk pre mid (gapCell n ∷ cs) r = bay-walk pre (mid ++ free n ∷ []) cs r ∙ ap (λ (m : List Block). baysFrom pre m r) (append-assoc mid (free n ∷ []) (blocksIn cs))
+bay-walk pre mid (free n ∷ cs) r = bay-walk pre (mid ++ cell (free n) ∷ []) cs r ∙ ap (λ (m : List Block). baysFrom pre m r) (append-assoc mid (cell (free n) ∷ []) (blocksIn cs))
 bay-walk pre mid (held e ∷ cs) r =
-    bay-walk pre (mid ++ reloc (e .handle) (e .bytes) ∷ []) cs r
-    ∙ ap (λ (m : List Block). baysFrom pre m r) (append-assoc mid (reloc (e .handle) (e .bytes) ∷ []) (blocksIn cs))
+    bay-walk pre (mid ++ cell (held e) ∷ []) cs r
+    ∙ ap (λ (m : List Block). baysFrom pre m r) (append-assoc mid (cell (held e) ∷ []) (blocksIn cs))
 
 pub spots-from : (pre : List Block) (s : Bays (List Cell) Fixed) → baysFrom pre [] (flatten s) ≡ spotsFrom pre s
 unfolding baysFrom

@@ -7,8 +7,8 @@ use native.Mathlib.Numerals.{add-one, add-two, towards-suc}
 use native.Mathlib.Omega.{arith}
 use lib.Arith.{digits-lt, digits-div, mod-mul}
 use lib.Pow.{pow-add}
-use lib.ListN.{length, getD, set, length-append}
-use lib.Seq.{drop-cons, sets-eq}
+use lib.ListN.{length, getD, take, set, length-append}
+use lib.Seq.{take-at, drop-cons, sets-eq}
 use Rattle.bigendian.specs.BigEndian.{fromBE, toBE, slice, overwrite, Bytes}
 
 pub pow256-pos : (n : ℕ) → 0 < 256 ^ n
@@ -44,6 +44,10 @@ be-toBE-mod (suc n) v = rw (length-toBE n v, be-toBE-mod n v, pow-succ') (sym (m
 
 pub be-toBE : (n v : ℕ) → v < 256 ^ n → fromBE (toBE n v) ≡ v
 be-toBE n v h = be-toBE-mod n v ∙ mod-eq-of-lt h
+
+-- a number in front of other bytes
+pub be-front : (n v : ℕ) (t : List ℕ) → v < 256 ^ n → fromBE (take n (toBE n v ++ t)) ≡ v
+be-front n v t l = rw (take-at (toBE n v) t n (length-toBE n v)) (be-toBE n v l)
 
 -- toBE n looks at the low n bytes alone
 pub toBE-low : (n k v : ℕ) → toBE n (k * 256 ^ n + v) ≡ toBE n v

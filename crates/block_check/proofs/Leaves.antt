@@ -10,6 +10,7 @@ use lib.Dec.{eqb, leb}
 use borrow.Author.Tests.{eq-eqb, ne-eqb, leb-true, eqb-true, le-leb, lt-leb, not-true, not-false}
 use lib.ListN.{length, getD, take, drop, length-drop}
 use lib.Seq.{getD-drop, drop-drop}
+use Rattle.block_type.specs.Limits.{longestZone, masterSize, mostMasters, typeUnit, zoneHeader, freeHeader, relocHeader, smallestBlock}
 use Rattle.bigendian.specs.BigEndian.{fromBE, slice}
 use Rattle.memory.specs.Zeros.{allZero}
 use Rattle.format.proofs.Bool.{and-left, and-right, is-false, not-both}
@@ -27,7 +28,7 @@ pub size-free : (r : List ℕ) (k b : ℕ) → k ≡ typeOf r → k ≡ 0 → b 
 unfolding sizeOf
 size-free r k b e z eb = rw (← e, z, eb)
 
-pub size-used : (r : List ℕ) (k b : ℕ) → k ≡ typeOf r → (k ≡ 0 → ⊥) → b ≡ fromBE (take 2 r) → b % 16384 * 2 ≡ sizeOf r
+pub size-used : (r : List ℕ) (k b : ℕ) → k ≡ typeOf r → (k ≡ 0 → ⊥) → b ≡ fromBE (take 2 r) → b % typeUnit * 2 ≡ sizeOf r
 unfolding sizeOf
 size-used r k b e z eb = rw (← e, ne-eqb k 0 z, eb)
 
@@ -43,11 +44,11 @@ pub free-law : (r : List ℕ) (k : ℕ) → k ≡ typeOf r → eqb k 0 ≡ isFre
 unfolding isFree
 free-law r k e = rw e
 
-pub master-law : (first h : ℕ) → (leb 16 h && leb (h + 4) first && eqb (h % 4) 0) ≡ isMaster first h
+pub master-law : (first h : ℕ) → (leb zoneHeader h && leb (h + masterSize) first && eqb (h % 4) 0) ≡ isMaster first h
 unfolding isMaster
 master-law first h = refl
 
-pub master-fits : (z : List ℕ) (first h : ℕ) (t : Bool) → t ≡ isMaster first h → t ≡ true → first ≤ length z → h + 4 ≤ length z
+pub master-fits : (z : List ℕ) (first h : ℕ) (t : Bool) → t ≡ isMaster first h → t ≡ true → first ≤ length z → h + masterSize ≤ length z
 master-fits z first h t e y l = let m = is-master first h (sym e ∙ y) in omega arith
 
 -- ---- the rules of a block
@@ -56,15 +57,15 @@ pub free-rule-prev : (b : List ℕ) (prev : Bool) → prev ≡ true → false �
 unfolding freeRule
 free-rule-prev b prev e = rw e
 
-pub free-rule : (z : List ℕ) (at n : ℕ) (prev t : Bool) → prev ≡ false → 4 ≤ n → t ≡ allZero (slice z (at + 4) (at + n - (at + 4)))
+pub free-rule : (z : List ℕ) (at n : ℕ) (prev t : Bool) → prev ≡ false → smallestBlock ≤ n → t ≡ allZero (slice z (at + freeHeader) (at + n - (at + freeHeader)))
     → t ≡ freeRule prev (take n (drop at z))
 unfolding freeRule
 free-rule z at n prev t e h q =
-    let d : at + n - (at + 4) ≡ n - 4 = omega arith in
-    rw (e, drop-take 4 n (drop at z), drop-drop 4 at z, ← d) q
+    let d : at + n - (at + freeHeader) ≡ n - freeHeader = omega arith in
+    rw (e, drop-take freeHeader n (drop at z), drop-drop freeHeader at z, ← d) q
 
 pub reloc-rule : (z : List ℕ) (first at h v : ℕ) (t : Bool) → h ≡ fromBE (slice z (at + 2) 2) → t ≡ isMaster first h → t ≡ true → v ≡ fromBE (slice z h 4)
-    → eqb v (at + 4) ≡ relocRule z first at (handleOf (drop at z))
+    → eqb v (at + relocHeader) ≡ relocRule z first at (handleOf (drop at z))
 unfolding relocRule handleOf
 reloc-rule z first at h v t e q y w = rw (drop-drop 2 at z, ← e, ← q, y, w)
 
@@ -96,25 +97,25 @@ module _ (k : ℕ) (free reloc : Bool) where
 
 -- the test of a size n, where the zone goes on for room bytes, and what it says
 abbrev pub tiles : ℕ → ℕ → Bool
-tiles n room = leb 4 n && eqb (n % 4) 0 && leb n room
+tiles n room = leb smallestBlock n && eqb (n % 4) 0 && leb n room
 
 module _ (n room : ℕ) (q : not (tiles n room) ≡ false) where
-  head : (leb 4 n && eqb (n % 4) 0) ≡ true
+  head : (leb smallestBlock n && eqb (n % 4) 0) ≡ true
   head = and-left _ (leb n room) (not-false _ q)
 
-  pub tiles-low : 4 ≤ n
-  tiles-low = leb-true 4 n (and-left _ (eqb (n % 4) 0) head)
+  pub tiles-low : smallestBlock ≤ n
+  tiles-low = leb-true smallestBlock n (and-left _ (eqb (n % 4) 0) head)
 
   tiles-four : n % 4 ≡ 0
-  tiles-four = eqb-true (n % 4) 0 (and-right (leb 4 n) _ head)
+  tiles-four = eqb-true (n % 4) 0 (and-right (leb smallestBlock n) _ head)
 
   tiles-room : n ≤ room
-  tiles-room = leb-true n room (and-right (leb 4 n && eqb (n % 4) 0) _ (not-false _ q))
+  tiles-room = leb-true n room (and-right (leb smallestBlock n && eqb (n % 4) 0) _ (not-false _ q))
 
-pub tiles-fits : (z : List ℕ) (at n : ℕ) → at + 4 ≤ length z → not (tiles n (length z - at)) ≡ false → at + n ≤ length z
+pub tiles-fits : (z : List ℕ) (at n : ℕ) → at + smallestBlock ≤ length z → not (tiles n (length z - at)) ≡ false → at + n ≤ length z
 tiles-fits z at n h q = omega (arith, tiles-room n (length z - at) q)
 
-module _ (z : List ℕ) (first : ℕ) (prev : Bool) (at n : ℕ) (e : n ≡ sizeOf (drop at z)) (h : at + 4 ≤ length z) where
+module _ (z : List ℕ) (first : ℕ) (prev : Bool) (at n : ℕ) (e : n ≡ sizeOf (drop at z)) (h : at + smallestBlock ≤ length z) where
   abbrev test : Bool
   test = blockOk z first prev at (take (sizeOf (drop at z)) (drop at z))
 
@@ -126,7 +127,7 @@ module _ (z : List ℕ) (first : ℕ) (prev : Bool) (at n : ℕ) (e : n ≡ size
       let f = is-first z first prev at (drop at z) g in
       let d = length-drop at z in
       let p = not-true (tiles n (length z - at)) q in
-      not-both (rw (le-leb 4 n (omega arith), eq-eqb (n % 4) 0 (rw e (f .four)), le-leb n (length z - at) (omega arith))) p))
+      not-both (rw (le-leb smallestBlock n (omega arith), eq-eqb (n % 4) 0 (rw e (f .four)), le-leb n (length z - at) (omega arith))) p))
 
   module _ (t : Bool) (q : not (tiles n (length z - at)) ≡ false) (et : t ≡ typeRule (typeOf (drop at z)) (freeRule prev (take n (drop at z))) (relocRule z first at (handleOf (drop at z)))) where
     by-rule : test ≡ t
@@ -184,11 +185,11 @@ tiles-end-count z at count w h inv = omega (arith, end-count z at h)
 
 -- ---- the header
 
-pub header-short : (s : List ℕ) → length s < 16 → false ≡ headerOk s
+pub header-short : (s : List ℕ) → length s < zoneHeader → false ≡ headerOk s
 unfolding headerOk
-header-short s h = rw (lt-leb 16 (length s) h)
+header-short s h = rw (lt-leb zoneHeader (length s) h)
 
-pub header-law : (s : List ℕ) (l first m : ℕ) → 16 ≤ length s → l ≡ lengthField s → first ≡ firstField s → m ≡ mastersField s
-    → (eqb (getD s 14 0) 0 && eqb (getD s 15 0) 0 && eqb (l % 4) 0 && leb l (length s) && leb l 1048576 && leb m 8188 && eqb first (16 + 4 * m) && leb first l) ≡ headerOk s
+pub header-law : (s : List ℕ) (l first m : ℕ) → zoneHeader ≤ length s → l ≡ lengthField s → first ≡ firstField s → m ≡ mastersField s
+    → (eqb (getD s 14 0) 0 && eqb (getD s 15 0) 0 && eqb (l % 4) 0 && leb l (length s) && leb l longestZone && leb m mostMasters && eqb first (zoneHeader + masterSize * m) && leb first l) ≡ headerOk s
 unfolding headerOk
-header-law s l first m h e₁ e₂ e₃ = rw (le-leb 16 (length s) h, e₁, e₂, e₃)
+header-law s l first m h e₁ e₂ e₃ = rw (le-leb zoneHeader (length s) h, e₁, e₂, e₃)

@@ -4,6 +4,7 @@ ghost use mathlib.Core.Path.{_≡_};
 ghost use mathlib.Core.Bool.{cond};
 ghost use Prim.Native.Nat.{_+_, _<_, _≤_};
 ghost use lib.ListN.{length, take, drop};
+ghost use Rattle.block_type.specs.Limits.{longestZone};
 ghost use Rattle.format.specs.WellFormed.{typeOf, sizeOf, handleOf, isFree, isReloc, isMaster};
 ghost use Rattle.format.specs.OneWalk.{typeRule, freeRule, relocRule};
 ghost use Rattle.format.specs.Steps.{GoodSize};
@@ -53,7 +54,7 @@ pub fn is_free(z: &[u8], at: usize) -> bool
 }
 
 fn free_ok(z: &[u8], at: usize, n: usize, prev: bool) -> bool
-    requires { ⌜ (4 ≤ n) × (at + n ≤ length (now z)) × (length (now z) ≤ 1048576) ⌝ }
+    requires { ⌜ (4 ≤ n) × (at + n ≤ length (now z)) × (length (now z) ≤ longestZone) ⌝ }
     ensures { λ r. ⌜ r ≡ freeRule prev (take n (drop at (now (z .entry)))) ⌝ }
 {
     if prev {
@@ -63,7 +64,7 @@ fn free_ok(z: &[u8], at: usize, n: usize, prev: bool) -> bool
 }
 
 fn reloc_ok(z: &[u8], first: usize, at: usize) -> bool
-    requires { ⌜ (at + 4 ≤ length (now z)) × (first ≤ length (now z)) × (length (now z) ≤ 1048576) ⌝ }
+    requires { ⌜ (at + 4 ≤ length (now z)) × (first ≤ length (now z)) × (length (now z) ≤ longestZone) ⌝ }
     ensures { λ r. ⌜ r ≡ relocRule (now (z .entry)) first at (handleOf (drop at (now (z .entry)))) ⌝ }
 {
     let h = bigendian::get2(z, at + 2) as usize;
@@ -75,7 +76,7 @@ fn reloc_ok(z: &[u8], first: usize, at: usize) -> bool
 
 // Whether a block of n bytes at `at` obeys the rule of its type.
 fn rule_ok(z: &[u8], first: usize, prev: bool, at: usize, n: usize) -> bool
-    requires { ⌜ (4 ≤ n) × (at + n ≤ length (now z)) × (first ≤ length (now z)) × (length (now z) ≤ 1048576) ⌝ }
+    requires { ⌜ (4 ≤ n) × (at + n ≤ length (now z)) × (first ≤ length (now z)) × (length (now z) ≤ longestZone) ⌝ }
     ensures { λ r. ⌜ r ≡ typeRule (typeOf (drop at (now (z .entry)))) (freeRule prev (take n (drop at (now (z .entry))))) (relocRule (now (z .entry)) first at (handleOf (drop at (now (z .entry))))) ⌝ }
 {
     let k = type_at(z, at);
@@ -90,7 +91,7 @@ fn rule_ok(z: &[u8], first: usize, prev: bool, at: usize, n: usize) -> bool
 
 // The size of the block at `at` where it obeys the rules, else 0.
 pub fn good_size(z: &[u8], first: usize, prev: bool, at: usize) -> usize
-    requires { ⌜ (at + 4 ≤ length (now z)) × (first ≤ length (now z)) × (length (now z) ≤ 1048576) ⌝ }
+    requires { ⌜ (at + 4 ≤ length (now z)) × (first ≤ length (now z)) × (length (now z) ≤ longestZone) ⌝ }
     ensures { λ r. ⌜ GoodSize (now (z .entry)) first prev at r ⌝ }
 {
     let n = size_at(z, at);

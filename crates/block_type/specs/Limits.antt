@@ -1,5 +1,5 @@
--- The numbers of document 01: block types, header lengths, limits, the header of a zone. (Where a field lies in its header, and the
--- powers of two that cut a type from a size, stand at the fields' own definitions.)
+-- The numbers of document 01: block types, header lengths, limits, the header of a zone. (Where a field lies in its header stands at the
+-- fields' own definitions.)
 use Prim.Native.Nat.{ℕ, _+_, _*_, _/_}
 
 -- ---- block types: "0 free, 1 fixed (non-relocatable), 2 relocatable"
@@ -23,6 +23,23 @@ fixedHeader = 2
 
 abbrev pub relocHeader : ℕ
 relocHeader = 4
+
+-- ---- "14-bit size in words": of a block's first two bytes the type is what stands above 14 bits, and a block that is not free has at most
+-- this size ("Sizes include the header, are multiples of 4")
+
+abbrev pub typeUnit : ℕ
+typeUnit = 16384
+
+abbrev pub largestBlock : ℕ
+largestBlock = 32764
+
+-- no block is smaller than a free one's header
+abbrev pub smallestBlock : ℕ
+smallestBlock = 4
+
+-- "the handle (2 bytes)": handles are below
+abbrev pub handleRange : ℕ
+handleRange = 65536
 
 -- ---- the largest data sizes that may be asked for: "c above 32,760 (relocatable, resize) or 32,762 (fixed)" is refused
 

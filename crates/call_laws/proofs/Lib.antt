@@ -1,5 +1,5 @@
 pub mod Outcome
-pub mod Plan
 pub mod Accepted
+pub mod Frame
 pub mod Named
 pub mod Sums

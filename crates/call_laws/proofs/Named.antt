@@ -13,7 +13,7 @@ use Rattle.calls.specs.Calls.{Target, by-handle, by-pointer, Answer, told, show
 use Rattle.calls.specs.Bays.{over}
 use Rattle.calls.specs.State.{says, done, content}
 use Rattle.calls.specs.Table.{cause, below, isNone, first, order, noBlock}
-use Rattle.zone.specs.Bay.{items}
+use Rattle.bay.specs.Bay.{items}
 use Rattle.zone.specs.Work.{Zone, facts}
 use Rattle.call_laws.proofs.Outcome.{step}
 

@@ -12,7 +12,7 @@ use Rattle.structure.specs.Structure.{Structure, start, len, encode, decode}
 use Rattle.calls.specs.Calls.{Call, Answer, beside, secondOf, refused, told}
 use Rattle.calls.specs.State.{Out, says}
 use Rattle.calls.specs.Table.{refusalOf}
-use Rattle.zone.specs.Bay.{Cell}
+use Rattle.bay.specs.Bay.{Cell}
 use Rattle.zone.specs.Work.{Zone, facts, work}
 use Rattle.zone.specs.Group.{group}
 use Rattle.zone.specs.Call.{inLine, zoneIn, result, replacing, outcome, callWith, call}

@@ -3,7 +3,7 @@ use mathlib.Core.Path.{_≡_, refl}
 use mathlib.Core.List.{List, [], _∷_}
 use Prim.Native.Nat.{ℕ, zero, suc, _+_}
 use native.Mathlib.Omega.{arith}
-use Rattle.zone.specs.Bay.{Cell, free, held, baySum, gap, joinBays}
+use Rattle.bay.specs.Bay.{Cell, free, held, baySum, gap, joinBays}
 
 pub gap-sum : (n : ℕ) (cs : List Cell) → baySum (gap n cs) ≡ n + baySum cs
 gap-sum zero cs = omega arith

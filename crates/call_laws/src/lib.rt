@@ -1,1 +1,1 @@
-// What the proofs of the calls have in common: laws alone.
+// What the proofs of the calls have in common: definitions and laws alone.

@@ -6,19 +6,12 @@ use mathlib.Core.List.{List, [], _∷_, _++_}
 use Prim.Native.Nat.{ℕ, zero, suc, _+_, _-_}
 use lib.ListN.{length, getD, take, drop, replicate}
 use lib.Dec.{eqb, leb}
-use Rattle.block_type.specs.Limits.{fixedHeader, relocHeader, masterSize, up4}
+use Rattle.block_type.specs.Limits.{fixedHeader, masterSize, up4}
+use Rattle.kinds.specs.Kinds.{Item, item, itemSize}
 use Rattle.calls.specs.Calls.{Target, by-handle, by-pointer, Card, Answer, told}
 use Rattle.calls.specs.Bays.{Bays, last, more, over, findS, findF, maxS, sumS}
 
 -- ---- relocatable blocks
-
-pub record Item : Type 0 where
-  pub handle : ℕ
-  pub bytes : List ℕ
-
--- "for each handle, 4 plus data size"
-abbrev pub itemSize : Item → ℕ
-itemSize e = relocHeader + length (e .bytes)
 
 -- the bytes that they take
 abbrev pub total : List Item → ℕ
@@ -35,11 +28,11 @@ get h (e ∷ es) = cond (is h e) (some e) (get h es)
 
 -- the item with its bytes changed by f, where it has the handle h
 abbrev pub alter : ℕ → (List ℕ → List ℕ) → Item → Item
-alter h f e = cond (is h e) (record { handle = e .handle; bytes = f (e .bytes) }) e
+alter h f e = cond (is h e) (item (e .handle) (f (e .bytes))) e
 
 -- "Data are zero"
 abbrev pub newItem : ℕ → ℕ → Item
-newItem h c = record { handle = h; bytes = replicate (up4 c) 0 }
+newItem h c = item h (replicate (up4 c) 0)
 
 -- resize: "the common first bytes stay, added bytes are zero"
 abbrev pub sized : ℕ → List ℕ → List ℕ

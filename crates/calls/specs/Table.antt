@@ -8,7 +8,8 @@ use lib.ListN.{length}
 use lib.Dec.{eqb, leb}
 use Rattle.block_type.specs.Limits.{relocHeader, relocLimit, fixedLimit, up4, relocNeed, fixedNeed, firstBlock, longestZone, mostMasters, recordSize}
 use Rattle.calls.specs.Bays.{over, maxS}
-use Rattle.calls.specs.State.{Item, State, content, ownSum, liveCount}
+use Rattle.kinds.specs.Kinds.{Item}
+use Rattle.calls.specs.State.{State, content, ownSum, liveCount}
 use Rattle.calls.specs.Calls.{Target, by-handle, by-pointer, Call, allocate-relocatable, allocate-fixed, free-handle, free-pointer, resize, size, read, write, view, compact, sums, check, length-of, enlarge, shrink, roster}
 
 -- ---- what the table asks of a zone, or of a ledger

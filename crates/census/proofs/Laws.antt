@@ -2,27 +2,27 @@
 use mathlib.Core.Path.{_≡_, refl, ap, ap₂, sym, _∙_}
 use mathlib.Core.Bool.{Bool, true, false, not, _&&_}
 use mathlib.Core.List.{List, [], _∷_}
-use Prim.Native.Nat.{ℕ, zero, suc, _+_, _-_, _/_, _^_, _≤_, _<_}
+use Prim.Native.Nat.{ℕ, zero, suc, _+_, _/_, _^_, _≤_, _<_}
 use native.Mathlib.Omega.{arith}
 use native.Mathlib.Nat.{zero-add, add-zero}
 use native.Mathlib.Decide.{ℕ-discrete}
 use lib.Pow.{pow-mono}
-use lib.Dec.{leb, ltb}
+use lib.Dec.{eqb, leb, ltb}
 use borrow.Author.Tests.{not-true, le-leb, lt-leb, lt-ltb, le-ltb}
 use lib.ListN.{length, getD, set, take, drop, replicate, length-set}
 use lib.Seq.{getD-set-same, getD-set-other}
 use mir.Val.{Fits}
 use mir.Syntax.{w8}
-use Rattle.access.specs.Edit.{IsZone, is-zone}
-use Rattle.access.proofs.Zone.{whole-of}
-use Rattle.release.proofs.Reach.{tiles-are}
+use Rattle.block_type.specs.Limits.{freeCode}
 use Rattle.bigendian.specs.BigEndian.{fromBE, slice}
 use Rattle.format.specs.WellFormed.{isFree, wellFormed, firstField, zoneOf}
-use Rattle.structure.specs.Structure.{Block, free, fixed, reloc, size, decode}
-use Rattle.walk.specs.Walker.{blocksAt, Seen, blockAt, freeB}
-use Rattle.walk.proofs.Laws.{tiles-end}
+use Rattle.structure.specs.Structure.{Block, fixed, size, decode, cell}
+use Rattle.bay.specs.Bay.{free, held}
+use Rattle.row.specs.Row.{blocksOf, Stepped, blockAt, freeB}
+use Rattle.row.proofs.Laws.{row-end}
+use Rattle.row.proofs.Zone.{blocks-are}
 use Rattle.zone.specs.Census.{limitsFrom, lowerLimits, countIf, countsOf, freeWords, census}
-use Rattle.tell.proofs.Opened.{well}
+use Rattle.access.proofs.Checked.{is-well}
 use Rattle.census.specs.Tally.{counted, Stratum, adding, CountsIn, counts-in}
 
 -- ---- the stratum
@@ -103,40 +103,44 @@ counts-more cs w j e l t = record {
 
 words-free : (b : Block) (bs : List Block) → freeB b ≡ true → freeWords (b ∷ bs) ≡ size b / 2 ∷ freeWords bs
 unfolding freeWords
-words-free (free n) bs e = refl
+words-free (cell (free n)) bs e = refl
 words-free (fixed d) bs e = let z : _≡_ {A = ℕ} 0 1 = cc in let x : ⊥ = omega arith in absurd x
-words-free (reloc h d) bs e = let z : _≡_ {A = ℕ} 0 1 = cc in let x : ⊥ = omega arith in absurd x
+words-free (cell (held it)) bs e = let z : _≡_ {A = ℕ} 0 1 = cc in let x : ⊥ = omega arith in absurd x
 
 words-used : (b : Block) (bs : List Block) → freeB b ≡ false → freeWords (b ∷ bs) ≡ freeWords bs
 unfolding freeWords
-words-used (free n) bs e = let z : _≡_ {A = ℕ} 0 1 = cc in let x : ⊥ = omega arith in absurd x
+words-used (cell (free n)) bs e = let z : _≡_ {A = ℕ} 0 1 = cc in let x : ⊥ = omega arith in absurd x
 words-used (fixed d) bs e = refl
-words-used (reloc h d) bs e = refl
+words-used (cell (held it)) bs e = refl
 
 -- cs are the counts cs₀ with the free blocks of z from first up to p
 pub record Tally (z : List ℕ) (first p : ℕ) (cs₀ cs : List ℕ) : Type 0 where
   pub long : length cs ≡ 19
   pub few : (k : ℕ) → getD cs k 0 ≤ p
-  pub same : adding cs (countsOf lowerLimits (freeWords (blocksAt z p))) ≡ adding cs₀ (countsOf lowerLimits (freeWords (blocksAt z first)))
+  pub same : adding cs (countsOf lowerLimits (freeWords (blocksOf (drop p z)))) ≡ adding cs₀ (countsOf lowerLimits (freeWords (blocksOf (drop first z))))
 
 pub tally-start : (z : List ℕ) (first : ℕ) (cs : List ℕ) → length cs ≡ 19 → ((k : ℕ) → getD cs k 0 ≤ first) → Tally z first first cs cs
 tally-start z first cs e low = record { long = e; few = low; same = refl }
 
-module _ (z : List ℕ) (first p n : ℕ) (s : Seen z first p n) (f : Bool) (ef : f ≡ isFree (drop p z)) (cs₀ cs ds : List ℕ) (t : Tally z first p cs₀ cs) where
+module _ (z : List ℕ) (first p n : ℕ) (s : Stepped z p n) (f : Bool) (ef : f ≡ isFree (drop p z)) (cs₀ cs ds : List ℕ) (t : Tally z first p cs₀ cs) where
+  free-is : freeB (blockAt z p) ≡ f
+  unfolding isFree
+  free-is = ap (λ (k : ℕ). eqb k freeCode) (s .kind) ∙ sym ef
+
   pub tally-free : (j : ℕ) → f ≡ true → j < 19 → Stratum j (n / 2) → ds ≡ set cs j (getD cs j 0 + 1) → Tally z first (p + n) cs₀ ds
   tally-free j q l i e =
       let o = counts-more cs (n / 2) j (t .long) l i in
       rw e record {
         long = length-set cs j (getD cs j 0 + 1) ∙ t .long;
         few = λ k. omega (arith, o .few k p (t .few k), s .low);
-        same = o .same (freeWords (blocksAt z (p + n))) ∙ (rw (s .blocks, words-free (blockAt z p) (blocksAt z (p + n)) (s .kind ∙ sym ef ∙ q), s .bytes) at (t .same));
+        same = o .same (freeWords (blocksOf (drop (p + n) z))) ∙ (rw (s .blocks, words-free (blockAt z p) (blocksOf (drop (p + n) z)) (free-is ∙ q), s .bytes) at (t .same));
       }
 
   pub tally-used : f ≡ false → ds ≡ cs → Tally z first (p + n) cs₀ ds
   tally-used q e = rw e record {
     long = t .long;
     few = λ k. omega (arith, t .few k);
-    same = rw (s .blocks, words-used (blockAt z p) (blocksAt z (p + n)) (s .kind ∙ sym ef ∙ q)) at (t .same);
+    same = rw (s .blocks, words-used (blockAt z p) (blocksOf (drop (p + n) z)) (free-is ∙ q)) at (t .same);
   }
 
 -- ---- all blocks
@@ -172,19 +176,16 @@ zeros-low zero k p = omega arith
 zeros-low (suc n) zero p = omega arith
 zeros-low (suc n) (suc k) p = zeros-low n k p
 
-pub tally-end : (z : List ℕ) (first p : ℕ) (cs₀ cs : List ℕ) → length z ≤ p → Tally z first p cs₀ cs → cs ≡ adding cs₀ (countsOf lowerLimits (freeWords (blocksAt z first)))
+pub tally-end : (z : List ℕ) (first p : ℕ) (cs₀ cs : List ℕ) → length z ≤ p → Tally z first p cs₀ cs → cs ≡ adding cs₀ (countsOf lowerLimits (freeWords (blocksOf (drop first z))))
 unfolding freeWords
-tally-end z first p cs₀ cs l t = sym (zeros-added 19 cs) ∙ ap (adding cs) (sym (zero-counts 19 0)) ∙ (rw (tiles-end z p l) at (t .same))
+tally-end z first p cs₀ cs l t = sym (zeros-added 19 cs) ∙ ap (adding cs) (sym (zero-counts 19 0)) ∙ (rw (row-end z p l) at (t .same))
 
 -- ---- the call
 
-pub in-law : (z : List ℕ) (first : ℕ) (cs : List ℕ) → first ≡ firstField z → cs ≡ adding (replicate 19 0) (countsOf lowerLimits (freeWords (blocksAt z first))) → CountsIn z cs
+pub in-law : (z : List ℕ) (first : ℕ) (cs : List ℕ) → first ≡ firstField z → cs ≡ adding (replicate 19 0) (countsOf lowerLimits (freeWords (blocksOf (drop first z)))) → CountsIn z cs
 in-law z first cs e q =
-    let ws = freeWords (blocksAt z first) in
+    let ws = freeWords (blocksOf (drop first z)) in
     counts-in (rw (← e) (q ∙ adding-zeros 19 (countsOf lowerLimits ws) (length-counts 19 0 ws)))
-
-pub zone-short : (z : List ℕ) → IsZone z → length z ≤ 1048576
-zone-short z i = omega (arith, whole-of z i .all, whole-of z i .limit)
 
 pub census-1 : (s : List ℕ) (ok : Bool) → ok ≡ wellFormed s → not ok ≡ true → counted 1 (replicate 19 0) ≡ census s
 census-1 s ok e q = rw (← e, not-true ok q)
@@ -193,5 +194,5 @@ pub census-0 : (s : List ℕ) (ok : Bool) (l : ℕ) (cs : List ℕ) → ok ≡ w
     → CountsIn (take l s) cs → counted 0 cs ≡ census s
 unfolding decode
 census-0 s ok l cs e q el y (counts-in c) =
-    let h : wellFormed s ≡ true = well s ok e q in
-    rw (h, c, el) (ap (λ (bs : List Block). counted 0 (countsOf lowerLimits (freeWords bs))) (tiles-are (zoneOf s) (is-zone s (λ j. y j .fits) h refl)))
+    let h : wellFormed s ≡ true = is-well s ok e q in
+    rw (h, c, el) (ap (λ (bs : List Block). counted 0 (countsOf lowerLimits (freeWords bs))) (blocks-are (zoneOf s) (firstField (zoneOf s)) refl))

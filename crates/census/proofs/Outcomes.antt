@@ -9,7 +9,8 @@ use lib.Dec.{leb, ltb}
 use borrow.Author.Tests.{le-leb, leb-true, leb-false, ltb-true, ltb-false}
 use Rattle.bigendian.specs.BigEndian.{Bytes}
 use Rattle.format.specs.WellFormed.{wellFormed}
-use Rattle.structure.specs.Structure.{Block, free, fixed, reloc, decode}
+use Rattle.structure.specs.Structure.{Block, fixed, decode, cell}
+use Rattle.bay.specs.Bay.{free, held}
 use Rattle.structure.specs.Valid.{Tiled}
 use Rattle.structure.proofs.Sound.{valid}
 use Rattle.zone.specs.Census.{limitsFrom, countIf, countsOf, freeWords, census}
@@ -21,9 +22,9 @@ totalOf (c ∷ cs) = c + totalOf cs
 -- how many blocks are free
 unfoldable pub freeBlocks : List Block → ℕ
 freeBlocks [] = 0
-freeBlocks (free n ∷ bs) = suc (freeBlocks bs)
+freeBlocks (cell (free n) ∷ bs) = suc (freeBlocks bs)
 freeBlocks (fixed d ∷ bs) = freeBlocks bs
-freeBlocks (reloc h d ∷ bs) = freeBlocks bs
+freeBlocks (cell (held it) ∷ bs) = freeBlocks bs
 
 -- the sizes from a limit on are those below the next limit and those from it on
 split-one : (a b w : ℕ) → a ≤ b → cond (leb a w) 1 0 ≡ cond (leb a w && ltb w b) 1 0 + cond (leb b w) 1 0
@@ -51,9 +52,9 @@ counts-total (suc n) i ws = omega (arith, counts-total n (suc i) ws, split-count
 words-all : (prev : Bool) (bs : List Block) → Tiled prev bs → countIf (leb 1) (freeWords bs) ≡ freeBlocks bs
 unfolding countIf freeWords freeBlocks
 words-all prev [] t = refl
-words-all prev (free n ∷ bs) t = let k : 1 ≤ n / 2 = omega (arith, t .1) in rw (le-leb 1 (n / 2) k) (omega (arith, words-all true bs (t .4)))
+words-all prev (cell (free n) ∷ bs) t = let k : 1 ≤ n / 2 = omega (arith, t .1) in rw (le-leb 1 (n / 2) k) (omega (arith, words-all true bs (t .4)))
 words-all prev (fixed d ∷ bs) t = words-all false bs (t .3)
-words-all prev (reloc h d ∷ bs) t = words-all false bs (t .3)
+words-all prev (cell (held it) ∷ bs) t = words-all false bs (t .3)
 
 -- each free block is counted once
 pub counted-once : (s : List ℕ) → Bytes s → wellFormed s ≡ true → totalOf (census s .counts) ≡ freeBlocks (decode s .blocks)

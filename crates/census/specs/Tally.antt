@@ -2,8 +2,9 @@
 use mathlib.Core.Path.{_≡_}
 use mathlib.Core.List.{List, [], _∷_}
 use Prim.Native.Nat.{ℕ, _+_, _^_, _<_, _≤_}
+use lib.ListN.{drop}
 use Rattle.format.specs.WellFormed.{firstField}
-use Rattle.walk.specs.Walker.{blocksAt}
+use Rattle.row.specs.Row.{blocksOf}
 use Rattle.zone.specs.Census.{countsOf, lowerLimits, freeWords}
 pub use Rattle.zone.specs.Census.{counted}
 
@@ -20,4 +21,4 @@ adding (c ∷ cs) (d ∷ ds) = (c + d) ∷ adding cs ds
 
 -- the counts of a zone, with no bytes beyond its length
 pub data CountsIn (z : List ℕ) (cs : List ℕ) : Type 0 where
-  counts-in : cs ≡ countsOf lowerLimits (freeWords (blocksAt z (firstField z))) → CountsIn z cs
+  counts-in : cs ≡ countsOf lowerLimits (freeWords (blocksOf (drop (firstField z) z))) → CountsIn z cs

@@ -1,8 +1,9 @@
 // The census: how many free blocks there are in each of nineteen strata.
 ghost use mathlib.Core.Path.{_≡_};
 ghost use Prim.Native.Nat.{ℕ, _^_, _<_, _≤_};
-ghost use lib.ListN.{length, getD};
-ghost use Rattle.walk.specs.Walker.{blocksAt, Edge};
+ghost use lib.ListN.{length, getD, drop};
+ghost use Rattle.block_type.specs.Limits.{longestZone};
+ghost use Rattle.row.specs.Row.{Row, blocksOf};
 ghost use Rattle.access.specs.Edit.{IsZone};
 ghost use Rattle.zone.specs.Census.{countsOf, lowerLimits, freeWords, census};
 ghost use Rattle.census.specs.Tally.{counted, Stratum, adding, CountsIn};
@@ -62,13 +63,13 @@ fn stratum(words: u32) -> usize
 
 // The counts `before` with all free blocks of z, from `first` on, added.
 fn count_all(z: &[u8], first: usize, before: [u32; 19]) -> [u32; 19]
-    requires { ⌜ (Edge (now z) first first) × (first ≤ length (now z)) × (length (now z) ≤ 1048576) × (length before ≡ 19) × ((k : ℕ) → getD before k 0 ≤ first) ⌝ }
-    ensures { λ r. ⌜ r ≡ adding before (countsOf lowerLimits (freeWords (blocksAt (now (z .entry)) first))) ⌝ }
+    requires { ⌜ Row (drop first (now z)) × (first ≤ length (now z)) × (length (now z) ≤ longestZone) × (length before ≡ 19) × ((k : ℕ) → getD before k 0 ≤ first) ⌝ }
+    ensures { λ r. ⌜ r ≡ adding before (countsOf lowerLimits (freeWords (blocksOf (drop first (now (z .entry)))))) ⌝ }
 {
     let mut counts = before;
     let mut p = first;
     while p < z.len() {
-        let n = walk::step(z, first, p);
+        let n = row::step(z, p);
         if block_check::is_free(z, p) {
             let i = stratum((n / 2) as u32);
             counts[i] = counts[i] + 1;

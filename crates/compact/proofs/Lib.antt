@@ -1,6 +1,5 @@
-pub mod Bays
-pub mod Call
+pub mod Still
+pub mod Going
 pub mod Loop
+pub mod Call
 pub mod Outcome
-pub mod Rest
-pub mod Walk

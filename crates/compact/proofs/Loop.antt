@@ -1,165 +1,176 @@
--- The laws that the functions cite.
-use mathlib.Core.Path.{_≡_, refl, sym, ap, ap₂, _∙_}
-use mathlib.Core.List.{List, [], _∷_, _++_, append-assoc, append-nil}
-use mathlib.Core.Bool.{false}
-use Prim.Native.Nat.{ℕ, _+_, _-_, _<_, _≤_}
-use native.Mathlib.Nat.{add-zero}
+-- The loop over the bays: what is true before each turn, and after the last.
+use mathlib.Core.Path.{_≡_, refl, sym, ap, _∙_, subst}
+use mathlib.Core.Bool.{Bool, true, false, cond}
+use mathlib.Core.List.{List, [], _∷_, _++_, map, append-assoc}
+use Prim.Native.Nat.{ℕ, suc, _+_, _-_, _<_, _≤_, max}
 use native.Mathlib.Omega.{arith}
-use borrow.Author.Tests.{le-ltb}
+use borrow.Author.Tests.{eqb-true, eq-eqb, ne-eqb}
+use lib.Dec.{eqb}
 use lib.ListN.{length, drop}
-use Rattle.bigendian.specs.BigEndian.{fromBE, slice}
-use Rattle.structure.specs.Structure.{Block, Structure, sizes, encode, decodeZone}
+use Rattle.block_type.specs.Limits.{longestZone}
+use Rattle.format.specs.WellFormed.{firstField}
+use Rattle.structure.specs.Structure.{Block, cell, fixed, Structure, sizes, start, encode, decodeZone}
+use Rattle.structure.specs.Valid.{Valid}
 use Rattle.structure.proofs.Table.{encode-zone, start-is}
 use Rattle.structure.proofs.Sound.{valid-zone}
-use Rattle.structure.proofs.Round.{length-is}
+use Rattle.calls.specs.Bays.{Bays, last, more, mapS, maxS}
+use Rattle.calls.specs.State.{Fixed, fsize}
+use Rattle.bay.specs.Bay.{Cell, baySize, baySum, compactBay}
+use Rattle.bay.proofs.Laws.{tidy-size}
 use Rattle.access.specs.Edit.{IsZone}
 use Rattle.access.proofs.Zone.{whole-of}
-use Rattle.row.specs.Row.{blocksOf, Row, row}
-use Rattle.find_bay.specs.Spots.{freeTotal, used, squeeze}
-use Rattle.find_bay.proofs.Numbers.{sizes-append}
-use Rattle.compact_bay.specs.Tidy.{IsLow, tidied}
-use Rattle.compact_bay.proofs.Squeeze.{squeeze-sizes}
-use Rattle.surgery.proofs.Sound.{lastFree, firstFree}
-use Rattle.compact.specs.All.{tidyFrom, compacted, larger, largestFrom, largest, aheadN, nextBay, tailOf}
-use Rattle.compact.specs.Going.{At, at-edge, Bayed, bayed, Going, going}
-use Rattle.compact.proofs.Rest.{sp, so-rest, rest-bytes, long, next-is, sum-is, after, still, tidyPost, largestPost, lead, mid-row, mid-low, end-in, end-is, next-in, next-up, sizes-none, last-snoc}
+use Rattle.row.specs.Row.{Row}
+use Rattle.zone.specs.Group.{flatten}
+use Rattle.zone.proofs.Places.{Tiled}
+use Rattle.zone.proofs.GroupLaws.{flatten-group}
+use Rattle.bays.specs.Places.{baysAt}
+use Rattle.bays.specs.Read.{Cut, at-end, at-fixed, Read}
+use Rattle.bays.proofs.At.{tiled-long, tiled-rest}
+use Rattle.bays.proofs.Zone.{zone-bays}
+use Rattle.slide.specs.ZoneBay.{ZoneBay, bayCells, settled}
+use Rattle.surgery.proofs.Sound.{lastFree}
+use Rattle.surgery.proofs.Replace.{sizes-parts}
+use Rattle.settle.proofs.Cells.{all-sizes}
+use Rattle.settle.proofs.Tidy.{compact-start}
+use Rattle.compact.specs.Compacted.{compacted, largest}
+use Rattle.compact.proofs.Going.{Stands, stands-row, stands-short, stands-bays, its-bay, packs, stays, new-valid, new-long}
 
-module _ (z : List ℕ) (o : ℕ) (a : At z o) where
-  pub ask-row : Row (drop o z)
-  ask-row = go a
-    where
-      go : At z o → Row (drop o z)
-      go (at-edge s x) = row (x .rest) (so-rest s z o x) (rest-bytes s z o x)
+-- s₀ is to be compacted; the bays below `at` are, and `best` is the largest of their sums
+pub data Going (s₀ : Structure) (z : List ℕ) (at best : ℕ) : Type 0 where
+  under-way : (s : Structure) (pre : List Block) (u : Bays (List Cell) Fixed) → Stands s z at pre u → s .chain ≡ s₀ .chain
+      → pre ++ flatten (mapS compactBay u) ≡ compacted s₀ .blocks → max best (maxS baySum u) ≡ largest s₀ → Going s₀ z at best
+  through : length z < at → z ≡ encode (compacted s₀) → best ≡ largest s₀ → Going s₀ z at best
 
-  pub ask-short : length z ≤ 1048576
-  ask-short = go a
-    where
-      go : At z o → length z ≤ 1048576
-      go (at-edge s x) = omega (arith, ap length (x .image), length-is s (x .valid), x .valid .short)
-
-  module _ (end sum next : ℕ) (q : aheadN end sum next ≡ nextBay o 0 (blocksOf (drop o z))) where
-    pub ask-order : o ≤ end
-    ask-order = go a
-      where
-        go : At z o → o ≤ end
-        go (at-edge s x) = omega (arith, end-is s z o x end sum next q)
-
-    pub ask-end : end ≤ length z
-    ask-end = go a
-      where
-        go : At z o → end ≤ length z
-        go (at-edge s x) = end-in s z o x end sum next q
-
-    pub ask-part : Row (slice z o (end - o))
-    ask-part = go a
-      where
-        go : At z o → Row (slice z o (end - o))
-        go (at-edge s x) = mid-row s z o x end sum next q
-
-    pub ask-low : IsLow o (blocksOf (slice z o (end - o)))
-    ask-low = go a
-      where
-        go : At z o → IsLow o (blocksOf (slice z o (end - o)))
-        go (at-edge s x) = mid-low s z o x end sum next q
-
-    pub up : o < length z → o < next
-    up l = go a
-      where
-        go : At z o → o < next
-        go (at-edge s x) = next-up s z o x end sum next q l
-
-    pub within : next ≤ length z
-    within = go a
-      where
-        go : At z o → next ≤ length z
-        go (at-edge s x) = next-in s z o x end sum next q
-
-    pub is-still : (tail : ℕ) → tail ≡ tailOf 0 (blocksOf (drop o z)) → sum ≡ tail → o < length z → Bayed z o z sum next
-    is-still tail et es l = go a
-      where
-        go : At z o → Bayed z o z sum next
-        go (at-edge s x) = bayed end q (still s z o x end sum next q tail et es l)
-
-pub is-bayed : (z z′ : List ℕ) (o end sum next : ℕ) → aheadN end sum next ≡ nextBay o 0 (blocksOf (drop o z)) → z′ ≡ tidied z o (end - o) → Bayed z o z′ sum next
-is-bayed z z′ o end sum next q e = bayed end q e
-
--- ---- the loop
-
-pub going-at : (s₀ : Structure) (z : List ℕ) (o best : ℕ) → Going s₀ z o best → At z o
-going-at s₀ z o best (going s a el et em) = at-edge s a
-
-pub going-start : (z : List ℕ) (first : ℕ) → IsZone z → first ≡ fromBE (slice z 4 4) → Going (decodeZone z) z first 0
+no-sizes : (k : ℕ) → k + sizes [] ≡ k
 unfolding sizes
+no-sizes k = omega arith
+
+pub going-start : (z : List ℕ) (first : ℕ) → IsZone z → first ≡ firstField z → Going (decodeZone z) z first 0
 going-start z first i e =
+    let d = decodeZone z in
     let w = whole-of z i in
-    going (decodeZone z) (record { valid = valid-zone z w; image = sym (encode-zone z w); pre = []; rest = decodeZone z .blocks; parts = refl; left = λ _. refl; place = e ∙ sym (start-is z w) ∙ sym (add-zero _) }) refl refl refl
+    let b = zone-bays z i first e in
+    under-way d [] _ (record {
+      valid = valid-zone z w;
+      image = sym (encode-zone z w);
+      parts = sym (flatten-group (start d) (d .blocks));
+      left = refl;
+      place = e ∙ sym (start-is z w) ∙ sym (no-sizes (start d));
+      tiled = subst (λ (u : Bays (List Cell) Fixed). Tiled first u (length z)) (b .bays) (b .tiled);
+    }) refl refl (omega arith)
 
-tidy-nil : tidyFrom [] [] ≡ []
-unfolding tidyFrom squeeze used freeTotal
-tidy-nil = refl
+pub first-within : (z : List ℕ) (first : ℕ) → IsZone z → first ≡ firstField z → first ≤ suc (length z)
+first-within z first i e = omega (arith, zone-bays z i first e .low)
 
-most-nil : (v : ℕ) → largestFrom v [] [] ≡ v
-unfolding largestFrom freeTotal
-most-nil v = rw (le-ltb v 0 (omega arith))
+module _ (s₀ : Structure) (z : List ℕ) (at best : ℕ) (g : Going s₀ z at best) where
+  pub going-row : at ≤ length z → Row (drop at z)
+  going-row l = go g
+    where
+      go : Going s₀ z at best → Row (drop at z)
+      go (under-way s pre u x c p m) = stands-row x
+      go (through k p m) = absurd (omega arith)
 
-pub going-done : (s₀ : Structure) (z : List ℕ) (o best : ℕ) → Going s₀ z o best → length z ≤ o → (best ≡ largest s₀) × (z ≡ encode (compacted s₀))
-unfolding compacted
-going-done s₀ z o best (going s a el et em) l =
-    let n : a .rest ≡ [] = sizes-none (a .rest) (so-rest s z o a) (omega (arith, long s z o a)) in
-    let t : s .blocks ≡ tidyFrom [] (s₀ .blocks) = a .parts ∙ ap (λ (x : List Block). a .pre ++ x) (n ∙ sym tidy-nil ∙ ap (tidyFrom []) (sym n)) ∙ et in (
-      sym (most-nil best) ∙ ap (largestFrom best []) (sym n) ∙ em,
-      a .image ∙ ap₂ (λ (x : List ℕ) (y : List Block). encode (record { chain = x; blocks = y })) el t,
-    )
+  pub going-short : at ≤ length z → length z ≤ longestZone
+  going-short l = go g
+    where
+      go : Going s₀ z at best → length z ≤ longestZone
+      go (under-way s pre u x c p m) = stands-short x
+      go (through k p m) = absurd (omega arith)
 
--- past one bay
-record Past (pre mid post : List Block) : Type 0 where
-  before : List Block
-  rest : List Block
-  parts : pre ++ (squeeze mid ++ post) ≡ before ++ rest
-  left : 0 < sizes rest → lastFree false before ≡ false
-  total : sizes before ≡ sizes pre + (sizes mid + lead post)
-  tidy : before ++ tidyFrom [] rest ≡ pre ++ (squeeze mid ++ tidyPost post)
-  most : (v : ℕ) → largestFrom v [] rest ≡ largestPost v post
+  pub going-most : length z < at → best ≡ largest s₀
+  going-most l = go g
+    where
+      go : Going s₀ z at best → best ≡ largest s₀
+      go (under-way s pre u x c p m) = absurd (omega (arith, tiled-long (x .tiled)))
+      go (through k p m) = m
 
-past : (pre mid post : List Block) → firstFree post ≡ false → Past pre mid post
+  pub going-bytes : length z < at → z ≡ encode (compacted s₀)
+  going-bytes l = go g
+    where
+      go : Going s₀ z at best → z ≡ encode (compacted s₀)
+      go (under-way s pre u x c p m) = absurd (omega (arith, tiled-long (x .tiled)))
+      go (through k p m) = p
+
+-- ---- one turn
+
+last-end : (p : Bool) (l : List Block) (d : List ℕ) → lastFree p (l ++ (fixed d ∷ [])) ≡ false
+last-end p [] d = refl
+last-end p (b ∷ l) d = last-end _ l d
+
+pre-sizes : (pre : List Block) (b : List Cell) (x : Fixed) → sizes (pre ++ (map cell b ++ (fixed (x .bytes) ∷ []))) ≡ sizes pre + (baySize b + fsize x)
 unfolding sizes
-past pre mid [] r = record {
-  before = pre ++ (squeeze mid ++ []);
-  rest = [];
-  parts = sym (append-nil _);
-  left = λ l. (let x : ⊥ = omega arith in absurd x);
-  total = omega (arith, sizes-append pre (squeeze mid ++ []), sizes-append (squeeze mid) [], squeeze-sizes mid);
-  tidy = ap (λ (x : List Block). (pre ++ (squeeze mid ++ [])) ++ x) tidy-nil ∙ append-nil _;
-  most = most-nil;
-}
-past pre mid (b ∷ bs) r = record {
-  before = pre ++ (squeeze mid ++ b ∷ []);
-  rest = bs;
-  parts = assoc bs;
-  left = λ l. ap (lastFree false) (sym (append-assoc pre (squeeze mid) (b ∷ []))) ∙ last-snoc false (pre ++ squeeze mid) b ∙ r;
-  total = omega (arith, sizes-append pre (squeeze mid ++ b ∷ []), sizes-append (squeeze mid) (b ∷ []), squeeze-sizes mid);
-  tidy = sym (assoc (tidyFrom [] bs));
-  most = λ v. refl;
-}
-  where
-    assoc : (t : List Block) → pre ++ (squeeze mid ++ b ∷ t) ≡ (pre ++ (squeeze mid ++ b ∷ [])) ++ t
-    assoc t = sym (append-assoc pre (squeeze mid ++ b ∷ []) t ∙ ap (λ (x : List Block). pre ++ x) (append-assoc (squeeze mid) (b ∷ []) t))
+pre-sizes pre b x = omega (arith, sizes-parts pre (map cell b) (fixed (x .bytes) ∷ []), all-sizes b)
 
-pub going-step : (s₀ : Structure) (z z′ : List ℕ) (o best sum next best′ : ℕ) → Going s₀ z o best → o < length z → Bayed z o z′ sum next → best′ ≡ larger best sum → Going s₀ z′ next best′
-going-step s₀ z z′ o best sum next best′ (going s a el et em) l (bayed end q e) eb =
-    let c = sp s z o a in
-    let pa = past (a .pre) (c .mid) (c .post) (c .right) in
-    let af = after s z o a end sum next q l z′ e in
-    let nx = next-is s z o a end sum next q in
-    let sm = sum-is s z o a end sum next q in
-    going (record { chain = s .chain; blocks = a .pre ++ (squeeze (c .mid) ++ c .post) })
-    (record { valid = af .1; image = af .0; pre = pa .before; rest = pa .rest; parts = pa .parts; left = pa .left; place = omega (arith, nx, af .2, a .place, pa .total) })
-    el
-    (pa .tidy ∙ ap (λ (x : List Block). a .pre ++ x) (sym (c .tidy [])) ∙ et)
-    (pa .most best′ ∙ ap (λ (v : ℕ). largestPost v (c .post)) (eb ∙ ap (larger best) sm) ∙ sym (c .most best []) ∙ em)
+regroup : (a b c d : List Block) → a ++ (b ++ (c ++ d)) ≡ (a ++ (b ++ c)) ++ d
+regroup a b c d = simp append-assoc
 
-pub going-most : (s₀ : Structure) (z : List ℕ) (o best : ℕ) → Going s₀ z o best → length z ≤ o → best ≡ largest s₀
-going-most s₀ z o best g l = going-done s₀ z o best g l .0
+-- the bay at the front of what is left, and what stands behind it
+module _ {s : Structure} {z : List ℕ} {at : ℕ} {pre : List Block} {u : Bays (List Cell) Fixed} (x : Stands s z at pre u) (b : List Cell) where
+  at-last : u ≡ last b → s .blocks ≡ pre ++ (map cell b ++ [])
+  at-last q = x .parts ∙ ap (λ (w : Bays (List Cell) Fixed). pre ++ flatten w) q
 
-pub going-bytes : (s₀ : Structure) (z : List ℕ) (o best : ℕ) → Going s₀ z o best → length z ≤ o → z ≡ encode (compacted s₀)
-going-bytes s₀ z o best g l = going-done s₀ z o best g l .1
+  at-more : (f : Fixed) (w : Bays (List Cell) Fixed) → u ≡ more b f w → s .blocks ≡ pre ++ (map cell b ++ (fixed (f .bytes) ∷ flatten w))
+  at-more f w q = x .parts ∙ ap (λ (w : Bays (List Cell) Fixed). pre ++ flatten w) q
+
+module _ (s₀ : Structure) (z : List ℕ) (at best : ℕ) (g : Going s₀ z at best) (l : at ≤ length z) (end sum tail next : ℕ) (r : Read z at end sum tail next) where
+  abbrev b : List Cell
+  b = r .bay
+
+  pub going-bay : ZoneBay z at end
+  going-bay = go g (r .cut)
+    where
+      go : Going s₀ z at best → Cut z at next b → ZoneBay z at end
+      go (through k p m) c = absurd (omega arith)
+      go (under-way s pre u x c p m) (at-end q long n) = rw (r .end-is) (its-bay s (x .valid) z (x .image) at pre [] b (at-last x b (sym (stands-bays x) ∙ q)) (x .place))
+      go (under-way s pre u x c p m) (at-fixed f q place n lim) = rw (r .end-is) (its-bay s (x .valid) z (x .image) at pre _ b (at-more x b f _ (sym (stands-bays x) ∙ q)) (x .place))
+
+  module _ (z′ : List ℕ) (best′ : ℕ) (eb : best′ ≡ max best sum) where
+    -- z′ has the bay compacted, whatever it took
+    abbrev Packs : Type 0
+    Packs = (s : Structure) (pre post : List Block) → Valid s → z ≡ encode s → s .blocks ≡ pre ++ (map cell b ++ post) → at ≡ start s + sizes pre → z′ ≡ encode (record { chain = s .chain; blocks = pre ++ (map cell (compactBay b) ++ post) })
+
+    turn : Packs → Going s₀ z′ next best′
+    turn pk = go g (r .cut)
+      where
+        go : Going s₀ z at best → Cut z at next b → Going s₀ z′ next best′
+        go (through k p m) c = absurd (omega arith)
+        go (under-way s pre u x c p m) (at-end q long n) =
+            let e = at-last x b (sym (stands-bays x) ∙ q) in
+            let y = pk s pre [] (x .valid) (x .image) e (x .place) in
+            through (omega (arith, ap length y, new-long s (x .valid) z (x .image) at pre [] b e (x .place) (x .left) refl))
+            (y ∙ (λ i. encode (record { chain = c i; blocks = (ap (λ (w : Bays (List Cell) Fixed). pre ++ flatten (mapS compactBay w)) (sym (sym (stands-bays x) ∙ q)) ∙ p) i })))
+            (omega (arith, eb, r .sum-is, m, ap (maxS baySum) (sym (stands-bays x) ∙ q)))
+        go (under-way s pre u x c p m) (at-fixed f q place n lim) =
+            let w = baysAt z next in
+            let o : u ≡ more b f w = sym (stands-bays x) ∙ q in
+            let post = fixed (f .bytes) ∷ flatten w in
+            let e = at-more x b f w o in
+            let y = pk s pre post (x .valid) (x .image) e (x .place) in
+            let t : Structure = record { chain = s .chain; blocks = pre ++ (map cell (compactBay b) ++ post) } in
+            let nl = new-long s (x .valid) z (x .image) at pre post b e (x .place) (x .left) refl in
+            let ps = pre-sizes pre (compactBay b) f in
+            under-way t (pre ++ (map cell (compactBay b) ++ (fixed (f .bytes) ∷ []))) w (record {
+              valid = new-valid s (x .valid) z (x .image) at pre post b e (x .place) (x .left) refl;
+              image = y;
+              parts = regroup pre (map cell (compactBay b)) (fixed (f .bytes) ∷ []) (flatten w);
+              left = ap (lastFree false) (sym (append-assoc pre (map cell (compactBay b)) (fixed (f .bytes) ∷ []))) ∙ last-end false (pre ++ map cell (compactBay b)) (f .bytes);
+              place = omega (arith, n, place, x .place, ps, tidy-size b, compact-start s (x .valid) pre post b e);
+              tiled = subst (λ (k : ℕ). Tiled k w (length z′)) (sym n) (subst (Tiled (f .place + fsize f) w) (sym (ap length y ∙ nl)) (tiled-rest (subst (λ (v : Bays (List Cell) Fixed). Tiled at v (length z)) o (x .tiled))));
+            }) c
+            (sym (regroup pre (map cell (compactBay b)) (fixed (f .bytes) ∷ []) (flatten (mapS compactBay w))) ∙ ap (λ (v : Bays (List Cell) Fixed). pre ++ flatten (mapS compactBay v)) (sym o) ∙ p)
+            (omega (arith, eb, r .sum-is, m, ap (maxS baySum) o))
+
+    pub going-turn : z′ ≡ cond (eqb sum tail) z (settled z at (compactBay (bayCells z at end))) → Going s₀ z′ next best′
+    going-turn y = go (eqb sum tail) refl y
+      where
+        go : (t : Bool) → eqb sum tail ≡ t → z′ ≡ cond t z (settled z at (compactBay (bayCells z at end))) → Going s₀ z′ next best′
+        go true q y = turn (λ s pre post v e parts place. y ∙ stays s v z e at pre post b parts place (sym (r .sum-is) ∙ eqb-true sum tail q ∙ r .tail-is))
+        go false q y = turn (λ s pre post v e parts place. packs s v z e at pre post b parts place z′ (rw (r .end-is) at y))
+
+-- ---- the code's own test
+
+pub pack-no : (x y : List ℕ) (sum tail : ℕ) → sum ≡ tail → x ≡ cond (eqb sum tail) x y
+pack-no x y sum tail e = rw (eq-eqb sum tail e)
+
+pub pack-yes : (x y z : List ℕ) (sum tail : ℕ) → (sum ≡ tail → ⊥) → z ≡ y → z ≡ cond (eqb sum tail) x y
+pack-yes x y z sum tail e q = rw (ne-eqb sum tail e) q

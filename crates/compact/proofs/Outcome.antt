@@ -7,8 +7,9 @@ use Rattle.structure.specs.Structure.{start, decode}
 use Rattle.calls.specs.Calls.{compact}
 use Rattle.calls.specs.Bays.{Bays, last, more, mapS}
 use Rattle.zone.specs.PickBays.{AllS}
-use Rattle.calls.specs.State.{Item, Fixed}
-use Rattle.zone.specs.Bay.{Cell, items, baySum, gap, packed, compactBay}
+use Rattle.kinds.specs.Kinds.{Item}
+use Rattle.calls.specs.State.{Fixed}
+use Rattle.bay.specs.Bay.{Cell, items, baySum, gap, packed, compactBay}
 use Rattle.zone.specs.Group.{group}
 use Rattle.zone.specs.Call.{call}
 use Rattle.call_laws.proofs.Outcome.{none-lent, after-bays}

@@ -1,4 +1,3 @@
-pub mod All
-pub mod Compact
-pub mod Going
+pub mod Compacted
 pub mod Packed
+pub mod Ready

@@ -4,36 +4,17 @@ use mathlib.Core.List.{List, [], _∷_, _++_, append-assoc, append-nil}
 use Prim.Native.Nat.{ℕ, zero, suc, _+_, _-_, _%_, _<_, _≤_}
 use native.Mathlib.Omega.{arith}
 use borrow.Author.Tests.{ne-eqb}
-use lib.ListN.{length, take, drop, length-replicate, length-append, length-take, length-drop, drop-of-length-le, take-append-drop}
-use lib.Seq.{drop-drop, take-at, drop-append-add}
+use lib.ListN.{length, take, drop, length-replicate, length-append, length-take, length-drop, drop-of-length-le}
 use Rattle.bigendian.specs.BigEndian.{slice, overwrite}
 use Rattle.bigendian.proofs.Laws.{length-toBE}
+use Rattle.bigendian.proofs.Overwrite.{write-length, take-write, drop-write, write-still}
 use Rattle.format.specs.WellFormed.{typeOf}
-use Rattle.structure.specs.Structure.{Block, free, encodeBlock, join}
+use Rattle.structure.specs.Structure.{Block, encodeBlock, join, cell}
+use Rattle.bay.specs.Bay.{free}
 use Rattle.row.specs.Row.{blocksOf, bytesOf, kindB, Stepped, blockAt}
 use Rattle.row.proofs.Laws.{row-end, bytes-append}
 use Rattle.find_bay.specs.Spots.{freeTotal, used, gapOf, squeeze}
-use Rattle.access.proofs.Store.{write-length}
 use Rattle.compact_bay.specs.Tidy.{Kept, Gathered}
-
-pub take-write : (s : List ℕ) (at n : ℕ) (b : List ℕ) → at ≤ length s → length b ≡ n → take (at + n) (overwrite s at b) ≡ take at s ++ b
-take-write s at n b h e = take-at (take at s ++ b) (drop (at + length b) s) (at + n) (simp (length-append, length-take) (omega arith))
-
--- what lies behind a overwrite stays
-pub drop-write : (s : List ℕ) (at n : ℕ) (b : List ℕ) → at + length b ≤ n → n ≤ length s → drop n (overwrite s at b) ≡ drop n s
-drop-write s at n b h k =
-    let m = n - (at + length b) in
-    let p = take at s ++ b in
-    let e : n ≡ length p + m = simp (length-append, length-take) (omega arith) in
-    let e′ : at + length b + m ≡ n = omega arith in
-    ap (λ (j : ℕ). drop j (overwrite s at b)) e ∙ drop-append-add p (drop (at + length b) s) m ∙ drop-drop m (at + length b) s ∙ ap (λ (j : ℕ). drop j s) e′
-
--- what is written where it stands changes nothing
-pub write-still : (s : List ℕ) (at n : ℕ) → at + n ≤ length s → s ≡ overwrite s at (slice s at n)
-write-still s at n h =
-    let lc : length (slice s at n) ≡ n = simp (length-take, length-drop) (omega arith) in
-    let d : slice s at n ++ drop (at + n) s ≡ drop at s = ap (λ (x : List ℕ). slice s at n ++ x) (sym (drop-drop n at s)) ∙ take-append-drop n (drop at s) in
-    rw lc (sym (append-assoc (take at s) (slice s at n) (drop (at + n) s) ∙ ap (λ (x : List ℕ). take at s ++ x) d ∙ take-append-drop at s))
 
 module _ (s : List ℕ) (to at n k : ℕ) (h : at < length s) (le : to ≤ at) (q : to % 4 ≡ 0) (st : Stepped s at n) (ek : k ≡ typeOf (drop at s)) where
   abbrev b : Block
@@ -92,16 +73,16 @@ gather-done s₀ s to at h k qa qt l le inv sum =
       sum = omega (arith, rw (row-end s at h) at sum);
     }
 
-pub length-free : (n : ℕ) → 4 ≤ n → length (encodeBlock (free n)) ≡ n
+pub length-free : (n : ℕ) → 4 ≤ n → length (encodeBlock (cell (free n))) ≡ n
 unfolding encodeBlock
 length-free n l = simp (length-append, length-toBE, length-replicate) (omega arith)
 
-pub finish-some : (s s₁ : List ℕ) (to : ℕ) → to < length s → (length s - to) % 4 ≡ 0 → s₁ ≡ overwrite s to (encodeBlock (free (length s - to)))
+pub finish-some : (s s₁ : List ℕ) (to : ℕ) → to < length s → (length s - to) % 4 ≡ 0 → s₁ ≡ overwrite s to (encodeBlock (cell (free (length s - to))))
     → s₁ ≡ take to s ++ bytesOf (gapOf (length s - to))
 unfolding join
 finish-some s s₁ to h d e =
     let l = length-free (length s - to) (omega arith) in
-    let dr : drop (to + length (encodeBlock (free (length s - to)))) s ≡ [] = (let le : length s ≤ to + length (encodeBlock (free (length s - to))) = omega arith in drop-of-length-le s le) in
+    let dr : drop (to + length (encodeBlock (cell (free (length s - to))))) s ≡ [] = (let le : length s ≤ to + length (encodeBlock (cell (free (length s - to)))) = omega arith in drop-of-length-le s le) in
     rw (e, ne-eqb (length s - to) 0 (omega arith), dr) (simp append-nil)
 
 pub finish-none : (s : List ℕ) (to : ℕ) → length s ≤ to → to ≤ length s → s ≡ take to s ++ bytesOf (gapOf (length s - to))

@@ -7,34 +7,35 @@ use lib.ListN.{length, take, drop, length-take}
 use lib.Seq.{drop-drop, length-take-le}
 use Rattle.bigendian.specs.BigEndian.{fromBE, toBE, slice, overwrite}
 use Rattle.bigendian.proofs.Laws.{length-toBE}
+use Rattle.bigendian.proofs.Overwrite.{write-length, drop-write}
 use Rattle.format.specs.WellFormed.{typeOf, handleOf}
 use Rattle.format.proofs.Walk.{drop-take, kind-take, handle-take}
-use Rattle.structure.specs.Structure.{Block, free, fixed, reloc, size}
+use Rattle.structure.specs.Structure.{Block, fixed, size, cell}
+use Rattle.kinds.specs.Kinds.{item}
+use Rattle.bay.specs.Bay.{free, held}
 use Rattle.row.specs.Row.{blocksOf, kindB, Stepped, blockAt}
 use Rattle.row.proofs.Laws.{row-end, reloc-at}
-use Rattle.access.proofs.Store.{write-length}
 use Rattle.compact_bay.specs.Tidy.{setOne, setAll, Low, IsLow, is-low, Owner, owner, Turned}
-use Rattle.compact_bay.proofs.Part.{drop-write}
 
 low-more : (a b : ℕ) (bs : List Block) → a ≤ b → Low a bs → Low b bs
 low-more a b [] l x = tt
-low-more a b (free n ∷ bs) l x = low-more a b bs l x
+low-more a b (cell (free n) ∷ bs) l x = low-more a b bs l x
 low-more a b (fixed d ∷ bs) l x = low-more a b bs l x
-low-more a b (reloc h d ∷ bs) l x = (omega (arith, x .0), x .1, low-more a b bs l (x .2))
+low-more a b (cell (held it) ∷ bs) l x = (omega (arith, x .0), x .1, low-more a b bs l (x .2))
 
 low-tail : (a : ℕ) (b : Block) (bs : List Block) → Low a (b ∷ bs) → Low a bs
-low-tail a (free n) bs x = x
+low-tail a (cell (free n)) bs x = x
 low-tail a (fixed d) bs x = x
-low-tail a (reloc h d) bs x = x .2
+low-tail a (cell (held it)) bs x = x .2
 
 low-is : (lim : ℕ) (bs : List Block) → IsLow lim bs → Low lim bs
 low-is lim bs (is-low x) = x
 
 one-other : (at : ℕ) (b : Block) (z : List ℕ) → (kindB b ≡ 2 → ⊥) → setOne at b z ≡ z
 unfolding setOne
-one-other at (free n) z e = refl
+one-other at (cell (free n)) z e = refl
 one-other at (fixed d) z e = refl
-one-other at (reloc h d) z e = absurd (e refl)
+one-other at (cell (held it)) z e = absurd (e refl)
 
 all-cons : (at : ℕ) (b : Block) (bs : List Block) (z : List ℕ) (n : ℕ) → size b ≡ n → setAll at (b ∷ bs) z ≡ setAll (at + n) bs (setOne at b z)
 unfolding setAll
@@ -65,8 +66,8 @@ module _ (z : List ℕ) (to at n k : ℕ) (lt : at < to) (l : to ≤ length z) (
       let q : handleOf (drop at z) ≡ h = rw (drop-drop 2 at z) (sym eh) in
       let hh : handleOf (drop at (take to z)) ≡ h = rw (drop-take at to z) (p ∙ q) in
       let d = drop 4 (take n (drop at (take to z))) in
-      let r : b ≡ reloc h d = reloc-at (take to z) at n st (same-kind ∙ e2) ∙ ap (λ (k : ℕ). reloc k d) hh in
-      let lows : Low at (reloc h d ∷ (blocksOf (drop (at + n) (take to z)))) = subst (Low at) (st .blocks ∙ ap (λ (x : Block). x ∷ (blocksOf (drop (at + n) (take to z)))) r) (low-is at _ lo) in
+      let r : b ≡ cell (held (item h d)) = reloc-at (take to z) at n st (same-kind ∙ e2) ∙ ap (λ (k : ℕ). cell (held (item k d))) hh in
+      let lows : Low at (cell (held (item h d)) ∷ (blocksOf (drop (at + n) (take to z)))) = subst (Low at) (st .blocks ∙ ap (λ (x : Block). x ∷ (blocksOf (drop (at + n) (take to z)))) r) (low-is at _ lo) in
       owner lo st (λ x. let y : ⊥ = omega (arith, lows .1) in absurd y) (λ x. (lows .0, ap (λ (x : Block). setOne at x z) r))
 
 -- ---- one turn

@@ -8,14 +8,17 @@ use lib.Dec.{eqb}
 use borrow.Author.Tests.{eqb-true, eqb-false}
 use lib.ListN.{length, take, drop, length-take, length-drop}
 use lib.Seq.{drop-drop, take-at, drop-at, length-take-le}
+use Rattle.block_type.specs.Limits.{longestZone}
 use Rattle.bigendian.specs.BigEndian.{slice, overwrite}
 use Rattle.format.proofs.Walk.{drop-take}
-use Rattle.structure.specs.Structure.{Block, free, fixed, reloc, sizes}
+use Rattle.structure.proofs.Append.{handles-append}
+use Rattle.structure.specs.Structure.{Block, fixed, sizes, cell}
+use Rattle.bay.specs.Bay.{free, held}
 use Rattle.structure.specs.Valid.{handlesOf}
 use Rattle.row.specs.Row.{blocksOf, bytesOf, Row, row, Sound}
 use Rattle.row.proofs.Laws.{tiles-join, row-bytes, row-sound, bytes-long, sound-append}
 use Rattle.find_bay.specs.Spots.{freeTotal, used, gapOf, squeeze}
-use Rattle.find_bay.proofs.Numbers.{sizes-append}
+use Rattle.structure.proofs.Append.{sizes-append}
 use Rattle.compact_bay.specs.Tidy.{Low, IsLow, is-low, setAll, tidied}
 
 -- ---- the used blocks and the free bytes
@@ -23,28 +26,28 @@ use Rattle.compact_bay.specs.Tidy.{Low, IsLow, is-low, setAll, tidied}
 pub used-sizes : (bs : List Block) → sizes (used bs) + freeTotal bs ≡ sizes bs
 unfolding used sizes freeTotal
 used-sizes [] = refl
-used-sizes (free n ∷ bs) = omega (arith, used-sizes bs)
+used-sizes (cell (free n) ∷ bs) = omega (arith, used-sizes bs)
 used-sizes (fixed d ∷ bs) = omega (arith, used-sizes bs)
-used-sizes (reloc h d ∷ bs) = omega (arith, used-sizes bs)
+used-sizes (cell (held it) ∷ bs) = omega (arith, used-sizes bs)
 
 pub used-sound : (bs : List Block) → Sound bs → Sound (used bs)
 unfolding used
 used-sound [] s = tt
-used-sound (free n ∷ bs) s = used-sound bs (s .1)
+used-sound (cell (free n) ∷ bs) s = used-sound bs (s .1)
 used-sound (fixed d ∷ bs) s = (s .0, used-sound bs (s .1))
-used-sound (reloc h d ∷ bs) s = (s .0, used-sound bs (s .1))
+used-sound (cell (held it) ∷ bs) s = (s .0, used-sound bs (s .1))
 
 pub free-four : (bs : List Block) → Sound bs → freeTotal bs % 4 ≡ 0
 unfolding freeTotal
 free-four [] s = refl
-free-four (free n ∷ bs) s = omega (arith, s .0 .1, free-four bs (s .1))
+free-four (cell (free n) ∷ bs) s = omega (arith, s .0 .1, free-four bs (s .1))
 free-four (fixed d ∷ bs) s = omega (arith, free-four bs (s .1))
-free-four (reloc h d ∷ bs) s = omega (arith, free-four bs (s .1))
+free-four (cell (held it) ∷ bs) s = omega (arith, free-four bs (s .1))
 
-pub gap-sound : (n : ℕ) → n % 4 ≡ 0 → n ≤ 1048576 → Sound (gapOf n)
+pub gap-sound : (n : ℕ) → n % 4 ≡ 0 → n ≤ longestZone → Sound (gapOf n)
 gap-sound n q l = go (eqb n 0) refl
   where
-    go : (t : Bool) → eqb n 0 ≡ t → Sound (cond t [] (free n ∷ []))
+    go : (t : Bool) → eqb n 0 ≡ t → Sound (cond t [] (cell (free n) ∷ []))
     go true e = tt
     go false e = ((let ne = eqb-false n 0 e in omega arith, q, l), tt)
 
@@ -52,7 +55,7 @@ pub gap-sizes : (n : ℕ) → sizes (gapOf n) ≡ n
 unfolding sizes
 gap-sizes n = go (eqb n 0) refl
   where
-    go : (t : Bool) → eqb n 0 ≡ t → sizes (cond t [] (free n ∷ [])) ≡ n
+    go : (t : Bool) → eqb n 0 ≡ t → sizes (cond t [] (cell (free n) ∷ [])) ≡ n
     go true e = sym (eqb-true n 0 e)
     go false e = omega arith
 
@@ -60,31 +63,24 @@ pub squeeze-sizes : (bs : List Block) → sizes (squeeze bs) ≡ sizes bs
 unfolding squeeze
 squeeze-sizes bs = omega (arith, sizes-append (used bs) (gapOf (freeTotal bs)), gap-sizes (freeTotal bs), used-sizes bs)
 
-pub squeeze-sound : (bs : List Block) → Sound bs → sizes bs ≤ 1048576 → Sound (squeeze bs)
+pub squeeze-sound : (bs : List Block) → Sound bs → sizes bs ≤ longestZone → Sound (squeeze bs)
 unfolding squeeze
 squeeze-sound bs s l = sound-append (used bs) (gapOf (freeTotal bs)) (used-sound bs s) (gap-sound (freeTotal bs) (free-four bs s) (omega (arith, used-sizes bs)))
 
 -- ---- handles
 
-pub handles-append : (a b : List Block) → handlesOf (a ++ b) ≡ handlesOf a ++ handlesOf b
-unfolding handlesOf
-handles-append [] b = refl
-handles-append (free n ∷ a) b = handles-append a b
-handles-append (fixed d ∷ a) b = handles-append a b
-handles-append (reloc h d ∷ a) b = ap (λ (t : List ℕ). h ∷ t) (handles-append a b)
-
 used-handles : (bs : List Block) → handlesOf (used bs) ≡ handlesOf bs
 unfolding used handlesOf
 used-handles [] = refl
-used-handles (free n ∷ bs) = used-handles bs
+used-handles (cell (free n) ∷ bs) = used-handles bs
 used-handles (fixed d ∷ bs) = used-handles bs
-used-handles (reloc h d ∷ bs) = ap (λ (t : List ℕ). h ∷ t) (used-handles bs)
+used-handles (cell (held it) ∷ bs) = ap (λ (t : List ℕ). (it .handle) ∷ t) (used-handles bs)
 
 pub gap-handles : (n : ℕ) → handlesOf (gapOf n) ≡ []
 unfolding handlesOf
 gap-handles n = go (eqb n 0)
   where
-    go : (t : Bool) → handlesOf (cond t [] (free n ∷ [])) ≡ []
+    go : (t : Bool) → handlesOf (cond t [] (cell (free n) ∷ [])) ≡ []
     go true = refl
     go false = refl
 
@@ -98,26 +94,26 @@ low-squeeze lim bs x = app (used bs) (gapOf (freeTotal bs)) (us bs x) (gp (freeT
   where
     app : (a b : List Block) → Low lim a → Low lim b → Low lim (a ++ b)
     app [] b x y = y
-    app (free n ∷ a) b x y = app a b x y
+    app (cell (free n) ∷ a) b x y = app a b x y
     app (fixed d ∷ a) b x y = app a b x y
-    app (reloc h d ∷ a) b x y = (x .0, x .1, app a b (x .2) y)
+    app (cell (held it) ∷ a) b x y = (x .0, x .1, app a b (x .2) y)
 
     us : (bs : List Block) → Low lim bs → Low lim (used bs)
     us [] x = tt
-    us (free n ∷ bs) x = us bs x
+    us (cell (free n) ∷ bs) x = us bs x
     us (fixed d ∷ bs) x = us bs x
-    us (reloc h d ∷ bs) x = (x .0, x .1, us bs (x .2))
+    us (cell (held it) ∷ bs) x = (x .0, x .1, us bs (x .2))
 
     gp : (n : ℕ) → Low lim (gapOf n)
     gp n = gp′ (eqb n 0)
       where
-        gp′ : (t : Bool) → Low lim (cond t [] (free n ∷ []))
+        gp′ : (t : Bool) → Low lim (cond t [] (cell (free n) ∷ []))
         gp′ true = tt
         gp′ false = tt
 
 -- ---- the bay is back, and its masters are to fromBE set
 
-module _ (z y : List ℕ) (a e : ℕ) (le : a ≤ e) (k : e ≤ length z) (lim : length z ≤ 1048576) (r : Row (slice z a (e - a))) (lo : IsLow a (blocksOf (slice z a (e - a))))
+module _ (z y : List ℕ) (a e : ℕ) (le : a ≤ e) (k : e ≤ length z) (lim : length z ≤ longestZone) (r : Row (slice z a (e - a))) (lo : IsLow a (blocksOf (slice z a (e - a))))
     (ly : length y ≡ length (slice z a (e - a))) (ey : y ≡ bytesOf (squeeze (blocksOf (slice z a (e - a))))) where
   abbrev ts : List Block
   ts = blocksOf (slice z a (e - a))

@@ -4,7 +4,8 @@ use mathlib.Core.List.{List, [], _∷_, _++_}
 use Prim.Native.Nat.{ℕ, _+_, _-_, _%_, _<_, _≤_}
 use lib.ListN.{length, take, drop}
 use Rattle.bigendian.specs.BigEndian.{toBE, slice, overwrite}
-use Rattle.structure.specs.Structure.{Block, free, fixed, reloc, size}
+use Rattle.structure.specs.Structure.{Block, fixed, size, cell}
+use Rattle.bay.specs.Bay.{free, held}
 use Rattle.row.specs.Row.{Row, blocksOf, bytesOf, Stepped, blockAt}
 use Rattle.find_bay.specs.Spots.{freeTotal, used, squeeze}
 
@@ -29,9 +30,9 @@ pub record Gathered (s₀ s : List ℕ) (to : ℕ) : Type 0 where
 
 -- the zone z with the master of a block at offset at holding its first data byte
 unfoldable pub setOne : ℕ → Block → List ℕ → List ℕ
-setOne at (free n) z = z
+setOne at (cell (free n)) z = z
 setOne at (fixed d) z = z
-setOne at (reloc h d) z = overwrite z h (toBE 4 (at + 4))
+setOne at (cell (held it)) z = overwrite z (it .handle) (toBE 4 (at + 4))
 
 -- the same for each block of a list, the first of them at offset at
 unfoldable pub setAll : ℕ → List Block → List ℕ → List ℕ
@@ -41,9 +42,9 @@ setAll at (b ∷ bs) z = setAll (at + size b) bs (setOne at b z)
 -- the masters lie below offset lim
 abbrev pub Low : ℕ → List Block → Type 0
 Low lim [] = Unit {0}
-Low lim (free n ∷ bs) = Low lim bs
+Low lim (cell (free n) ∷ bs) = Low lim bs
 Low lim (fixed d ∷ bs) = Low lim bs
-Low lim (reloc h d ∷ bs) = (h + 4 ≤ lim) × (0 < h) × Low lim bs
+Low lim (cell (held it) ∷ bs) = ((it .handle) + 4 ≤ lim) × (0 < (it .handle)) × Low lim bs
 
 pub data IsLow (lim : ℕ) (bs : List Block) : Type 0 where
   is-low : Low lim bs → IsLow lim bs

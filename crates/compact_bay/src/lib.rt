@@ -4,6 +4,7 @@ ghost use mathlib.Core.Path.{_≡_};
 ghost use mathlib.Core.List.{_++_};
 ghost use Prim.Native.Nat.{_+_, _-_, _%_, _<_, _≤_};
 ghost use lib.ListN.{length, take, drop};
+ghost use Rattle.block_type.specs.Limits.{longestZone};
 ghost use Rattle.bigendian.specs.BigEndian.{slice};
 ghost use Rattle.row.specs.Row.{Row, Stepped, blocksOf, bytesOf};
 ghost use Rattle.find_bay.specs.Spots.{gapOf, squeeze};
@@ -41,18 +42,18 @@ fn gather(s: &mut [u8]) -> usize
 
 // One free block from `to` to the end, or none.
 fn finish(s: &mut [u8], to: usize)
-    requires { ⌜ (to ≤ length (now s)) × ((length (now s) - to) % 4 ≡ 0) × (length (now s) ≤ 1048576) ⌝ }
+    requires { ⌜ (to ≤ length (now s)) × ((length (now s) - to) % 4 ≡ 0) × (length (now s) ≤ longestZone) ⌝ }
     ensures { λ _. ⌜ now (s .exit) ≡ take to (now (s .entry)) ++ bytesOf (gapOf (length (now (s .entry)) - to)) ⌝ }
 {
     let end = s.len();
     if to < end {
-        release::blank(s, to, end);
+        blank::blank(s, to, end);
     }
 }
 
 // Compacts a stretch of blocks.
 pub fn compact_part(s: &mut [u8])
-    requires { ⌜ Row (now s) × (length (now s) ≤ 1048576) ⌝ }
+    requires { ⌜ Row (now s) × (length (now s) ≤ longestZone) ⌝ }
     ensures { λ _. ⌜ now (s .exit) ≡ bytesOf (squeeze (blocksOf (now (s .entry)))) ⌝ }
 {
     let to = gather(s);
@@ -72,7 +73,7 @@ fn handle_at(z: &[u8], to: usize, at: usize, n: usize) -> usize
 
 // One turn: the master of the block at `at` holds its first data byte, where it has one. The block's size.
 fn turn(z: &mut [u8], to: usize, at: usize) -> usize
-    requires { ⌜ (at < to) × (to ≤ length (now z)) × (length (now z) ≤ 1048576) × Row (drop at (take to (now z))) × IsLow at (blocksOf (drop at (take to (now z)))) ⌝ }
+    requires { ⌜ (at < to) × (to ≤ length (now z)) × (length (now z) ≤ longestZone) × Row (drop at (take to (now z))) × IsLow at (blocksOf (drop at (take to (now z)))) ⌝ }
     ensures { λ r. ⌜ Turned (now (z .entry)) to at (now (z .exit)) r ⌝ }
 {
     let n = row::step(&z[..to], at);
@@ -86,7 +87,7 @@ fn turn(z: &mut [u8], to: usize, at: usize) -> usize
 
 // The masters of the relocatable blocks from `from` up to `to` hold their first data bytes.
 pub fn set_masters(z: &mut [u8], from: usize, to: usize)
-    requires { ⌜ (from ≤ to) × (to ≤ length (now z)) × (length (now z) ≤ 1048576) × Row (drop from (take to (now z))) × IsLow from (blocksOf (drop from (take to (now z)))) ⌝ }
+    requires { ⌜ (from ≤ to) × (to ≤ length (now z)) × (length (now z) ≤ longestZone) × Row (drop from (take to (now z))) × IsLow from (blocksOf (drop from (take to (now z)))) ⌝ }
     ensures { λ _. ⌜ now (z .exit) ≡ setAll from (blocksOf (drop from (take to (now (z .entry))))) (now (z .entry)) ⌝ }
 {
     let mut at = from;
@@ -98,7 +99,7 @@ pub fn set_masters(z: &mut [u8], from: usize, to: usize)
 
 // Compacts the bay from a to e, and its masters follow.
 pub fn compact_bay(z: &mut [u8], a: usize, e: usize)
-    requires { ⌜ (a ≤ e) × (e ≤ length (now z)) × (length (now z) ≤ 1048576) × Row (slice (now z) a (e - a)) × IsLow a (blocksOf (slice (now z) a (e - a))) ⌝ }
+    requires { ⌜ (a ≤ e) × (e ≤ length (now z)) × (length (now z) ≤ longestZone) × Row (slice (now z) a (e - a)) × IsLow a (blocksOf (slice (now z) a (e - a))) ⌝ }
     ensures { λ _. ⌜ now (z .exit) ≡ tidied (now (z .entry)) a (e - a) ⌝ }
 {
     compact_part(&mut z[a..e]);

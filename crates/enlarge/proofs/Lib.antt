@@ -1,4 +1,4 @@
 pub mod Last
-pub mod Bytes
+pub mod Zone
 pub mod Call
 pub mod Outcome

@@ -2,23 +2,27 @@
 use mathlib.Core.Path.{_≡_, refl, sym, ap, _∙_}
 use mathlib.Core.Bool.{Bool, true, false}
 use mathlib.Core.List.{List, []}
-use Prim.Native.Nat.{ℕ, _+_}
+use Prim.Native.Nat.{ℕ, zero, suc, _+_}
 use native.Mathlib.Omega.{arith}
-use lib.ListN.{length}
+use lib.ListN.{length, getD}
+use mir.Val.{Fits}
+use mir.Syntax.{w8}
 use Rattle.bigendian.specs.BigEndian.{Bytes}
-use Rattle.format.specs.WellFormed.{wellFormed, zoneOf, lengthField, firstField}
-use Rattle.access.specs.Edit.{is-zone}
-use Rattle.walk.specs.Walker.{blocksAt, lowOf}
+use Rattle.format.specs.WellFormed.{wellFormed, zoneOf, lengthField}
+use Rattle.structure.specs.Structure.{decodeZone}
 use Rattle.calls.specs.Calls.{Answer, told, enlarge, length-of, sums}
 use Rattle.calls.specs.Bays.{Bays, last, more, onLast, sumS}
-use Rattle.zone.specs.Bay.{Cell, baySum, gap, joinBays}
+use Rattle.bay.specs.Bay.{Cell, baySum, gap, joinBays}
 use Rattle.calls.specs.State.{Fixed}
 use Rattle.zone.specs.Call.{zoneIn, Result, call}
+use Rattle.call_laws.specs.Frame.{Planned}
 use Rattle.call_laws.proofs.Outcome.{none-lent}
 use Rattle.call_laws.proofs.Accepted.{Accepted, accepted, before, after}
+use Rattle.call_laws.proofs.Frame.{plan-ill, frame-no}
 use Rattle.call_laws.proofs.Sums.{gap-sum, join-sum}
-use Rattle.enlarge.specs.Enlarge.{accepts}
-use Rattle.enlarge.proofs.Call.{tail-zone, call-9, idle}
+use Rattle.enlarge.specs.Enlarge.{accepts, lastFree}
+use Rattle.enlarge.specs.Ready.{ReadyIn}
+use Rattle.enlarge.proofs.Call.{plan-9, plan-0, call-idle}
 
 -- ---- the sum of the bays
 
@@ -47,13 +51,19 @@ enlarged s k y e =
 pub enlarge-none : (s : List ℕ) → Bytes s → left 0 s ≡ s
 enlarge-none s y = go (wellFormed s) refl
   where
-    within : (w : wellFormed s ≡ true) (t : Bool) → accepts (length s) (lengthField s + 0) 0 ≡ t → left 0 s ≡ s
-    within w false a = ap (λ (r : Result). r .bytes) (call-9 s y w 0 a)
+    bytes : (i : ℕ) → Fits w8 (getD s i 0)
+    bytes i = record { fits = y i }
+
+    still : (number l from : ℕ) → Planned (enlarge 0) s number l (ReadyIn s 0 l from) → left 0 s ≡ s
+    still zero l from p = ap (λ (r : Result). r .bytes) (sym (call-idle s 0 zero l from p refl bytes refl))
+    still (suc n) l from p = ap (λ (r : Result). r .bytes) (sym (frame-no (enlarge 0) s (suc n) l _ p refl (λ e. omega arith)))
+
+    within : (w : wellFormed s ≡ true) (t : Bool) → t ≡ accepts (length s) (lengthField s + 0) 0 → left 0 s ≡ s
+    within w false a = still 9 0 0 (plan-9 s 0 (lengthField s) true false (sym w) refl refl a bytes 0 0 refl)
     within w true a =
-        let z = zoneOf s in
-        let i = tail-zone z (is-zone s y w refl) (firstField z) (lowOf (length z) (firstField z) (blocksAt z (firstField z))) refl refl in
-        ap (λ (r : Result). r .bytes) (sym (idle s y w 0 a (lowOf (length z) (firstField z) (blocksAt z (firstField z))) i refl))
+        let from = lastFree (decodeZone (zoneOf s)) in
+        still 0 (lengthField s) from (plan-0 s 0 (lengthField s) true true (sym w) refl refl a bytes from refl refl)
 
     go : (t : Bool) → wellFormed s ≡ t → left 0 s ≡ s
     go true w = within w (accepts (length s) (lengthField s + 0) 0) refl
-    go false w = rw (w, left)
+    go false w = still 1 0 0 (plan-ill (enlarge 0) s 1 0 _ false (sym w) refl refl refl)

@@ -1,44 +1,31 @@
--- A longer zone, in the line of blocks, and what the plan of an enlargement hands over.
-use mathlib.Core.Path.{_≡_}
-use mathlib.Core.Bool.{Bool, true, false, _&&_}
-use mathlib.Core.List.{List, [], _++_}
-use Prim.Native.Nat.{ℕ, _+_, _%_}
+-- A longer zone.
+use mathlib.Core.Bool.{Bool, _&&_}
+use mathlib.Core.List.{List, []}
+use Prim.Native.Nat.{ℕ, _-_, _%_}
 use lib.Dec.{eqb, leb}
-use lib.ListN.{length, take}
 use Rattle.block_type.specs.Limits.{longestZone}
-use Rattle.format.specs.WellFormed.{wellFormed, lengthField}
-use Rattle.structure.specs.Structure.{Block, sizes, start, decodeZone}
-use Rattle.find_bay.specs.Spots.{gapOf}
-use Rattle.calls.specs.Bays.{onLast}
-use Rattle.zone.specs.Bay.{Cell, gap, joinBays}
+use Rattle.structure.specs.Structure.{Structure, start}
+use Rattle.calls.specs.Bays.{Bays, onLast}
+use Rattle.calls.specs.State.{Fixed}
+use Rattle.bay.specs.Bay.{Cell, gap, joinBays}
 use Rattle.zone.specs.Group.{group, flatten}
+use Rattle.bays.specs.Places.{highBay}
 
 -- "k no multiple of 4, or L + k past the buffer or 1,048,576"; n is L + k
 abbrev pub accepts : ℕ → ℕ → ℕ → Bool
 accepts buf n k = eqb (k % 4) 0 && leb n buf && leb n longestZone
 
--- the blocks with k free bytes behind them; the first block is at offset at
-unfoldable pub longer : ℕ → ℕ → List Block → List Block
-longer k at bs = flatten (onLast (λ (b : List Cell). joinBays b (gap k [])) (group at bs))
+abbrev pub baysOf : Structure → Bays (List Cell) Fixed
+baysOf s = group (start s) (s .blocks)
 
--- `from` is where the last block starts if it is free, else where the blocks end: what is free from there on is one block with the new bytes
-pub record Tail (at : ℕ) (bs : List Block) (from : ℕ) : Type 0 where
-  pub pre : List Block
-  pub last : ℕ
-  pub parts : bs ≡ pre ++ gapOf last
-  pub grown : (k : ℕ) → longer k at bs ≡ pre ++ gapOf (last + k)
-  pub is-from : from ≡ at + sizes pre
+-- k free bytes more at the end of a bay
+abbrev pub grow : ℕ → List Cell → List Cell
+grow k b = joinBays b (gap k [])
 
--- the same in the bytes of a zone
-pub data TailIn (z : List ℕ) (from : ℕ) : Type 0 where
-  tail-in : Tail (start (decodeZone z)) (decodeZone z .blocks) from → TailIn z from
+-- the structure with k free bytes more at its end
+abbrev pub longer : ℕ → Structure → Structure
+longer k s = record { chain = s .chain; blocks = flatten (onLast (grow k) (baysOf s)) }
 
-pub tail-of : (z : List ℕ) (from : ℕ) → TailIn z from → Tail (start (decodeZone z)) (decodeZone z .blocks) from
-tail-of z from (tail-in t) = t
-
--- what the plan answers; n is the new length
-pub data Planned (s : List ℕ) (k number n from : ℕ) : Type 0 where
-  ill-formed : wellFormed s ≡ false → number ≡ 1 → Planned s k number n from
-  refused : wellFormed s ≡ true → accepts (length s) (lengthField s + k) k ≡ false → number ≡ 9 → Planned s k number n from
-  planned : wellFormed s ≡ true → accepts (length s) (lengthField s + k) k ≡ true → number ≡ 0 → n ≡ lengthField s + k → TailIn (take (lengthField s) s) from
-      → Planned s k number n from
+-- where the last block starts if it is free, else where the blocks end: every bay's sum reaches 0, so the highest such bay is the last
+abbrev pub lastFree : Structure → ℕ
+lastFree s = highBay 0 (start s) (baysOf s) .end - highBay 0 (start s) (baysOf s) .tail

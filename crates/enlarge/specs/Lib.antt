@@ -1,1 +1,2 @@
 pub mod Enlarge
+pub mod Ready

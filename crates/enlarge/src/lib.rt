@@ -1,14 +1,17 @@
 // Enlarge: the zone grows by k bytes of its buffer, which become zero and free, merged with a free last block.
 ghost use mathlib.Core.Path.{_≡_};
-ghost use Prim.Native.Nat.{_-_, _≤_};
+ghost use Prim.Native.Nat.{_-_};
 ghost use lib.ListN.{length};
 ghost use Rattle.bigendian.specs.BigEndian.{toBE, overwrite};
-ghost use Rattle.structure.specs.Structure.{encodeBlock, free};
+ghost use Rattle.structure.specs.Structure.{encodeBlock, decodeZone, cell};
+ghost use Rattle.bay.specs.Bay.{free};
 ghost use Rattle.access.specs.Edit.{IsZone};
-ghost use Rattle.release.specs.Release.{Between};
+ghost use Rattle.blank.specs.Between.{Between};
 ghost use Rattle.calls.specs.Calls.{told, enlarge};
 ghost use Rattle.zone.specs.Call.{result, call};
-ghost use Rattle.enlarge.specs.Enlarge.{accepts, TailIn, Planned};
+ghost use Rattle.call_laws.specs.Frame.{Planned};
+ghost use Rattle.enlarge.specs.Enlarge.{accepts, lastFree};
+ghost use Rattle.enlarge.specs.Ready.{Ready};
 use calls::Told;
 
 // Whether a zone of n bytes, k of them new, is possible in a buffer of `buf` bytes.
@@ -18,13 +21,16 @@ fn is_accepted(buf: usize, n: usize, k: usize) -> bool
     (k % 4 == 0) & (n <= buf) & (n <= 1048576)
 }
 
-// Where the last block starts if it is free, else where the blocks end.
+// Where the last block starts if it is free, else where the blocks end. Every bay's sum reaches 0, so the highest such bay is the last.
 fn last_free(z: &[u8]) -> usize
     requires { ⌜ IsZone (now z) ⌝ }
-    ensures { λ r. ⌜ TailIn (now (z .entry)) r ⌝ }
+    ensures { λ r. ⌜ r ≡ lastFree (decodeZone (now (z .entry))) ⌝ }
 {
     let first = bigendian::get4(z, 4) as usize;
-    walk::low(z, first, z.len())
+    let b = bays::find_high(z, first, 0);
+    let end = b.end;
+    let tail = b.tail;
+    end - tail
 }
 
 pub struct EnlargePlan {
@@ -33,9 +39,9 @@ pub struct EnlargePlan {
     pub from: usize,
 }
 
-// The plan: the refusal, 0 for none, and then the new length and where its last free block starts.
+// The plan: the refusal, 0 for none, and then the zone's length and where its last free block starts.
 fn enlarge_plan(zone: &[u8], k: u32) -> EnlargePlan
-    ensures { λ r. ⌜ Planned (now (zone .entry)) k (r .number) (r .len) (r .from) ⌝ }
+    ensures { λ r. ⌜ Planned (enlarge k) (now (zone .entry)) (r .number) (r .len) (Ready (now (zone .entry)) k r) ⌝ }
 {
     let c = zone_check::check(zone);
     let ok = c.ok;
@@ -52,7 +58,7 @@ fn enlarge_plan(zone: &[u8], k: u32) -> EnlargePlan
         let from = last_free(&zone[..l]);
         return EnlargePlan {
             number: 0,
-            len: n,
+            len: l,
             from,
         };
     }
@@ -65,11 +71,11 @@ fn enlarge_plan(zone: &[u8], k: u32) -> EnlargePlan
 
 // The zone's length is that of z, and from `from` on z is one free block, of which the bytes from `old` on are new.
 fn extend(z: &mut [u8], from: usize, old: usize)
-    requires { ⌜ (4 ≤ from) × (Between (now z) from old (length (now z)) (length (now z))) ⌝ }
-    ensures { λ _. ⌜ now (z .exit) ≡ overwrite (overwrite (now (z .entry)) 0 (toBE 4 (length (now (z .entry))))) from (encodeBlock (free (length (now (z .entry)) - from))) ⌝ }
+    requires { ⌜ Between (now z) from old (length (now z)) (length (now z)) ⌝ }
+    ensures { λ _. ⌜ now (z .exit) ≡ overwrite (overwrite (now (z .entry)) from (encodeBlock (cell (free (length (now (z .entry)) - from))))) 0 (toBE 4 (length (now (z .entry)))) ⌝ }
 {
     let n = z.len();
-    release::blank_between(z, from, old, n, n);
+    blank::blank_between(z, from, old, n, n);
     bigendian::put4(z, 0, n as u32);
 }
 
@@ -79,7 +85,7 @@ pub fn enlarge(zone: &mut [u8], k: u32) -> Told
 {
     let p = enlarge_plan(zone, k);
     let number = p.number;
-    let n = p.len;
+    let l = p.len;
     let from = p.from;
     if number == 0 {
         if k == 0 {
@@ -88,8 +94,8 @@ pub fn enlarge(zone: &mut [u8], k: u32) -> Told
                 value: 0,
             };
         }
-        let old = n - k as usize;
-        extend(&mut zone[..n], from, old);
+        let n = l + k as usize;
+        extend(&mut zone[..n], from, l);
         return Told {
             number: 0,
             value: 0,

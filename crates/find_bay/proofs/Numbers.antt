@@ -7,23 +7,15 @@ use native.Mathlib.Nat.{add-zero}
 use native.Mathlib.Omega.{arith}
 use lib.Dec.{leb}
 use Rattle.structure.specs.Structure.{Block, size, sizes}
+use Rattle.structure.proofs.Append.{sizes-append, sizes-snoc}
 use Rattle.row.specs.Row.{freeB, fixedB}
 use Rattle.find_bay.specs.Spots.{freeSize, freeTotal, spot, baysFrom, holesFrom, none, some, firstFit}
 use Rattle.find_bay.specs.Find.{BayN, bayN, findBay, bayAt, HoleN, holeN, findHole, holeAt}
-
-pub sizes-append : (a b : List Block) → sizes (a ++ b) ≡ sizes a + sizes b
-unfolding sizes
-sizes-append [] b = omega arith
-sizes-append (x ∷ a) b = omega (arith, sizes-append a b)
 
 pub free-append : (a b : List Block) → freeTotal (a ++ b) ≡ freeTotal a + freeTotal b
 unfolding freeTotal
 free-append [] b = omega arith
 free-append (x ∷ a) b = omega (arith, free-append a b)
-
-sizes-snoc : (a : List Block) (b : Block) → sizes (a ++ b ∷ []) ≡ sizes a + size b
-unfolding sizes
-sizes-snoc a b = omega (arith, sizes-append a (b ∷ []))
 
 free-snoc : (a : List Block) (b : Block) → freeTotal (a ++ b ∷ []) ≡ freeTotal a + freeSize b
 unfolding freeTotal

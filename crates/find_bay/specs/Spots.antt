@@ -4,7 +4,9 @@ use mathlib.Core.Bool.{cond}
 use Prim.Native.Nat.{ℕ, _+_, _-_}
 use lib.ListN.{replicate}
 use lib.Dec.{eqb, leb}
-use Rattle.structure.specs.Structure.{Block, free, reloc, size}
+use Rattle.structure.specs.Structure.{Block, size, cell}
+use Rattle.kinds.specs.Kinds.{item}
+use Rattle.bay.specs.Bay.{free, held}
 use Rattle.row.specs.Row.{freeB, fixedB}
 
 -- ---- sums
@@ -66,7 +68,7 @@ used (b ∷ bs) = cond (freeB b) (used bs) (b ∷ used bs)
 
 -- a free block of n bytes, none for 0
 abbrev pub gapOf : ℕ → List Block
-gapOf n = cond (eqb n 0) [] (free n ∷ [])
+gapOf n = cond (eqb n 0) [] (cell (free n) ∷ [])
 
 unfoldable pub squeeze : List Block → List Block
 squeeze bs = used bs ++ gapOf (freeTotal bs)
@@ -75,7 +77,7 @@ squeeze bs = used bs ++ gapOf (freeTotal bs)
 
 -- a new block of need bytes at the low end of a free stretch
 unfoldable pub carve : ℕ → ℕ → Spot → List Block
-carve need h p = put p (reloc h (replicate (need - 4) 0) ∷ gapOf (freeTotal (p .inside) - need))
+carve need h p = put p (cell (held (item h (replicate (need - 4) 0))) ∷ gapOf (freeTotal (p .inside) - need))
 
 abbrev pub orElse : Choice → Spot → Spot
 orElse none q = q
@@ -83,7 +85,7 @@ orElse (some p) q = p
 
 -- in a bay: in the lowest hole that is big enough, or else in what compacting leaves
 unfoldable pub settle : ℕ → ℕ → List Block → List Block
-settle need h bs = carve need h (orElse (firstFit need (holes bs)) (spot (used bs) (free (freeTotal bs) ∷ []) []))
+settle need h bs = carve need h (orElse (firstFit need (holes bs)) (spot (used bs) (cell (free (freeTotal bs)) ∷ []) []))
 
 -- in a zone: in the lowest bay whose sum reaches need
 abbrev pub settleIn : ℕ → ℕ → Choice → List Block → List Block

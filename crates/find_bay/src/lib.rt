@@ -5,6 +5,7 @@ ghost use mathlib.Core.Bool.{cond};
 ghost use Prim.Native.Nat.{_≤_};
 ghost use lib.ListN.{length, drop};
 ghost use lib.Dec.{eqb};
+ghost use Rattle.block_type.specs.Limits.{longestZone};
 ghost use Rattle.row.specs.Row.{Row, blocksOf};
 ghost use Rattle.find_bay.specs.Find.{bayN, findBay, holeN, findHole};
 
@@ -27,7 +28,7 @@ pub fn free_part(k: u8, n: usize) -> usize
 
 // The lowest bay whose sum reaches need.
 pub fn find_bay(z: &[u8], first: usize, need: usize) -> Bay
-    requires { ⌜ Row (drop first (now z)) × (first ≤ length (now z)) × (length (now z) ≤ 1048576) ⌝ }
+    requires { ⌜ Row (drop first (now z)) × (first ≤ length (now z)) × (length (now z) ≤ longestZone) ⌝ }
     ensures { λ r. ⌜ bayN (r .found) (r .start) (r .end) (r .sum) ≡ findBay need first first 0 (blocksOf (drop first (now (z .entry)))) ⌝ }
 {
     let mut start = first;
@@ -77,7 +78,7 @@ pub struct Hole {
 
 // The lowest free block of a stretch that has at least need bytes.
 pub fn find_hole(s: &[u8], need: usize) -> Hole
-    requires { ⌜ Row (now s) × (length (now s) ≤ 1048576) ⌝ }
+    requires { ⌜ Row (now s) × (length (now s) ≤ longestZone) ⌝ }
     ensures { λ r. ⌜ holeN (r .found) (r .at) (r .size) ≡ findHole need 0 (blocksOf (now (s .entry))) ⌝ }
 {
     let mut at = 0;

@@ -7,6 +7,7 @@ use native.Mathlib.Omega.{arith}
 use lib.Dec.{eqb}
 use borrow.Author.Tests.{eqb-true, eqb-false, eq-eqb, ne-eqb}
 use lib.ListN.{length}
+use Rattle.block_type.specs.Limits.{zoneHeader, masterSize}
 unfoldable pub use Rattle.format.specs.WellFormed.{offsets}
 pub use Rattle.format.specs.Occurs.{one}
 unfoldable pub use Rattle.format.specs.Occurs.{occurs}
@@ -35,31 +36,23 @@ one-le h k = go (eqb h k)
     go true = omega arith
     go false = omega arith
 
--- what is one is equal
-pub one-eq : (h k : ℕ) → 0 < one h k → h ≡ k
-one-eq h k l = go (eqb h k) refl
-  where
-    go : (t : Bool) → eqb h k ≡ t → h ≡ k
-    go true e = eqb-true h k e
-    go false e = let z = one-other h k (eqb-false h k e) in let q : ⊥ = omega arith in absurd q
-
 pub length-offsets : (k n : ℕ) → length (offsets k n) ≡ n
 unfolding offsets
 length-offsets k zero = refl
-length-offsets k (suc n) = ap suc (length-offsets (k + 4) n)
+length-offsets k (suc n) = ap suc (length-offsets (k + masterSize) n)
 
 pub occurs-below : (h k n : ℕ) → h < k → occurs h (offsets k n) ≡ 0
 unfolding occurs offsets
 occurs-below h k zero l = refl
-occurs-below h k (suc n) l = omega (arith, one-other h k (λ e. omega arith), occurs-below h (k + 4) n (omega arith))
+occurs-below h k (suc n) l = omega (arith, one-other h k (λ e. omega arith), occurs-below h (k + masterSize) n (omega arith))
 
-pub occurs-offset : (h k n : ℕ) → k ≤ h → h < k + 4 * n → h % 4 ≡ k % 4 → occurs h (offsets k n) ≡ 1
+pub occurs-offset : (h k n : ℕ) → k ≤ h → h < k + masterSize * n → h % 4 ≡ k % 4 → occurs h (offsets k n) ≡ 1
 unfolding occurs offsets
 occurs-offset h k zero l u e = let q : ⊥ = omega arith in absurd q
-occurs-offset h k (suc n) l u e = go (eqb h k) refl (λ ne. occurs-offset h (k + 4) n (omega arith) (omega arith) (omega arith))
+occurs-offset h k (suc n) l u e = go (eqb h k) refl (λ ne. occurs-offset h (k + masterSize) n (omega arith) (omega arith) (omega arith))
   where
-    go : (t : Bool) → eqb h k ≡ t → ((h ≡ k → ⊥) → occurs h (offsets (k + 4) n) ≡ 1) → one h k + occurs h (offsets (k + 4) n) ≡ 1
-    go true q r = let hk = eqb-true h k q in omega (arith, one-same h k hk, occurs-below h (k + 4) n (omega arith))
+    go : (t : Bool) → eqb h k ≡ t → ((h ≡ k → ⊥) → occurs h (offsets (k + masterSize) n) ≡ 1) → one h k + occurs h (offsets (k + masterSize) n) ≡ 1
+    go true q r = let hk = eqb-true h k q in omega (arith, one-same h k hk, occurs-below h (k + masterSize) n (omega arith))
     go false q r = let ne = eqb-false h k q in omega (arith, one-other h k ne, r ne)
 
 -- ---- sums over a list
@@ -108,11 +101,11 @@ all-at P h (x ∷ xs) a l = go (eqb h x) refl (all-at P h xs (a .1))
     go false e r = r (omega (arith, one-other h x (eqb-false h x e)))
 
 -- n of n
-pub cover : (n : ℕ) (xs : List ℕ) → length xs ≡ n → All (λ (x : ℕ). occurs x (offsets 16 n) ≡ 1) xs → ((h : ℕ) → occurs h xs ≤ 1)
-    → (h : ℕ) → occurs h (offsets 16 n) ≡ 1 → occurs h xs ≡ 1
+pub cover : (n : ℕ) (xs : List ℕ) → length xs ≡ n → All (λ (x : ℕ). occurs x (offsets zoneHeader n) ≡ 1) xs → ((h : ℕ) → occurs h xs ≤ 1)
+    → (h : ℕ) → occurs h (offsets zoneHeader n) ≡ 1 → occurs h xs ≡ 1
 cover n xs e a b h m =
-    all-at (λ k. occurs k xs ≡ 1) h (offsets 16 n)
-    (sum-full (offsets 16 n) (λ k. occurs k xs) b (sum-occurs (offsets 16 n) xs a ∙ e ∙ sym (length-offsets 16 n)))
+    all-at (λ k. occurs k xs ≡ 1) h (offsets zoneHeader n)
+    (sum-full (offsets zoneHeader n) (λ k. occurs k xs) b (sum-occurs (offsets zoneHeader n) xs a ∙ e ∙ sym (length-offsets zoneHeader n)))
     (omega arith)
 
 pub occurs-append : (h : ℕ) (a b : List ℕ) → occurs h (a ++ b) ≡ occurs h a + occurs h b

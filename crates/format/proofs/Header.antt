@@ -6,6 +6,7 @@ use Prim.Native.Nat.{ℕ, _+_, _*_, _%_}
 use lib.Dec.{eqb, leb}
 use borrow.Author.Tests.{leb-true, eqb-true}
 use lib.ListN.{length, getD}
+use Rattle.block_type.specs.Limits.{longestZone, masterSize, mostMasters, zoneHeader}
 use Rattle.format.proofs.Bool.{and-left, and-right}
 pub use Rattle.format.specs.Steps.{Fields}
 use Rattle.format.specs.WellFormed.{headerOk, lengthField, firstField, mastersField, chainField}
@@ -17,10 +18,10 @@ header-facts s h =
     let t₁ = t₀ && eqb (getD s 15 0) 0 in
     let t₂ = t₁ && eqb (lengthField s % 4) 0 in
     let t₃ = t₂ && leb (lengthField s) (length s) in
-    let t₄ = t₃ && leb (lengthField s) 1048576 in
-    let t₅ = t₄ && leb (mastersField s) 8188 in
-    let t₆ = t₅ && eqb (firstField s) (16 + 4 * mastersField s) in
-    let h₇ = and-right (leb 16 (length s)) _ h in
+    let t₄ = t₃ && leb (lengthField s) longestZone in
+    let t₅ = t₄ && leb (mastersField s) mostMasters in
+    let t₆ = t₅ && eqb (firstField s) (zoneHeader + masterSize * mastersField s) in
+    let h₇ = and-right (leb zoneHeader (length s)) _ h in
     let h₆ = and-left t₆ _ h₇ in
     let h₅ = and-left t₅ _ h₆ in
     let h₄ = and-left t₄ _ h₅ in
@@ -32,13 +33,13 @@ header-facts s h =
       is-first = refl;
       is-masters = refl;
       is-chain = refl;
-      long = leb-true 16 (length s) (and-left _ _ h);
+      long = leb-true zoneHeader (length s) (and-left _ _ h);
       zero14 = eqb-true (getD s 14 0) 0 (and-left t₀ _ h₁);
       zero15 = eqb-true (getD s 15 0) 0 (and-right t₀ _ h₁);
       four = eqb-true (lengthField s % 4) 0 (and-right t₁ _ h₂);
       room = leb-true (lengthField s) (length s) (and-right t₂ _ h₃);
-      limit = leb-true (lengthField s) 1048576 (and-right t₃ _ h₄);
-      few = leb-true (mastersField s) 8188 (and-right t₄ _ h₅);
-      start = eqb-true (firstField s) (16 + 4 * mastersField s) (and-right t₅ _ h₆);
+      limit = leb-true (lengthField s) longestZone (and-right t₃ _ h₄);
+      few = leb-true (mastersField s) mostMasters (and-right t₄ _ h₅);
+      start = eqb-true (firstField s) (zoneHeader + masterSize * mastersField s) (and-right t₅ _ h₆);
       within = leb-true (firstField s) (lengthField s) (and-right t₆ _ h₇);
     }

@@ -7,13 +7,15 @@ use native.Mathlib.Omega.{arith}
 use lib.Dec.{eqb, leb}
 use borrow.Author.Tests.{leb-true, eqb-true, eqb-false}
 use lib.ListN.{length, drop, length-append}
+use Rattle.format.specs.Occurs.{occurs}
+use Rattle.block_type.specs.Limits.{masterSize, zoneHeader, relocHeader}
 use Rattle.format.proofs.Bool.{and-left, and-right}
-use Rattle.format.specs.WellFormed.{typeOf, handleOf, isFree, isReloc, splitBlocks, isMaster, masterAt, relocs}
+use Rattle.format.specs.WellFormed.{typeOf, handleOf, isFree, isReloc, splitBlocks, isMaster, masterAt, relocs, offsets}
 use Rattle.format.specs.OneWalk.{links, typeRule, relocRule, blockOk, blocksOk, bodyOk}
 unfoldable pub use Rattle.format.specs.WellFormed.{chain}
 use Rattle.format.proofs.Walk.{is-good}
 use Rattle.format.proofs.Masters.{Master, is-master}
-use Rattle.format.proofs.Count.{one, occurs, All, offsets, one-other, one-le, occurs-offset, cover, occurs-append, all-append, all-at}
+use Rattle.format.proofs.Count.{one, All, one-other, one-le, occurs-offset, cover, occurs-append, all-append, all-at}
 
 -- the handles of the relocatable blocks, in address order
 unfoldable pub handles : List (List ℕ) → List ℕ
@@ -43,7 +45,7 @@ length-chain z (suc n) h = ap suc (length-chain z n (masterAt z h))
 
 pub record Held (z : List ℕ) (first at h : ℕ) : Type 0 where
   pub master : Master first h
-  pub holds : masterAt z h ≡ at + 4
+  pub holds : masterAt z h ≡ at + relocHeader
 
 pub is-held : (z : List ℕ) (first : ℕ) (prev : Bool) (at : ℕ) (b : List ℕ) → blockOk z first prev at b ≡ true → isReloc b ≡ true → Held z first at (handleOf b)
 unfolding isReloc typeRule relocRule
@@ -51,8 +53,8 @@ is-held z first prev at b g r =
     let k = eqb-true (typeOf b) 2 r in
     let q : relocRule z first at (handleOf b) ≡ true = rw k at (is-good z first prev at b g .rule) in
     record {
-      master = is-master first (handleOf b) (and-left _ (eqb (masterAt z (handleOf b)) (at + 4)) q);
-      holds = eqb-true (masterAt z (handleOf b)) (at + 4) (and-right (isMaster first (handleOf b)) _ q);
+      master = is-master first (handleOf b) (and-left _ (eqb (masterAt z (handleOf b)) (at + relocHeader)) q);
+      holds = eqb-true (masterAt z (handleOf b)) (at + relocHeader) (and-right (isMaster first (handleOf b)) _ q);
     }
 
 -- ---- the handles of the blocks from offset at on
@@ -60,23 +62,23 @@ is-held z first prev at b g r =
 module _ (z : List ℕ) (first : ℕ) where
   -- a handle of these blocks holds an offset behind at
   pub handles-high : (prev : Bool) (at : ℕ) (bs : List (List ℕ)) → blocksOk z first prev at bs ≡ true
-      → All (λ (h : ℕ). Master first h × (at + 4 ≤ masterAt z h)) (handles bs)
+      → All (λ (h : ℕ). Master first h × (at + relocHeader ≤ masterAt z h)) (handles bs)
   unfolding blocksOk handles
   handles-high prev at [] g = tt
   handles-high prev at (b ∷ bs) g =
       let g₀ = and-left (blockOk z first prev at b) _ g in
       go (isReloc b) refl g₀ (weaken (handles bs) (handles-high (isFree b) (at + length b) bs (and-right (blockOk z first prev at b) _ g)))
     where
-      weaken : (hs : List ℕ) → All (λ (h : ℕ). Master first h × (at + length b + 4 ≤ masterAt z h)) hs → All (λ (h : ℕ). Master first h × (at + 4 ≤ masterAt z h)) hs
+      weaken : (hs : List ℕ) → All (λ (h : ℕ). Master first h × (at + length b + relocHeader ≤ masterAt z h)) hs → All (λ (h : ℕ). Master first h × (at + relocHeader ≤ masterAt z h)) hs
       weaken [] a = tt
       weaken (h ∷ hs) a = ((a .0 .0, omega (arith, a .0 .1)), weaken hs (a .1))
 
-      go : (t : Bool) → isReloc b ≡ t → blockOk z first prev at b ≡ true → All (λ (h : ℕ). Master first h × (at + 4 ≤ masterAt z h)) (handles bs)
-          → All (λ (h : ℕ). Master first h × (at + 4 ≤ masterAt z h)) (cond t (handleOf b ∷ handles bs) (handles bs))
+      go : (t : Bool) → isReloc b ≡ t → blockOk z first prev at b ≡ true → All (λ (h : ℕ). Master first h × (at + relocHeader ≤ masterAt z h)) (handles bs)
+          → All (λ (h : ℕ). Master first h × (at + relocHeader ≤ masterAt z h)) (cond t (handleOf b ∷ handles bs) (handles bs))
       go true e g₀ a = let m = is-held z first prev at b g₀ e in ((m .master, omega arith), a)
       go false e g₀ a = a
 
-  pub handles-none : (prev : Bool) (at h : ℕ) (bs : List (List ℕ)) → blocksOk z first prev at bs ≡ true → masterAt z h < at + 4 → occurs h (handles bs) ≡ 0
+  pub handles-none : (prev : Bool) (at h : ℕ) (bs : List (List ℕ)) → blocksOk z first prev at bs ≡ true → masterAt z h < at + relocHeader → occurs h (handles bs) ≡ 0
   handles-none prev at h bs g l = zero-of (occurs h (handles bs)) (λ p. let q = all-at _ h (handles bs) (handles-high prev at bs g) p in omega (arith, q .1))
     where
       zero-of : (n : ℕ) → (0 < n → ⊥) → n ≡ 0
@@ -93,7 +95,7 @@ module _ (z : List ℕ) (first : ℕ) where
       go (isReloc b) refl g₀ (handles-once (isFree b) (at + length b) h bs g₁) (handles-none (isFree b) (at + length b) h bs g₁)
     where
       go : (t : Bool) → isReloc b ≡ t → blockOk z first prev at b ≡ true → occurs h (handles bs) ≤ 1
-          → (masterAt z h < at + length b + 4 → occurs h (handles bs) ≡ 0) → occurs h (cond t (handleOf b ∷ handles bs) (handles bs)) ≤ 1
+          → (masterAt z h < at + length b + relocHeader → occurs h (handles bs) ≡ 0) → occurs h (cond t (handleOf b ∷ handles bs) (handles bs)) ≤ 1
       go true e g₀ i f = by (eqb h (handleOf b)) refl
         where
           by : (u : Bool) → eqb h (handleOf b) ≡ u → one h (handleOf b) + occurs h (handles bs) ≤ 1
@@ -115,12 +117,12 @@ module _ (z : List ℕ) (first : ℕ) where
   links-unique (suc n) (suc k) h p q = ap suc (links-unique n k (masterAt z h) (and-right (isMaster first h) _ p) (and-right (isMaster first h) _ q))
 
   -- what the rest of the chain may start with: 0 or a master, below the blocks
-  links-low : (n h : ℕ) → 16 ≤ first → links z first n h ≡ true → h < first
+  links-low : (n h : ℕ) → zoneHeader ≤ first → links z first n h ≡ true → h < first
   unfolding links
   links-low zero h l p = omega (arith, eqb-true h 0 p)
   links-low (suc n) h l p = let m = is-master first h (and-left _ (links z first n (masterAt z h)) p) in omega arith
 
-  pub chain-low : (n h : ℕ) → 16 ≤ first → links z first n h ≡ true → All (λ (k : ℕ). Master first k × (masterAt z k < first)) (chain z n h)
+  pub chain-low : (n h : ℕ) → zoneHeader ≤ first → links z first n h ≡ true → All (λ (k : ℕ). Master first k × (masterAt z k < first)) (chain z n h)
   unfolding links chain
   chain-low zero h l p = tt
   chain-low (suc n) h l p =
@@ -163,7 +165,7 @@ pub record Split (at : ℕ) (bs : List (List ℕ)) (h v : ℕ) : Type 0 where
   pub block : List ℕ
   pub after : List (List ℕ)
   pub parts : bs ≡ before ++ block ∷ after
-  pub place : at + total before + 4 ≡ v
+  pub place : at + total before + relocHeader ≡ v
   pub reloc : isReloc block ≡ true
   pub handle : handleOf block ≡ h
 
@@ -218,17 +220,17 @@ body-parts z first m head h =
       ends = and-right (leb r m) _ h₁;
     }
 
-module _ (z : List ℕ) (first m head : ℕ) (start : first ≡ 16 + 4 * m) (w : Parts z first m head) where
+module _ (z : List ℕ) (first m head : ℕ) (start : first ≡ zoneHeader + masterSize * m) (w : Parts z first m head) where
   abbrev bs : List (List ℕ)
   bs = splitBlocks (drop first z)
 
   abbrev ch : List ℕ
   ch = chain z (m - relocs bs) head
 
-  pub offset-once : (h : ℕ) → Master first h → occurs h (offsets 16 m) ≡ 1
-  offset-once h q = occurs-offset h 16 m (q .low) (omega (arith, q .fits)) (q .four)
+  pub offset-once : (h : ℕ) → Master first h → occurs h (offsets zoneHeader m) ≡ 1
+  offset-once h q = occurs-offset h zoneHeader m (q .low) (omega (arith, q .fits)) (q .four)
 
-  only : (P : ℕ → Type 0) (xs : List ℕ) → All (λ (h : ℕ). Master first h × P h) xs → All (λ (h : ℕ). occurs h (offsets 16 m) ≡ 1) xs
+  only : (P : ℕ → Type 0) (xs : List ℕ) → All (λ (h : ℕ). Master first h × P h) xs → All (λ (h : ℕ). occurs h (offsets zoneHeader m) ≡ 1) xs
   only P [] a = tt
   only P (x ∷ xs) a = (offset-once x (a .0 .0), only P xs (a .1))
 
@@ -236,7 +238,7 @@ module _ (z : List ℕ) (first m head : ℕ) (start : first ≡ 16 + 4 * m) (w :
   pub chain-not-live : (h : ℕ) → 0 < occurs h ch → masterAt z h < first
   chain-not-live h l = all-at _ h ch (chain-low z first (m - relocs bs) head (omega arith) (w .ends)) l .1
 
-  pub live-high : (h : ℕ) → 0 < occurs h (handles bs) → first + 4 ≤ masterAt z h
+  pub live-high : (h : ℕ) → 0 < occurs h (handles bs) → first + relocHeader ≤ masterAt z h
   live-high h l = all-at _ h (handles bs) (handles-high z first false first bs (w .walk)) l .1
 
   pub disjoint : (h : ℕ) → 0 < occurs h (handles bs) → 0 < occurs h ch → ⊥
@@ -265,6 +267,3 @@ module _ (z : List ℕ) (first m head : ℕ) (start : first ≡ 16 + 4 * m) (w :
       go : (b : ℕ) → occurs h ch ≡ b → 0 < occurs h (handles bs)
       go zero e = omega (arith, owned h q)
       go (suc b) e = let x : ⊥ = omega (arith, chain-not-live h (omega arith)) in absurd x
-
-  pub live-split : (h : ℕ) → Master first h → first ≤ masterAt z h → Split first bs h (masterAt z h)
-  live-split h q l = split z first false first h bs (w .walk) (live-of h q l)

@@ -2,14 +2,16 @@
 use mathlib.Core.Path.{_≡_, refl, sym, ap, _∙_}
 use mathlib.Core.List.{List, [], _∷_}
 use mathlib.Core.Bool.{Bool, true, false}
-use Prim.Native.Nat.{ℕ, zero, suc, _+_, _-_, _%_, _<_, _≤_}
+use Prim.Native.Nat.{ℕ, zero, suc, _+_, _*_, _-_, _%_, _<_, _≤_}
 use native.Mathlib.Nat.{sub-zero, zero-sub, suc-sub-suc}
 use native.Mathlib.Numerals.{sub-one}
 use native.Mathlib.Omega.{arith}
 use lib.Dec.{eqb, leb}
-use borrow.Author.Tests.{eq-eqb, leb-true, eqb-true, le-leb}
+use borrow.Author.Tests.{eq-eqb, ne-eqb, leb-true, eqb-true, le-leb}
 use lib.ListN.{length, take, drop, length-take, length-drop, drop-of-length-le}
 use lib.Seq.{take-take, getD-take, drop-drop, take-nil}
+use Rattle.block_type.specs.Limits.{typeUnit, smallestBlock}
+use Rattle.bigendian.specs.BigEndian.{fromBE, slice}
 use Rattle.format.proofs.Bool.{and-left, and-right}
 pub use Rattle.format.specs.Steps.{Turn}
 use Rattle.format.specs.WellFormed.{typeOf, sizeOf, handleOf, isFree, isReloc, splitFrom, splitBlocks, relocs}
@@ -42,8 +44,20 @@ drop-take (suc k) zero l = rw (zero-sub)
 drop-take (suc k) (suc n) [] = sym (take-nil (suc n - suc k))
 drop-take (suc k) (suc n) (x ∷ xs) = rw suc-sub-suc (drop-take k n xs)
 
+-- the size that a header says, of a free block and of another
+pub size-free : (b : List ℕ) → typeOf b ≡ 0 → sizeOf b ≡ fromBE (take 4 b) * 2
+unfolding sizeOf
+size-free b e = rw e
+
+pub size-used : (b : List ℕ) (k : ℕ) → typeOf b ≡ suc k → sizeOf b ≡ fromBE (take 2 b) % typeUnit * 2
+unfolding sizeOf
+size-used b k e = rw (e, ne-eqb (suc k) 0 (λ q. omega arith))
+
+pub slice-take : (s : List ℕ) (n k j : ℕ) → k + j ≤ n → slice (take n s) k j ≡ slice s k j
+slice-take s n k j l = rw (drop-take k n s, take-take j (n - k) (drop k s) (omega arith))
+
 -- what a block's header says is the same of the block alone and of the block with what follows
-module _ (n : ℕ) (r : List ℕ) (h : 4 ≤ n) where
+module _ (n : ℕ) (r : List ℕ) (h : smallestBlock ≤ n) where
   pub kind-take : typeOf (take n r) ≡ typeOf r
   unfolding typeOf
   kind-take = rw (getD-take n r 0 0 (omega arith))
@@ -66,7 +80,7 @@ module _ (n : ℕ) (r : List ℕ) (h : 4 ≤ n) where
 
 -- what the test of a block says
 pub record Good (z : List ℕ) (first : ℕ) (prev : Bool) (at : ℕ) (b : List ℕ) : Type 0 where
-  pub low : 4 ≤ sizeOf b
+  pub low : smallestBlock ≤ sizeOf b
   pub four : sizeOf b % 4 ≡ 0
   pub whole : sizeOf b ≡ length b
   pub rule : typeRule (typeOf b) (freeRule prev b) (relocRule z first at (handleOf b)) ≡ true
@@ -75,10 +89,10 @@ module _ (z : List ℕ) (first : ℕ) (prev : Bool) (at : ℕ) where
   pub is-good : (b : List ℕ) → blockOk z first prev at b ≡ true → Good z first prev at b
   unfolding blockOk
   is-good b h =
-      let h₁ = and-right (leb 4 (sizeOf b)) _ h in
+      let h₁ = and-right (leb smallestBlock (sizeOf b)) _ h in
       let h₂ = and-right (eqb (sizeOf b % 4) 0) _ h₁ in
       record {
-        low = leb-true 4 (sizeOf b) (and-left _ _ h);
+        low = leb-true smallestBlock (sizeOf b) (and-left _ _ h);
         four = eqb-true (sizeOf b % 4) 0 (and-left _ _ h₁);
         whole = eqb-true (sizeOf b) (length b) (and-left _ _ h₂);
         rule = and-right (eqb (sizeOf b) (length b)) _ h₂;
@@ -86,7 +100,7 @@ module _ (z : List ℕ) (first : ℕ) (prev : Bool) (at : ℕ) where
 
   -- the test of the first block of a list, by what its header says
   pub record First (r : List ℕ) : Type 0 where
-    pub low : 4 ≤ sizeOf r
+    pub low : smallestBlock ≤ sizeOf r
     pub four : sizeOf r % 4 ≡ 0
     pub fits : sizeOf r ≤ length r
 
@@ -94,11 +108,11 @@ module _ (z : List ℕ) (first : ℕ) (prev : Bool) (at : ℕ) where
   is-first r h =
       let g = is-good (take (sizeOf r) r) h in
       let l = length-take (sizeOf r) r in
-      let n4 : 4 ≤ sizeOf r = omega arith in
+      let n4 : smallestBlock ≤ sizeOf r = omega arith in
       let e = size-take (sizeOf r) r n4 in
       record { low = n4; four = (rw e at (g .four)); fits = omega arith }
 
-  pub first-rule : (r : List ℕ) → 4 ≤ sizeOf r → sizeOf r % 4 ≡ 0 → sizeOf r ≤ length r
+  pub first-rule : (r : List ℕ) → smallestBlock ≤ sizeOf r → sizeOf r % 4 ≡ 0 → sizeOf r ≤ length r
       → blockOk z first prev at (take (sizeOf r) r) ≡ typeRule (typeOf r) (freeRule prev (take (sizeOf r) r)) (relocRule z first at (handleOf r))
   unfolding blockOk
   first-rule r h f l =
@@ -106,12 +120,12 @@ module _ (z : List ℕ) (first : ℕ) (prev : Bool) (at : ℕ) where
         size-take (sizeOf r) r h,
         kind-take (sizeOf r) r h,
         handle-take (sizeOf r) r h,
-        le-leb 4 (sizeOf r) h,
+        le-leb smallestBlock (sizeOf r) h,
         eq-eqb (sizeOf r % 4) 0 f,
         eq-eqb (sizeOf r) (length (take (sizeOf r) r)) (omega (arith, length-take (sizeOf r) r)),
       )
 
-pub turn : (z : List ℕ) (first : ℕ) (prev : Bool) (at n : ℕ) → at + 4 ≤ length z
+pub turn : (z : List ℕ) (first : ℕ) (prev : Bool) (at n : ℕ) → at + smallestBlock ≤ length z
     → blockOk z first prev at (take (sizeOf (drop at z)) (drop at z)) ≡ true → n ≡ sizeOf (drop at z) → Turn z first prev at n
 unfolding blocksOk relocs
 turn z first prev at n h g e =

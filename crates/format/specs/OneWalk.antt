@@ -6,7 +6,7 @@ use mathlib.Core.Bool.{Bool, true, false, not, _&&_}
 use lib.ListN.{length, drop}
 use lib.Dec.{eqb, leb}
 use Rattle.memory.specs.Zeros.{allZero}
-use Rattle.block_type.specs.Limits.{freeHeader, relocHeader}
+use Rattle.block_type.specs.Limits.{freeHeader, relocHeader, smallestBlock}
 use Rattle.format.specs.WellFormed.{typeOf, sizeOf, handleOf, isFree, isMaster, masterAt, splitBlocks, relocs}
 
 -- n masters are visited from h on, and the last holds 0
@@ -31,7 +31,7 @@ relocRule z first at h = isMaster first h && eqb (masterAt z h) (at + relocHeade
 -- the block b at offset `at`
 unfoldable pub blockOk : List ℕ → ℕ → Bool → ℕ → List ℕ → Bool
 blockOk z first prev at b =
-    leb 4 (sizeOf b)
+    leb smallestBlock (sizeOf b)
     && (eqb (sizeOf b % 4) 0
     && (eqb (sizeOf b) (length b) && typeRule (typeOf b) (freeRule prev b) (relocRule z first at (handleOf b))))
 

@@ -4,6 +4,7 @@ use mathlib.Core.List.{List}
 use mathlib.Core.Bool.{Bool, false, cond}
 use Prim.Native.Nat.{ℕ, _+_, _*_, _%_, _≤_}
 use lib.ListN.{length, getD, take, drop}
+use Rattle.block_type.specs.Limits.{longestZone, masterSize, mostMasters, zoneHeader, smallestBlock}
 use Rattle.format.specs.WellFormed.{lengthField, firstField, mastersField, chainField, sizeOf, isFree, isReloc, splitBlocks, relocs}
 use Rattle.format.specs.OneWalk.{blockOk, blocksOk}
 
@@ -13,19 +14,19 @@ pub record Fields (s : List ℕ) (l first m head : ℕ) : Type 0 where
   pub is-first : first ≡ firstField s
   pub is-masters : m ≡ mastersField s
   pub is-chain : head ≡ chainField s
-  pub long : 16 ≤ length s
+  pub long : zoneHeader ≤ length s
   pub zero14 : getD s 14 0 ≡ 0
   pub zero15 : getD s 15 0 ≡ 0
   pub four : l % 4 ≡ 0
   pub room : l ≤ length s
-  pub limit : l ≤ 1048576
-  pub few : m ≤ 8188
-  pub start : first ≡ 16 + 4 * m
+  pub limit : l ≤ longestZone
+  pub few : m ≤ mostMasters
+  pub start : first ≡ zoneHeader + masterSize * m
   pub within : first ≤ l
 
 -- a turn of the walk over a block of n bytes
 pub record Turn (z : List ℕ) (first : ℕ) (prev : Bool) (at n : ℕ) : Type 0 where
-  pub low : 4 ≤ n
+  pub low : smallestBlock ≤ n
   pub four : n % 4 ≡ 0
   pub fits : at + n ≤ length z
   pub walk : blocksOk z first prev at (splitBlocks (drop at z)) ≡ blocksOk z first (isFree (drop at z)) (at + n) (splitBlocks (drop (at + n) z))

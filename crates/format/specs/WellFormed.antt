@@ -9,7 +9,7 @@ use lib.ListN.{length, getD, take, drop}
 use lib.Dec.{eqb, leb}
 use Rattle.bigendian.specs.BigEndian.{fromBE, slice}
 use Rattle.memory.specs.Zeros.{allZero}
-use Rattle.block_type.specs.Limits.{freeCode, relocCode, freeHeader, relocHeader, zoneHeader, masterSize, firstBlock, longestZone, mostMasters}
+use Rattle.block_type.specs.Limits.{freeCode, relocCode, freeHeader, relocHeader, zoneHeader, masterSize, firstBlock, longestZone, mostMasters, typeUnit, smallestBlock}
 
 -- ---- the header: "at 0 the length L (4 bytes); at 4 bkFst, .. (4); at 8 m, .. (4); at 12 hFstFree, .. (2)"
 
@@ -47,7 +47,7 @@ typeOf b = getD b 0 0 / 64
 
 -- in bytes, the header included: "Free: a 4-byte size in 2-byte words", "Fixed: 14-bit size in words", "Relocatable: the same"
 unfoldable pub sizeOf : List ℕ → ℕ
-sizeOf b = cond (eqb (typeOf b) freeCode) (fromBE (take 4 b) * 2) (fromBE (take 2 b) % 16384 * 2)
+sizeOf b = cond (eqb (typeOf b) freeCode) (fromBE (take 4 b) * 2) (fromBE (take 2 b) % typeUnit * 2)
 
 -- "then the handle (2 bytes)"
 unfoldable pub handleOf : List ℕ → ℕ
@@ -84,7 +84,7 @@ typeOk b = leb (typeOf b) relocCode
 
 -- "Sizes include the header, are multiples of 4 and at least 4"
 unfoldable pub sizeOk : List ℕ → Bool
-sizeOk b = leb 4 (sizeOf b) && eqb (sizeOf b % 4) 0
+sizeOk b = leb smallestBlock (sizeOf b) && eqb (sizeOf b % 4) 0
 
 -- "blocks tile bkFst to L": none runs past L
 unfoldable pub tileOk : List ℕ → Bool
@@ -111,7 +111,7 @@ masterAt z h = fromBE (slice z h 4)
 -- the n masters' offsets from k on
 unfoldable pub offsets : ℕ → ℕ → List ℕ
 offsets k zero = []
-offsets k (suc n) = k ∷ offsets (k + 4) n
+offsets k (suc n) = k ∷ offsets (k + masterSize) n
 
 -- "each relocatable block's handle is a master's offset and that master holds the block's data offset"; the first block is at `at`
 unfoldable pub handlesOk : List ℕ → ℕ → ℕ → List (List ℕ) → Bool

@@ -1,94 +1,100 @@
--- Freeing a handle in the flat list of blocks is the call on bays.
-use mathlib.Core.Path.{_≡_, refl, ap, sym, _∙_}
-use mathlib.Core.Bool.{Bool, true, false}
-use mathlib.Core.Option.{Option, none, some, Option·getD}
-use mathlib.Core.List.{List, [], _∷_, _++_}
+-- The call on bays, seen in the zone's bytes: a handle names a block where it has a place.
+use mathlib.Core.Path.{_≡_, refl, ap, ap₂, sym, _∙_}
+use mathlib.Core.Bool.{true, false}
+use mathlib.Core.Option.{Option, none, some}
+use mathlib.Core.List.{List, [], _∷_, _++_, map, append-assoc}
 use Prim.Native.Nat.{ℕ, _+_, _≤_}
 use native.Mathlib.Omega.{arith}
-use lib.ListN.{length, drop}
+use lib.ListN.{length}
 use borrow.Author.Tests.{ne-eqb}
-use Rattle.bigendian.specs.BigEndian.{Bytes}
-use Rattle.format.specs.WellFormed.{wellFormed, zoneOf, lengthField}
-use Rattle.structure.specs.Structure.{Structure, start, count, encode, decode, placeOf}
-use Rattle.structure.specs.Valid.{Valid}
-use Rattle.structure.proofs.Round.{offset-le}
-use Rattle.structure.proofs.Sound.{valid}
-use Rattle.access.specs.Edit.{placeIn}
-use Rattle.release.specs.Release.{freed}
-use Rattle.calls.specs.Calls.{told, free-handle}
-use Rattle.calls.specs.Bays.{Bays, last, more, over, mapS, findS}
-use Rattle.zone.specs.Bay as Bay
-use Rattle.calls.specs.State.{Item, is, itemSize, get, Fixed, fsize, Out, done}
-use Rattle.zone.specs.Bay.{Cell, free as gapCell, held, baySize, items}
+use Rattle.structure.specs.Structure.{Block, fixed, cell, Structure, start, decodeZone, placeOf}
+use Rattle.access.specs.Edit.{placeIn, dataOf}
+use Rattle.calls.specs.Calls.{told, by-handle, free-handle}
+use Rattle.calls.specs.Bays.{Bays, last, more, mapS, orElse, over, findS}
+use Rattle.kinds.specs.Kinds.{Item}
+use Rattle.calls.specs.State.{is, get, Fixed}
 use Rattle.calls.specs.Table.{cause, isNone, first, order}
-use Rattle.zone.specs.Search.{lookup}
-use Rattle.zone.specs.Work.{Zone}
-use Rattle.zone.specs.Call.{inBays, inLine, result, call}
-use Rattle.zone.proofs.BaysLaws.{Both, absent, present, cond-both, orElse-both}
-use Rattle.zone.proofs.Bytes.{whereIn, whereS}
-use Rattle.zone.proofs.GroupLaws.{flatten-group}
-use Rattle.zone.proofs.Encoders.{place-strip}
-use Rattle.call_laws.proofs.Outcome.{stepAs, none-lent, call-same, call-done}
-use Rattle.free_handle.specs.Free.{freeIn, freeCode, freeOut}
-use Rattle.free_handle.proofs.Flat.{flat-release}
+use Rattle.bay.specs.Bay.{Cell, held, items, release}
+use Rattle.bay.specs.Counted.{count, live}
+use Rattle.bay.proofs.Sound.{Sound}
+use Rattle.bay.proofs.Free.{release-none, Released, released}
+use Rattle.zone.specs.PickBays.{AllS}
+use Rattle.zone.specs.Group.{group, flatBay, flatten}
+use Rattle.zone.proofs.Found.{often, count-get}
+use Rattle.call_laws.specs.Frame.{Refuses, Does}
+use Rattle.locate.proofs.Among.{handle-place, handle-data, orNone, content-among}
+use Rattle.free_block.specs.Around.{firstPart, Around}
+use Rattle.free_block.proofs.Parts.{map-append}
+use Rattle.free_block.proofs.Around.{around-here, around-same, around-later}
+use Rattle.free_handle.specs.Ready.{freed}
 
 -- ---- a handle is found where it has a place
 
-found-in : (h p : ℕ) (cs : List Cell) → Both (λ (e : Item) (q : ℕ). 4 ≤ q) (get h (items cs)) (whereIn h p cs)
-found-in h p [] = absent
-found-in h p (gapCell n ∷ cs) = found-in h (p + n) cs
-found-in h p (held e ∷ cs) = cond-both (is h e) (is h e) refl (λ t. present (omega arith)) (found-in h (p + itemSize e) cs)
+abbrev find : ℕ → Bays (List Cell) Fixed → Option Item
+find h s = findS (λ (b : List Cell). get h (items b)) s
 
-pub found-strip : (h p : ℕ) (s : Bays (List Cell) Fixed) → Both (λ (e : Item) (q : ℕ). 4 ≤ q) (findS (λ (b : List Cell). get h (items b)) s) (whereS h p s)
-found-strip h p (last b) = found-in h p b
-found-strip h p (more b x s) = orElse-both (found-in h p b) (found-strip h (p + baySize b + fsize x) s)
+module _ (h : ℕ) (d : Structure) where
+  abbrev bays : Bays (List Cell) Fixed
+  bays = group (start d) (d .blocks)
 
-module _ (s : List ℕ) (y : Bytes s) (h : ℕ) (wf : wellFormed s ≡ true) where
-  abbrev d : Structure
-  d = decode s
+  content-is : over (λ (e : Item). e .bytes) (find h bays) ≡ orNone (placeOf h (start d) (d .blocks)) (dataOf h (d .blocks))
+  content-is = content-among (by-handle h) (start d) (d .blocks) ∙ ap₂ orNone (sym (handle-place h (start d) (d .blocks))) (sym (handle-data h (start d) (d .blocks)))
 
-  abbrev z : Zone
-  z = inBays (length s) (decode s)
+  pub place-gone : placeOf h (start d) (d .blocks) ≡ 0 → find h (group (start d) (d .blocks)) ≡ none
+  place-gone e = go (find h bays) refl (content-is ∙ (rw e))
+    where
+      go : (o : Option Item) → find h bays ≡ o → over (λ (e : Item). e .bytes) o ≡ none → find h bays ≡ none
+      go none q r = q
+      go (some i) q r = let x : _≡_ {A = ℕ} 0 1 = cc in absurd (omega arith)
 
-  v : Valid d
-  v = valid s y wf
+  pub place-live : (placeOf h (start d) (d .blocks) ≡ 0 → ⊥) → (e : Item) × (find h (group (start d) (d .blocks)) ≡ some e) × (e .bytes ≡ dataOf h (d .blocks))
+  place-live ne = go (find h bays) refl (content-is ∙ (rw (ne-eqb (placeOf h (start d) (d .blocks)) 0 ne)))
+    where
+      go : (o : Option Item) → find h bays ≡ o → over (λ (e : Item). e .bytes) o ≡ some (dataOf h (d .blocks)) → (e : Item) × (find h bays ≡ some e) × (e .bytes ≡ dataOf h (d .blocks))
+      go none q r = let x : _≡_ {A = ℕ} 0 1 = cc in absurd (omega arith)
+      go (some i) q r = (i, q, cc)
 
-  pub place-is : placeIn (zoneOf s) h ≡ Option·getD (whereS h (start d) (z .bays)) 0
-  unfolding placeIn decode
-  place-is = ap (placeOf h (start d)) (sym (flatten-group (start d) (d .blocks))) ∙ place-strip h (start d) (z .bays)
+-- ---- its block among the blocks
 
-  answer-6 : placeIn (zoneOf s) h ≡ 0 → freeOut s h ≡ result (told 6 0) s
-  unfolding freeOut freeCode freeIn
-  answer-6 e = rw (wf, e)
+-- bays without the handle stay as they are
+none-released : (h : ℕ) (s : Bays (List Cell) Fixed) → AllS Sound s → live h s ≡ 0 → mapS (release h) s ≡ s
+none-released h (last b) d l = ap last (release-none h d l)
+none-released h (more b x s) d l = ap₂ (λ (c : List Cell) (t : Bays (List Cell) Fixed). more c x t) (release-none h (d .0) (omega arith)) (none-released h s (d .1) (omega arith))
 
-  answer-0 : (placeIn (zoneOf s) h ≡ 0 → ⊥) → freeOut s h ≡ result (told 0 0) (encode (freed h d) ++ drop (lengthField s) s)
-  unfolding freeOut freeCode freeIn
-  answer-0 e = rw (wf, ne-eqb (placeIn (zoneOf s) h) 0 e)
+-- the block in the first bay, whatever stands behind that
+around-own : (h : ℕ) (e : Item) (b : List Cell) (r : List Block) → firstPart r ≡ 0 → Released h e b → Around (flatBay b r) (flatBay (release h b) r) (cell (held e))
+around-own h e b r q d =
+    around-same
+    (ap (λ (c : List Cell). flatBay c r) (d .parts) ∙ ap (_++ r) (map-append (d .low) (held e ∷ d .high)) ∙ append-assoc (map cell (d .low)) (map cell (held e ∷ d .high)) r)
+    (ap (λ (c : List Cell). flatBay c r) (d .left))
+    (around-here (d .low) (d .high) (cell (held e)) r q)
 
-  abbrev next : Zone
-  next = record { buf = z .buf; len = z .len; chain = h ∷ z .chain; bays = mapS (Bay.release h) (z .bays) }
-
-  line-is : inLine next ≡ freed h d
-  unfolding freed
-  line-is = λ i. record { chain = h ∷ d .chain; blocks = flat-release h (start d) false (d .blocks) (v .tiled) (omega (arith, v .owned h, offset-le h 16 (count d))) i }
-
-  -- the call, by what is found
-  abbrev found-as : Option Item → Out (List Cell)
-  found-as o = stepAs (first order (cause 1 false ∷ cause 6 (isNone (over length (over (λ (e : Item). e .bytes) o))) ∷ [])) (free-handle h) z
-
-  both : (o : Option Item) (w : Option ℕ) → lookup h z ≡ o → whereS h (start d) (z .bays) ≡ w → Both (λ (e : Item) (q : ℕ). 4 ≤ q) o w → freeOut s h ≡ call (free-handle h) s
-  both none none p q absent =
-      answer-6 (place-is ∙ ap (λ (o : Option ℕ). Option·getD o 0) q)
-      ∙ sym (call-same s y wf (free-handle h) (told 6 0) (ap found-as p))
-  both (some e) (some k) p q (present l) =
-      let a : placeIn (zoneOf s) h ≡ k = place-is ∙ ap (λ (o : Option ℕ). Option·getD o 0) q in
-      answer-0 (λ x. omega (arith, a))
-      ∙ sym (call-done s y wf (free-handle h) none-lent (done 0 next) (ap found-as p) refl (freed h d) line-is)
-
-pub free-is : (s : List ℕ) (h : ℕ) → Bytes s → freeOut s h ≡ call (free-handle h) s
-unfolding freeOut freeCode
-free-is s h y = go (wellFormed s) refl
+pub own-block : (h : ℕ) (e : Item) (s : Bays (List Cell) Fixed) → AllS Sound s → live h s ≤ 1 → find h s ≡ some e
+    → Around (flatten s) (flatten (mapS (release h) s)) (cell (held e)) × (is h e ≡ true)
+own-block h e (last b) d l f = let r = released h e d f l in (around-own h e b [] refl r, r .its)
+own-block h e (more b x s) d l f = go (get h (items b)) refl f (count-get h (items b) (omega arith)) (λ k f. own-block h e s (d .1) k f)
   where
-    go : (t : Bool) → wellFormed s ≡ t → freeOut s h ≡ call (free-handle h) s
-    go true e = both s y h e _ _ refl refl (found-strip h (start (decode s)) (inBays (length s) (decode s) .bays))
-    go false e = rw e
+    go : (o : Option Item) → get h (items b) ≡ o → orElse o (find h s) ≡ some e → count h (items b) ≡ often o
+        → (live h s ≤ 1 → find h s ≡ some e → Around (flatten s) (flatten (mapS (release h) s)) (cell (held e)) × (is h e ≡ true))
+        → Around (flatten (more b x s)) (flatten (mapS (release h) (more b x s))) (cell (held e)) × (is h e ≡ true)
+    go none g f q k =
+        let r = k (omega arith) f in
+        (around-same refl (ap (λ (c : List Cell). flatBay c (fixed (x .bytes) ∷ flatten (mapS (release h) s))) (release-none h (d .0) q)) (around-later b (x .bytes) (r .0)), r .1)
+    go (some i) g f q k =
+        let r = released h e (d .0) (g ∙ f) (omega arith) in
+        (around-same refl (ap (λ (t : Bays (List Cell) Fixed). flatBay (release h b) (fixed (x .bytes) ∷ flatten t)) (none-released h s (d .1) (omega arith))) (around-own h e b (fixed (x .bytes) ∷ flatten s) refl r), r .its)
+
+-- ---- the call
+
+module _ (z : List ℕ) (h : ℕ) where
+  -- the refusal, by what is found
+  abbrev number : Option Item → ℕ
+  number o = first order (cause 1 false ∷ cause 6 (isNone (over length (over (λ (e : Item). e .bytes) o))) ∷ [])
+
+  pub no-block : placeIn z h ≡ 0 → Refuses (free-handle h) z 6
+  unfolding placeIn
+  no-block e = record { some = λ x. omega arith; is = λ buf. ap number (place-gone h (decodeZone z) e) }
+
+  pub frees : (placeIn z h ≡ 0 → ⊥) → (buf : ℕ) → Does (free-handle h) buf z (told 0 0) (freed h (decodeZone z))
+  unfolding placeIn
+  frees ne buf = record { passed = ap number (place-live h (decodeZone z) ne .1); answer = refl; line = refl }

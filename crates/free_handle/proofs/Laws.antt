@@ -1,108 +1,122 @@
 -- The laws that the call's proofs cite.
-use mathlib.Core.Path.{_≡_, _∙_}
-use mathlib.Core.List.{List, _++_}
-use mathlib.Core.Bool.{Bool, true, false, not}
-use Prim.Native.Nat.{ℕ, _+_, _≤_}
+use mathlib.Core.Path.{_≡_, refl, sym, ap, _∙_}
+use mathlib.Core.List.{List, [], _∷_, _++_}
+use Prim.Native.Nat.{ℕ, _+_, _-_, _<_, _≤_}
 use native.Mathlib.Omega.{arith}
-use borrow.Author.Tests.{eq-eqb, ne-eqb, not-true, not-false}
-use lib.ListN.{length, getD, take, drop}
-use Rattle.bigendian.specs.BigEndian.{fromBE, slice}
-use Rattle.format.specs.WellFormed.{wellFormed}
-use Rattle.structure.specs.Structure.{decodeZone, decode, encode}
-use Rattle.structure.proofs.Table.{Whole, len-is}
-use Rattle.structure.proofs.Sound.{valid-zone}
-use Rattle.access.specs.Edit.{placeIn, IsZone}
-use Rattle.access.proofs.Zone.{whole-of}
 use mir.Val.{Fits}
-use mir.Syntax.{w8}
+use mir.Syntax.{w8, w64}
+use lib.ListN.{length, getD, take, drop}
+use Rattle.access.proofs.Checked.{zone-14}
+use Rattle.bigendian.specs.BigEndian.{fromBE, toBE, slice, overwrite}
+use Rattle.block_type.specs.Limits.{masterSize, relocHeader}
+use Rattle.format.specs.WellFormed.{firstField}
+use Rattle.kinds.specs.Kinds.{Item, itemSize}
+use Rattle.bay.specs.Bay.{free, held, baySize}
+use Rattle.structure.specs.Structure.{sizes, start, decodeZone, encode, encodeBlock, cell}
+use Rattle.structure.specs.Valid.{handlesOf}
+use Rattle.access.specs.Edit.{placeIn, dataIn, IsZone}
+use Rattle.access.proofs.Zone.{whole-of}
+use Rattle.row.specs.Row.{Row}
+use Rattle.blank.specs.Between.{Between}
+use Rattle.free_block.specs.Around.{Around}
+use Rattle.free_block.specs.Walk.{Stopped, Extended}
+use Rattle.free_block.proofs.Found.{block-fits, prev-fits, end-row, freeing}
+use Rattle.free_block.proofs.Between.{freeing-between, freeing-master, freeing-owned}
 use Rattle.calls.specs.Calls.{told, free-handle}
 use Rattle.zone.specs.Call.{result, call}
-use Rattle.call_laws.proofs.Plan.{bytes-of}
-use Rattle.release.specs.Release.{freed, SpanIn, span-of}
-use Rattle.release.proofs.Freed.{index}
-use Rattle.free_handle.proofs.Bays.{free-is}
-use Rattle.free_handle.specs.Free.{freeIn, freeCode, freeOut, ReadyIn, Ready, Planned, planned}
-
--- ---- in a zone
-
-pub zone-16 : (z : List ℕ) → IsZone z → 16 ≤ length z
-zone-16 z i = whole-of z i .long
-
-pub in-6 : (z : List ℕ) (h a : ℕ) → a ≡ placeIn z h → a ≡ 0 → _≡_ {A = ℕ} 6 (freeIn z h)
-unfolding freeIn
-in-6 z h a e q = rw (← e, eq-eqb a 0 q)
-
-pub in-0 : (z : List ℕ) (h a : ℕ) → a ≡ placeIn z h → (a ≡ 0 → ⊥) → _≡_ {A = ℕ} 0 (freeIn z h)
-unfolding freeIn
-in-0 z h a e q = rw (← e, ne-eqb a 0 q)
-
-pub not-six : {A : Type 0} → _≡_ {A = ℕ} 6 0 → A
-not-six e = let x : ⊥ = omega arith in absurd x
-
-pub not-one : {A : Type 0} → _≡_ {A = ℕ} 1 0 → A
-not-one e = let x : ⊥ = omega arith in absurd x
-
-pub ready-in : (z : List ℕ) (h head from to : ℕ) → IsZone z → SpanIn z h from to → head ≡ fromBE (slice z 12 2) → ReadyIn z h head from to
-ready-in z h head from to i s e = record { zone = i; span = s; is-head = e }
+use Rattle.call_laws.specs.Frame.{PlannedIn, refuses, goes, Planned}
+use Rattle.call_laws.proofs.Outcome.{none-lent}
+use Rattle.call_laws.proofs.Frame.{frame-ready, frame-done}
+use Rattle.free_handle.specs.Ready.{freed, ReadyIn}
+use Rattle.free_handle.proofs.Bays.{no-block, frees}
+use Rattle.free_handle.proofs.Block.{block, around, its, place-is, data-is}
 
 -- ---- the plan
 
-pub plan-1 : (s : List ℕ) (h : ℕ) (ok : Bool) → ok ≡ wellFormed s → not ok ≡ true → _≡_ {A = ℕ} 1 (freeCode s h)
-unfolding freeCode
-plan-1 s h ok e q = rw (← e, not-true ok q)
+pub in-6 : (z : List ℕ) (h a number : ℕ) (R : Type 0) → a ≡ placeIn z h → a ≡ 0 → number ≡ 6 → PlannedIn (free-handle h) z number R
+in-6 z h a number R e q k = refuses (rw k (no-block z h (sym e ∙ q)))
 
-pub plan-number : (s : List ℕ) (h l number : ℕ) (ok : Bool) → ok ≡ wellFormed s → not ok ≡ false → l ≡ fromBE (slice s 0 4) → number ≡ freeIn (take l s) h → number ≡ freeCode s h
-unfolding freeCode
-plan-number s h l number ok e q el w = rw (← e, not-false ok q, ← el) w
+module _ (z : List ℕ) (i : IsZone z) (h place : ℕ) (e : place ≡ placeIn z h) (ne : place ≡ 0 → ⊥) where
+  live : placeIn z h ≡ 0 → ⊥
+  live q = ne (e ∙ q)
 
-pub plan-ready : (s : List ℕ) (h l number head from to : ℕ) → l ≡ fromBE (slice s 0 4) → l ≤ length s → (number ≡ 0 → ReadyIn (take l s) h head from to) → number ≡ 0 → Ready s h l head from to
-plan-ready s h l number head from to el f r z = record { is-len = el; fits = f; inside = r z }
+  abbrev b : Item
+  b = block z i h live
+
+  abbrev a : Around (decodeZone z .blocks) (freed h (decodeZone z) .blocks) (cell (held b))
+  a = around z i h live
+
+  pub data-low : relocHeader ≤ place
+  data-low = omega (arith, place-is z i h live)
+
+  abbrev at : ℕ
+  at = place - relocHeader
+
+  at-is : at ≡ start (decodeZone z) + (sizes (a .pre) + baySize (a .low))
+  at-is = omega (arith, place-is z i h live)
+
+  room : at + itemSize b ≤ length z
+  room = block-fits z i (firstField z) refl (freed h (decodeZone z) .blocks) (cell (held b)) a at at-is
+
+  pub at-fits : at ≤ length z
+  at-fits = omega (arith, room)
+
+  module _ (n : ℕ) (en : n ≡ length (dataIn z h)) where
+    end-is : place + n ≡ at + itemSize b
+    end-is = omega (arith, data-is z i h live, data-low)
+
+    pub end-word : Fits w64 (place + n)
+    end-word = record { fits = omega (arith, end-is, room, whole-of z i .limit, whole-of z i .all) }
+
+    module _ (first : ℕ) (ef : first ≡ firstField z) (prev stop : ℕ) (p : Stopped z first at prev stop) where
+      pub prev-in : prev < length z
+      prev-in = prev-fits z i first ef (freed h (decodeZone z) .blocks) (cell (held b)) a at at-is prev stop p
+
+      pub row-in : Row (drop (place + n) z)
+      row-in = end-row z i first ef (freed h (decodeZone z) .blocks) (cell (held b)) a at at-is prev stop p (place + n) end-is
+
+      pub end-in : place + n ≤ length z
+      end-in = omega (arith, end-is, room)
+
+      pub in-0 : (head from to : ℕ) → Extended z prev at (place + n) from to → head ≡ fromBE (slice z 12 2) → PlannedIn (free-handle h) z 0 (ReadyIn z h head from at (place + n) to)
+      in-0 head from to x q =
+          goes refl (record {
+            live = live;
+            block = b;
+            its = its z i h live;
+            freeing = freeing z i first ef (freed h (decodeZone z) .blocks) (cell (held b)) a at at-is prev stop p (place + n) end-is from to x;
+            is-head = q;
+          })
+
+-- ---- the writes
+
+module _ (z : List ℕ) (h head from at end to : ℕ) (r : ReadyIn z h head from at end to) where
+  pub write-between : Between z from at end to
+  write-between = freeing-between z _ _ from at end to (r .freeing)
+
+  handles : handlesOf (cell (held (r .block)) ∷ []) ≡ h ∷ []
+  unfolding handlesOf
+  handles = ap (_∷ []) (r .its)
+
+  pub write-word : h < 4294967296
+  write-word = omega (arith, freeing-master z _ _ from at end to (r .freeing) h handles, write-between .short)
+
+  pub write-head : (y : List ℕ) → length y ≡ length z → 12 + 2 ≤ length y
+  write-head y e = omega (arith, zone-14 z (r .freeing .zone))
+
+  pub write-master : (x y : List ℕ) → length x ≡ length z → length y ≡ length x → h + masterSize ≤ length y
+  write-master x y e q = omega (arith, freeing-master z _ _ from at end to (r .freeing) h handles)
+
+  pub written : (y₁ y₂ y₃ : List ℕ) → y₁ ≡ overwrite z from (encodeBlock (cell (free (to - from)))) → y₂ ≡ overwrite y₁ 12 (toBE 2 h) → y₃ ≡ overwrite y₂ h (toBE 4 head) → y₃ ≡ encode (freed h (decodeZone z))
+  written y₁ y₂ y₃ e₁ e₂ e₃ =
+      freeing-owned z _ _ from at end to (r .freeing) h handles head y₃ (r .is-head)
+      (e₃ ∙ ap (λ (y : List ℕ). overwrite y h (toBE 4 head)) (e₂ ∙ ap (λ (y : List ℕ). overwrite y 12 (toBE 2 h)) e₁))
 
 -- ---- the call
 
-plan-of : (s : List ℕ) (h number l head from to : ℕ) → Planned s h number l head from to → number ≡ 0 → Ready s h l head from to
-plan-of s h number l head from to (planned e f) = f
+module _ (s : List ℕ) (h number l head from at end to : ℕ) (p : Planned (free-handle h) s number l (ReadyIn (take l s) h head from at end to)) (z : number ≡ 0) where
+  pub call-ready : ReadyIn (take l s) h head from at end to
+  call-ready = frame-ready (free-handle h) s number l _ p z
 
-number-of : (s : List ℕ) (h number l head from to : ℕ) → Planned s h number l head from to → number ≡ freeCode s h
-number-of s h number l head from to (planned e f) = e
-
-module _ (s : List ℕ) (h number l head from to : ℕ) (p : Planned s h number l head from to) (z : number ≡ 0) where
-  f : number ≡ 0 → Ready s h l head from to
-  f = plan-of s h number l head from to p
-
-  pub rel-fits : l ≤ length s
-  rel-fits = f z .fits
-
-  pub rel-zone : IsZone (take l s)
-  rel-zone = f z .inside .zone
-
-  pub rel-span : SpanIn (take l s) h from to
-  rel-span = f z .inside .span
-
-  pub rel-head : head ≡ fromBE (slice (take l s) 12 2)
-  rel-head = f z .inside .is-head
-
-  w : Whole (take l s)
-  w = whole-of (take l s) rel-zone
-
-  pub rel-handle : h + 4 ≤ length (take l s)
-  rel-handle =
-      let i = index h (decodeZone (take l s)) (valid-zone (take l s) w) from to (span-of (take l s) h from to rel-span) in
-      omega (arith, i .1, i .2, len-is (take l s) w, w .all)
-
-  pub rel-long : 14 ≤ length (take l s)
-  rel-long = omega (arith, w .long)
-
-  flat-out : (y : List ℕ) → y ≡ encode (freed h (decodeZone (take l s))) → result (told 0 0) (y ++ drop l s) ≡ freeOut s h
-  unfolding freeOut decode
-  flat-out y q = rw (← number-of s h number l head from to p, z, q, f z .is-len)
-
-  pub rel-out : (y : List ℕ) → ((i : ℕ) → Fits w8 (getD s i 0)) → y ≡ encode (freed h (decodeZone (take l s))) → result (told 0 0) (y ++ drop l s) ≡ call (free-handle h) s
-  rel-out y g q = flat-out y q ∙ free-is s h (bytes-of s g)
-
-flat-no : (s : List ℕ) (h number l head from to : ℕ) → Planned s h number l head from to → (number ≡ 0 → ⊥) → result (told number 0) s ≡ freeOut s h
-unfolding freeOut
-flat-no s h number l head from to p ne = rw (← number-of s h number l head from to p, ne-eqb number 0 ne)
-
-pub rel-no : (s : List ℕ) (h number l head from to : ℕ) → ((i : ℕ) → Fits w8 (getD s i 0)) → Planned s h number l head from to → (number ≡ 0 → ⊥) → result (told number 0) s ≡ call (free-handle h) s
-rel-no s h number l head from to g p ne = flat-no s h number l head from to p ne ∙ free-is s h (bytes-of s g)
+  pub call-out : (y : List ℕ) → ((i : ℕ) → Fits w8 (getD s i 0)) → y ≡ encode (freed h (decodeZone (take l s))) → result (told 0 0) (y ++ drop l s) ≡ call (free-handle h) s
+  call-out y g q = frame-done (free-handle h) s number l _ p g z (frees (take l s) h (call-ready .live) (length s)) none-lent refl y q

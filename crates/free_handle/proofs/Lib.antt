@@ -1,4 +1,4 @@
 pub mod Bays
-pub mod Flat
+pub mod Block
 pub mod Laws
 pub mod Outcome

@@ -13,14 +13,16 @@ use Rattle.format.specs.WellFormed.{wellFormed}
 use Rattle.structure.specs.Structure.{decode}
 use Rattle.calls.specs.Calls.{by-handle, Call, Answer, told, refused, allocate-relocatable, free-handle, size, sums}
 use Rattle.calls.specs.Bays.{Bays, last, more, over, mapS, orElse, findS, sumS, maxS}
-use Rattle.calls.specs.State.{Item, is, get, Fixed, Out, says, done}
-use Rattle.zone.specs.Bay.{Cell, baySum, items, release}
-use Rattle.zone.specs.Counted.{count, remove, live}
+use Rattle.kinds.specs.Kinds.{Item}
+use Rattle.calls.specs.State.{is, get, Fixed, Out, says, done}
+use Rattle.bay.specs.Bay.{Cell, baySum, items, release}
+use Rattle.bay.specs.Counted.{count, remove, live}
 use Rattle.calls.specs.Table.{cause, below, isNone, first, order}
 use Rattle.zone.specs.Search.{lookup}
 use Rattle.zone.specs.Work.{Zone}
 use Rattle.zone.specs.Call.{inBays, Result, call}
-use Rattle.zone.proofs.BayLaws.{Each, nothing, just, release-items}
+use Rattle.bay.proofs.Each.{Each, nothing, just}
+use Rattle.bay.proofs.Laws.{release-items}
 use Rattle.zone.proofs.Sums.{find-sum}
 use Rattle.zone.proofs.Handles.{get-count}
 use Rattle.zone.proofs.Found.{taken, sum-released}

@@ -1,38 +1,57 @@
 // Free by handle: the block becomes free, merged with free neighbours, and its master goes to the chain's head.
+use block_type::BlockType;
 ghost use mathlib.Core.Path.{_≡_};
 ghost use Prim.Native.Nat.{_<_};
+ghost use Rattle.structure.specs.Structure.{encode, decodeZone};
 ghost use Rattle.access.specs.Edit.{IsZone};
 ghost use Rattle.calls.specs.Calls.{told, free-handle};
 ghost use Rattle.zone.specs.Call.{result, call};
-ghost use Rattle.free_handle.specs.Free.{freeIn, ReadyIn, Planned};
+ghost use lib.ListN.{take};
+ghost use Rattle.call_laws.specs.Frame.{PlannedIn, Planned};
+ghost use Rattle.free_handle.specs.Ready.{freed, Ready};
 
 pub struct FreePlan {
     pub number: u32,
     pub len: usize,
     pub head: u32,
     pub from: usize,
+    pub at: usize,
+    pub end: usize,
     pub to: usize,
+}
+
+// The plan of a call that is refused.
+fn no_plan(number: u32) -> FreePlan
+    ensures { λ r. ⌜ r .number ≡ number ⌝ }
+{
+    FreePlan {
+        number,
+        len: 0,
+        head: 0,
+        from: 0,
+        at: 0,
+        end: 0,
+        to: 0,
+    }
 }
 
 // The plan in a well-formed zone.
 fn free_in(z: &[u8], h: usize) -> FreePlan
     requires { ⌜ (IsZone (now z)) × (h < 4294967296) ⌝ }
-    ensures { λ r. ⌜ (r .number ≡ freeIn (now (z .entry)) h) × (r .number ≡ 0 → ReadyIn (now (z .entry)) h (r .head) (r .from) (r .to)) ⌝ }
+    ensures { λ r. ⌜ PlannedIn (free-handle h) (now (z .entry)) (r .number) (Ready (now (z .entry)) h r) ⌝ }
 {
-    let at = access::place(z, h);
-    if at == 0 {
-        return FreePlan {
-            number: 6,
-            len: 0,
-            head: 0,
-            from: 0,
-            to: 0,
-        };
+    let place = access::place(z, h);
+    if place == 0 {
+        return no_plan(6);
     }
     let n = access::data_size(z, h);
     let first = bigendian::get4(z, 4) as usize;
     let head = bigendian::get2(z, 12);
-    let e = release::find_extent(z, h, first, at, n);
+    let at = place - BlockType::RELOCATABLE_HEADER;
+    let end = place + n;
+    let s = free_block::walk_to(z, first, at);
+    let prev = s.prev;
+    let e = free_block::find_extent(z, prev, at, end);
     let from = e.from;
     let to = e.to;
     FreePlan {
@@ -40,38 +59,49 @@ fn free_in(z: &[u8], h: usize) -> FreePlan
         len: 0,
         head,
         from,
+        at,
+        end,
         to,
     }
 }
 
 // The plan: the refusal, 0 for none, and then what the call is to write.
 fn free_plan(zone: &[u8], h: u32) -> FreePlan
-    ensures { λ r. ⌜ Planned (now (zone .entry)) h (r .number) (r .len) (r .head) (r .from) (r .to) ⌝ }
+    ensures { λ r. ⌜ Planned (free-handle h) (now (zone .entry)) (r .number) (r .len) (Ready (take (r .len) (now (zone .entry))) h r) ⌝ }
 {
     let k = zone_check::check(zone);
     let ok = k.ok;
     if !ok {
-        return FreePlan {
-            number: 1,
-            len: 0,
-            head: 0,
-            from: 0,
-            to: 0,
-        };
+        return no_plan(1);
     }
     let l = bigendian::get4(zone, 0) as usize;
     let p = free_in(&zone[..l], h as usize);
     let number = p.number;
     let head = p.head;
     let from = p.from;
+    let at = p.at;
+    let end = p.end;
     let to = p.to;
     FreePlan {
         number,
         len: l,
         head,
         from,
+        at,
+        end,
         to,
     }
+}
+
+// One free block over the block and its free neighbours; h is the chain's head then, with the old head behind it.
+fn release(z: &mut [u8], h: usize, p: FreePlan)
+    requires { ⌜ Ready (now z) h p ⌝ }
+    ensures { λ _. ⌜ now (z .exit) ≡ encode (freed h (decodeZone (now (z .entry)))) ⌝ }
+{
+    let head = p.head;
+    blank::blank_between(z, p.from, p.at, p.end, p.to);
+    bigendian::put2(z, 12, h as u32);
+    bigendian::put4(z, h, head);
 }
 
 // Frees a handle's block. Answers the refusal number, 0 if done.
@@ -81,11 +111,8 @@ pub fn free_handle(zone: &mut [u8], h: u32) -> u32
     let p = free_plan(zone, h);
     let number = p.number;
     let l = p.len;
-    let head = p.head;
-    let from = p.from;
-    let to = p.to;
     if number == 0 {
-        release::release(&mut zone[..l], h as usize, head, from, to);
+        release(&mut zone[..l], h as usize, p);
         return 0;
     }
     number

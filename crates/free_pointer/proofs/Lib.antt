@@ -1,6 +1,4 @@
-pub mod Steps
-pub mod Find
-pub mod Low
-pub mod Reach
-pub mod Call
+pub mod Bays
+pub mod Walk
+pub mod Laws
 pub mod Outcome

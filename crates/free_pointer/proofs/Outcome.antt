@@ -12,14 +12,13 @@ use Rattle.bigendian.specs.BigEndian.{Bytes}
 use Rattle.block_type.specs.Limits.{fixedHeader}
 use Rattle.calls.specs.Calls.{by-pointer, Answer, told, free-pointer, size, sums}
 use Rattle.calls.specs.Bays.{Bays, last, more, over, findF, sumS}
-use Rattle.zone.specs.Bay.{Cell, baySum, gap, joinBays}
+use Rattle.bay.specs.Bay.{Cell, baySum, gap, joinBays}
 use Rattle.calls.specs.State.{Fixed, fsize, pointer, withBays, joinOver}
 use Rattle.calls.specs.Table.{isNone}
 use Rattle.calls.proofs.First.{or-left}
 use Rattle.zone.specs.Work.{Zone, freePointer}
 use Rattle.zone.specs.Call.{zoneIn, call}
-use Rattle.zone.proofs.BayLaws.{Each, nothing, just}
-use Rattle.zone.proofs.Sums.{each-weaken}
+use Rattle.bay.proofs.Each.{Each, nothing, just, each-weaken}
 use Rattle.zone.proofs.Places.{Tiled, tile-last, tile-more}
 use Rattle.zone.proofs.Run.{well-whole}
 use Rattle.call_laws.proofs.Outcome.{none-lent}

@@ -1,17 +1,19 @@
 -- Four writes make the grown part.
 use mathlib.Core.Path.{_≡_, refl, sym, ap, ap₂, _∙_}
 use mathlib.Core.List.{List, [], _++_, append-assoc, append-nil}
-use Prim.Native.Nat.{ℕ, zero, suc, _+_, _-_, _/_, _%_, _<_, _≤_}
+use Prim.Native.Nat.{ℕ, zero, suc, _+_, _-_, _/_, _%_, _<_, _≤_, _*_}
 use native.Mathlib.Omega.{arith}
 use borrow.Author.Tests.{ne-eqb}
 use lib.ListN.{length, take, drop, replicate, length-replicate, length-append, length-take, length-drop, take-append-drop, drop-of-length-le}
 use lib.Seq.{drop-drop, drop-append-add}
+use Rattle.block_type.specs.Limits.{fixedHeader, relocCode, typeUnit}
 use Rattle.bigendian.specs.BigEndian.{toBE, slice, overwrite}
 use Rattle.bigendian.proofs.Laws.{length-toBE}
-use Rattle.structure.specs.Structure.{free, encodeBlock, join}
+use Rattle.structure.specs.Structure.{encodeBlock, join, cell}
+use Rattle.bay.specs.Bay.{free}
 use Rattle.row.specs.Row.{bytesOf}
 use Rattle.find_bay.specs.Spots.{gapOf}
-use Rattle.release.proofs.ZoneLayout.{write-mid}
+use Rattle.structure.proofs.ZoneLayout.{write-mid}
 use Rattle.grow_bay.specs.Grow.{grownBytes, Room}
 
 drop-zeros : (k n : ℕ) → drop {A = ℕ} k (replicate n 0) ≡ replicate (n - k) 0
@@ -19,7 +21,7 @@ drop-zeros zero n = let e : n - 0 ≡ n = omega arith in rw e
 drop-zeros (suc k) zero = let e : 0 - suc k ≡ 0 = omega arith in rw e
 drop-zeros (suc k) (suc n) = let e : suc n - suc k ≡ n - k = omega arith in rw e (drop-zeros k n)
 
-module _ (A H D B G : List ℕ) (at o top run more : ℕ) (lA : length A ≡ at) (lH : length H ≡ 2) (lD : at + 2 + length D ≡ o) (lB : length B ≡ run) (lG : more ≤ length G) (et : top ≡ o + more) where
+module _ (A H D B G : List ℕ) (at o top run more : ℕ) (lA : length A ≡ at) (lH : length H ≡ 2) (lD : at + fixedHeader + length D ≡ o) (lB : length B ≡ run) (lG : more ≤ length G) (et : top ≡ o + more) where
   abbrev X : List ℕ
   X = take more (B ++ G)
 
@@ -81,7 +83,7 @@ module _ (A H D B G : List ℕ) (at o top run more : ℕ) (lA : length A ≡ at)
 peel : (s : List ℕ) (k n : ℕ) → drop k s ≡ slice s k n ++ drop (k + n) s
 peel s k n = sym (take-append-drop n (drop k s)) ∙ ap (λ (x : List ℕ). slice s k n ++ x) (drop-drop n k s)
 
-gap-bytes : (n more : ℕ) (G : List ℕ) → G ≡ encodeBlock (free n) → 4 ≤ more → more < n → n % 4 ≡ 0 → more % 4 ≡ 0 → toBE 4 ((n - more) / 2) ++ drop 4 (drop more G) ≡ bytesOf (gapOf (n - more))
+gap-bytes : (n more : ℕ) (G : List ℕ) → G ≡ encodeBlock (cell (free n)) → 4 ≤ more → more < n → n % 4 ≡ 0 → more % 4 ≡ 0 → toBE 4 ((n - more) / 2) ++ drop 4 (drop more G) ≡ bytesOf (gapOf (n - more))
 unfolding join encodeBlock
 gap-bytes n more G e l k q q′ =
     let t = toBE 4 (n / 2) in
@@ -95,7 +97,7 @@ gap-bytes n more G e l k q q′ =
     swap = omega arith
 
 module _ (s s₁ s₂ s₃ : List ℕ) (at o run more : ℕ) (x : Room s at o run more)
-    (e₁ : s₁ ≡ overwrite s (o + more) (slice s o run)) (e₂ : s₂ ≡ overwrite s₁ o (replicate (o + more - o) 0)) (e₃ : s₃ ≡ overwrite s₂ at (toBE 2 (32768 + (o + more - at) / 2))) where
+    (e₁ : s₁ ≡ overwrite s (o + more) (slice s o run)) (e₂ : s₂ ≡ overwrite s₁ o (replicate (o + more - o) 0)) (e₃ : s₃ ≡ overwrite s₂ at (toBE 2 (relocCode * typeUnit + (o + more - at) / 2))) where
   abbrev a₀ : List ℕ
   a₀ = take at s
 
@@ -112,7 +114,7 @@ module _ (s s₁ s₂ s₃ : List ℕ) (at o run more : ℕ) (x : Room s at o ru
   g₀ = drop (o + run) s
 
   abbrev h₁ : List ℕ
-  h₁ = toBE 2 (32768 + (o + more - at) / 2)
+  h₁ = toBE 2 (relocCode * typeUnit + (o + more - at) / 2)
 
   parts : s ≡ a₀ ++ (h₀ ++ (d₀ ++ (b₀ ++ g₀)))
   parts =
@@ -126,7 +128,7 @@ module _ (s s₁ s₂ s₃ : List ℕ) (at o run more : ℕ) (x : Room s at o ru
   lh : length h₀ ≡ 2
   lh = omega (arith, length-take 2 (drop at s), length-drop at s, x .low, x .inside)
 
-  ld : at + 2 + length d₀ ≡ o
+  ld : at + fixedHeader + length d₀ ≡ o
   ld = omega (arith, length-take (o - (at + 2)) (drop (at + 2) s), length-drop (at + 2) s, x .low, x .inside)
 
   lb : length b₀ ≡ run
@@ -145,7 +147,7 @@ module _ (s s₁ s₂ s₃ : List ℕ) (at o run more : ℕ) (x : Room s at o ru
       e₃ ∙ ap (λ (y : List ℕ). overwrite y at h₁)
       (e₂ ∙ ap₂ (λ (y : List ℕ) (k : ℕ). overwrite y o (replicate k 0)) (e₁ ∙ ap (λ (y : List ℕ). overwrite y (o + more) b₀) parts ∙ step1 a₀ h₀ d₀ b₀ g₀ at o (o + more) run more la lh ld lb lg refl) m
       ∙ step2 a₀ h₀ d₀ b₀ g₀ at o (o + more) run more la lh ld lb lg refl)
-      ∙ step3 a₀ h₀ d₀ b₀ g₀ at o (o + more) run more la lh ld lb lg refl h₁ (length-toBE 2 (32768 + (o + more - at) / 2))
+      ∙ step3 a₀ h₀ d₀ b₀ g₀ at o (o + more) run more la lh ld lb lg refl h₁ (length-toBE 2 (relocCode * typeUnit + (o + more - at) / 2))
 
   y-is : y₀ ≡ drop more g₀
   unfolding y₀
@@ -159,7 +161,7 @@ module _ (s s₁ s₂ s₃ : List ℕ) (at o run more : ℕ) (x : Room s at o ru
       let T = toBE 4 ((n - more) / 2) in
       let lT : length T ≡ length (take 4 y₀) = omega (arith, length-toBE 4 ((n - more) / 2), length-take 4 y₀, ap length y-is, length-drop more g₀, length-drop (o + run) s, x .four, x .four-n, x .inside) in
       e₄ ∙ ap₂ (λ (y : List ℕ) (k : ℕ). overwrite y (o + more + run) (toBE 4 (k / 2))) three w
-      ∙ step4 a₀ h₀ d₀ b₀ g₀ at o (o + more) run more la lh ld lb lg refl h₁ T (length-toBE 2 (32768 + (o + more - at) / 2)) lT
+      ∙ step4 a₀ h₀ d₀ b₀ g₀ at o (o + more) run more la lh ld lb lg refl h₁ T (length-toBE 2 (relocCode * typeUnit + (o + more - at) / 2)) lT
       ∙ ap (λ (y : List ℕ). a₀ ++ (h₁ ++ (d₀ ++ (replicate more 0 ++ (b₀ ++ y)))))
       (ap (λ (y : List ℕ). T ++ drop 4 y) y-is ∙ gap-bytes n more g₀ (x .bytes) (x .some) (omega arith) (x .four-n) (x .four))
 

@@ -8,11 +8,12 @@ use native.Mathlib.Omega.{arith}
 use lib.Dec.{eqb}
 use borrow.Author.Tests.{eq-eqb, ne-eqb}
 use lib.ListN.{length, drop, replicate, length-append}
+use Rattle.block_type.specs.Limits.{masterSize, zoneHeader, freeHeader}
 use Rattle.bigendian.specs.BigEndian.{toBE, overwrite}
 use Rattle.format.specs.WellFormed.{offsets}
 use Rattle.structure.specs.Structure.{Block, Structure, sizes, relocCount, count, start, len, headOf, placeOf, nextOf, value, words, join, header, encode, encodeBlock}
 use Rattle.calls.specs.Calls.{told}
-use Rattle.zone.specs.Bay.{gap}
+use Rattle.bay.specs.Bay.{gap}
 use Rattle.calls.specs.State.{handlesFrom}
 use Rattle.zone.specs.Work.{fresh}
 use Rattle.zone.specs.Group.{flatBay}
@@ -27,7 +28,7 @@ two-zeros = refl
 
 handles-long : (h m : ℕ) → length (handlesFrom h m) ≡ m
 handles-long h zero = refl
-handles-long h (suc m) = ap suc (handles-long (h + 4) m)
+handles-long h (suc m) = ap suc (handles-long (h + masterSize) m)
 
 head-handles : (h k : ℕ) → headOf (handlesFrom h k) ≡ cond (eqb k 0) 0 h
 head-handles h zero = refl
@@ -39,8 +40,8 @@ unfolding words offsets chainBytes nextOf
 words-chain f h zero e = refl
 words-chain f h (suc k) e =
     ap₂ (λ (v : ℕ) (r : List ℕ). toBE 4 v ++ r)
-    (e h (omega arith) ∙ (rw (eq-eqb h h refl)) ∙ head-handles (h + 4) k)
-    (words-chain f (h + 4) k (λ g l. e g (omega arith) ∙ (rw (ne-eqb g h (λ x. omega arith)))))
+    (e h (omega arith) ∙ (rw (eq-eqb h h refl)) ∙ head-handles (h + masterSize) k)
+    (words-chain f (h + masterSize) k (λ g l. e g (omega arith) ∙ (rw (ne-eqb g h (λ x. omega arith)))))
 
 abbrev blocksOf : ℕ → List Block
 blocksOf k = flatBay (gap k []) []
@@ -63,37 +64,37 @@ no-place h at (suc k) = refl
 free-bytes : (k : ℕ) → join (map encodeBlock (blocksOf k)) ≡ freeBytes k
 unfolding join encodeBlock freeBytes
 free-bytes zero = refl
-free-bytes (suc k) = append-nil (toBE 4 (suc k / 2) ++ replicate (suc k - 4) 0) ∙ sym (rw (ne-eqb (suc k) 0 (λ e. omega arith)))
+free-bytes (suc k) = append-nil (toBE 4 (suc k / 2) ++ replicate (suc k - freeHeader) 0) ∙ sym (rw (ne-eqb (suc k) 0 (λ e. omega arith)))
 
 module _ (buf n m : ℕ) (x : Fresh buf n m) where
   abbrev u : Structure
   u = inLine (fresh buf n m)
 
   count-is : count u ≡ m
-  count-is = omega (arith, no-relocs (n - (16 + 4 * m)), handles-long 16 m)
+  count-is = omega (arith, no-relocs (n - (zoneHeader + masterSize * m)), handles-long zoneHeader m)
 
   len-is : len u ≡ n
-  len-is = omega (arith, count-is, all-free (n - (16 + 4 * m)), x .room)
+  len-is = omega (arith, count-is, all-free (n - (zoneHeader + masterSize * m)), x .room)
 
-  value-is : (h : ℕ) → value u h ≡ nextOf h (handlesFrom 16 m)
-  value-is h = omega (arith, no-place h (start u) (n - (16 + 4 * m)))
+  value-is : (h : ℕ) → value u h ≡ nextOf h (handlesFrom zoneHeader m)
+  value-is h = omega (arith, no-place h (start u) (n - (zoneHeader + masterSize * m)))
 
   -- the structure's bytes
   pub fresh-encode : encode u ≡ freshBytes n m
   unfolding encode header freshBytes headBytes sizeBytes
   fresh-encode =
       let c = count-is in
-      let s : start u ≡ 16 + 4 * m = omega arith in
+      let s : start u ≡ zoneHeader + masterSize * m = omega arith in
       let hd : header u ≡ headBytes n m =
-      rw (len-is, s, c) (ap₂ (λ (h : ℕ) (z : List ℕ). toBE 4 n ++ (toBE 4 (16 + 4 * m) ++ (toBE 4 m ++ (toBE 2 h ++ z)))) (head-handles 16 m) two-zeros ∙ (simp append-assoc)) in
-      ap₂ _++_ hd (ap₂ _++_ (ap (λ (k : ℕ). words (value u) (offsets 16 k)) c ∙ words-chain (value u) 16 m (λ g l. value-is g)) (free-bytes (n - (16 + 4 * m))))
+      rw (len-is, s, c) (ap₂ (λ (h : ℕ) (z : List ℕ). toBE 4 n ++ (toBE 4 (zoneHeader + masterSize * m) ++ (toBE 4 m ++ (toBE 2 h ++ z)))) (head-handles 16 m) two-zeros ∙ (simp append-assoc)) in
+      ap₂ _++_ hd (ap₂ _++_ (ap (λ (k : ℕ). words (value u) (offsets zoneHeader k)) c ∙ words-chain (value u) zoneHeader m (λ g l. value-is g)) (free-bytes (n - (zoneHeader + masterSize * m))))
 
   pub fresh-long : length (freshBytes n m) ≡ n
   unfolding freshBytes
   fresh-long =
       let r = x .room in
       let q = x .four in
-      simp length-append (omega (arith, head-long n m, chain-long 16 m, free-long (n - (16 + 4 * m)) (omega arith)))
+      simp length-append (omega (arith, head-long n m, chain-long zoneHeader m, free-long (n - (zoneHeader + masterSize * m)) (omega arith)))
 
 -- the call, by its cause
 abbrev caused : ℕ → ℕ → List ℕ → Cause → Result

@@ -8,14 +8,15 @@ use native.Mathlib.Nat.{add-zero}
 use native.Mathlib.Omega.{arith}
 use lib.ListN.{length, drop}
 use lib.Dec.{eqb·suc-zero}
+use Rattle.block_type.specs.Limits.{masterSize, zoneHeader}
 use Rattle.structure.specs.Structure.{encode}
 use Rattle.calls.specs.Calls.{Call, told, toldTwo, check, length-of, sums}
-use Rattle.calls.specs.State.{Item}
+use Rattle.kinds.specs.Kinds.{Item}
 use Rattle.calls.specs.Table.{refusalOf, badInitialize, first, order}
-use Rattle.zone.specs.Bay.{gap, baySum}
+use Rattle.bay.specs.Bay.{gap, baySum}
 use Rattle.zone.specs.Work.{Zone, facts, work, fresh}
 use Rattle.zone.specs.Call.{inLine, Result, call, initializeWith, initialize}
-use Rattle.zone.proofs.BayLaws.{items-gap}
+use Rattle.bay.proofs.Laws.{items-gap}
 use Rattle.zone.proofs.Initial.{accepted, fresh-whole, fresh-stored}
 use Rattle.zone.proofs.Run.{call-worked}
 
@@ -26,7 +27,7 @@ gap-sum (suc k) = add-zero (suc k)
 pub record New (n m : ℕ) (bs : List ℕ) : Type 0 where
   pub checked : (call check bs) .answer ≡ toldTwo 0 1 0
   pub sized : (call length-of bs) .answer ≡ told 0 n
-  pub freed : (call sums bs) .answer ≡ toldTwo 0 (n - (16 + 4 * m)) (n - (16 + 4 * m))
+  pub freed : (call sums bs) .answer ≡ toldTwo 0 (n - (zoneHeader + masterSize * m)) (n - (zoneHeader + masterSize * m))
 
 pub init-new : (n m : ℕ) (bs : List ℕ) → (initialize n m bs) .answer .number ≡ 0 → New n m ((initialize n m bs) .bytes)
 init-new n m bs e = go (first order (badInitialize (length bs) n m ∷ [])) refl e
@@ -35,7 +36,7 @@ init-new n m bs e = go (first order (badInitialize (length bs) n m ∷ [])) refl
     z = fresh (length bs) n m
 
     k : ℕ
-    k = n - (16 + 4 * m)
+    k = n - (zoneHeader + masterSize * m)
 
     go : (j : ℕ) → first order (badInitialize (length bs) n m ∷ []) ≡ j → (initializeWith j n m bs) .answer .number ≡ 0 → New n m ((initializeWith j n m bs) .bytes)
     go (suc j) q e = let r : (initializeWith (suc j) n m bs) .answer .number ≡ suc j = rw (eqb·suc-zero j) in absurd (omega arith)

@@ -7,11 +7,12 @@ use native.Mathlib.Omega.{arith}
 use lib.Dec.{eqb, leb}
 use borrow.Author.Tests.{eq-eqb, ne-eqb}
 use lib.ListN.{length, take, replicate, length-append, length-replicate}
+use Rattle.block_type.specs.Limits.{longestZone, masterSize, mostMasters, relocHeader, zoneHeader, freeHeader}
 use Rattle.bigendian.specs.BigEndian.{toBE, overwrite}
 use Rattle.bigendian.proofs.Laws.{length-toBE}
+use Rattle.bigendian.proofs.Overwrite.{take-write, drop-write}
 use Rattle.memory.proofs.Writes.{write-none}
 use Rattle.memory.proofs.Slide.{write-before}
-use Rattle.compact_bay.proofs.Part.{take-write, drop-write}
 use Rattle.calls.specs.Table.{Cause, cause, badInitialize, first, order}
 use Rattle.zone.proofs.Initial.{accepted as may-start}
 use Rattle.initialize.specs.Fresh.{sizeBytes, headBytes, chainBytes, freeBytes, freshBytes, accepts, Fresh}
@@ -34,7 +35,7 @@ one-of false b c d e = refl
 
 -- cause 2, where it is tested by r
 pub bad-is : (buf n m : ℕ) (r : Bool) → r ≡ accepts buf n m → badInitialize buf n m ≡ cause 2 (not r)
-bad-is buf n m r e = ap (cause 2) (one-of (eqb (n % 4) 0) (leb (16 + 4 * m) n) (leb n buf) (leb n 1048576) (leb m 8188) ∙ ap not (sym e))
+bad-is buf n m r e = ap (cause 2) (one-of (eqb (n % 4) 0) (leb (zoneHeader + masterSize * m) n) (leb n buf) (leb n longestZone) (leb m mostMasters) ∙ ap not (sym e))
 
 pub accepted : (buf n m : ℕ) (r : Bool) → r ≡ accepts buf n m → r ≡ true → Fresh buf n m
 accepted buf n m r e t =
@@ -43,14 +44,14 @@ accepted buf n m r e t =
 
 -- ---- lengths
 
-pub head-long : (n m : ℕ) → length (headBytes n m) ≡ 16
+pub head-long : (n m : ℕ) → length (headBytes n m) ≡ zoneHeader
 unfolding headBytes sizeBytes
 head-long n m = simp (length-append, length-toBE)
 
 pub chain-long : (h k : ℕ) → length (chainBytes h k) ≡ 4 * k
 unfolding chainBytes
 chain-long h zero = refl
-chain-long h (suc k) = simp (length-append, length-toBE) (omega (arith, chain-long (h + 4) k))
+chain-long h (suc k) = simp (length-append, length-toBE) (omega (arith, chain-long (h + masterSize) k))
 
 pub free-long : (k : ℕ) → k % 4 ≡ 0 → length (freeBytes k) ≡ k
 unfolding freeBytes
@@ -59,21 +60,21 @@ free-long (suc k) e = rw (ne-eqb (suc k) 0 (λ x. omega arith)) (simp (length-ap
 
 -- ---- header
 
-pub head-none : (m : ℕ) → m ≡ 0 → _≡_ {A = ℕ} 0 (cond (eqb m 0) 0 16)
+pub head-none : (m : ℕ) → m ≡ 0 → _≡_ {A = ℕ} 0 (cond (eqb m 0) 0 zoneHeader)
 head-none m e = rw (eq-eqb m 0 e)
 
-pub head-some : (m : ℕ) → (m ≡ 0 → ⊥) → _≡_ {A = ℕ} 16 (cond (eqb m 0) 0 16)
+pub head-some : (m : ℕ) → (m ≡ 0 → ⊥) → _≡_ {A = ℕ} zoneHeader (cond (eqb m 0) 0 zoneHeader)
 head-some m e = rw (ne-eqb m 0 e)
 
 pub sizes-done : (z z₁ z₂ z₃ : List ℕ) (n m : ℕ) → Fresh (length z) n m
-    → z₁ ≡ overwrite z 0 (toBE 4 n) → z₂ ≡ overwrite z₁ 4 (toBE 4 (16 + 4 * m)) → z₃ ≡ overwrite z₂ 8 (toBE 4 m) → z₃ ≡ overwrite z 0 (sizeBytes n m)
+    → z₁ ≡ overwrite z 0 (toBE 4 n) → z₂ ≡ overwrite z₁ 4 (toBE 4 (zoneHeader + masterSize * m)) → z₃ ≡ overwrite z₂ 8 (toBE 4 m) → z₃ ≡ overwrite z 0 (sizeBytes n m)
 unfolding sizeBytes
 sizes-done z z₁ z₂ z₃ n m x e₁ e₂ e₃ =
     let a = toBE 4 n in
-    let b = toBE 4 (16 + 4 * m) in
-    let l : 16 ≤ length z = omega (arith, x .room, x .fits) in
+    let b = toBE 4 (zoneHeader + masterSize * m) in
+    let l : zoneHeader ≤ length z = omega (arith, x .room, x .fits) in
     let la = length-toBE 4 n in
-    let lb = length-toBE 4 (16 + 4 * m) in
+    let lb = length-toBE 4 (zoneHeader + masterSize * m) in
     let lc = length-toBE 4 m in
     let lab = length-append a b in
     let p₂ : z₂ ≡ overwrite z 0 (a ++ b) = e₂ ∙ (rw e₁ (write-more z a b 0 4 (omega arith) (omega arith))) in
@@ -84,12 +85,12 @@ sizes-long : (n m : ℕ) → length (sizeBytes n m) ≡ 12
 unfolding sizeBytes
 sizes-long n m = simp (length-append, length-toBE)
 
-pub header-done : (z z₁ z₂ z₃ : List ℕ) (n m h : ℕ) → Fresh (length z) n m → h ≡ cond (eqb m 0) 0 16
+pub header-done : (z z₁ z₂ z₃ : List ℕ) (n m h : ℕ) → Fresh (length z) n m → h ≡ cond (eqb m 0) 0 zoneHeader
     → z₁ ≡ overwrite z 0 (sizeBytes n m) → z₂ ≡ overwrite z₁ 12 (toBE 2 h) → z₃ ≡ overwrite z₂ 14 (toBE 2 0) → z₃ ≡ overwrite z 0 (headBytes n m)
 unfolding headBytes
 header-done z z₁ z₂ z₃ n m h x eh e₁ e₂ e₃ =
     let a = sizeBytes n m in
-    let l : 16 ≤ length z = omega (arith, x .room, x .fits) in
+    let l : zoneHeader ≤ length z = omega (arith, x .room, x .fits) in
     let la = sizes-long n m in
     let lb = length-toBE 2 h in
     let lc = length-toBE 2 0 in
@@ -102,31 +103,31 @@ header-done z z₁ z₂ z₃ n m h x eh e₁ e₂ e₃ =
 
 -- how many masters there are from `at` on
 abbrev pub mastersFrom : ℕ → ℕ → ℕ
-mastersFrom m at = (16 + 4 * m - at) / 4
+mastersFrom m at = (zoneHeader + masterSize * m - at) / 4
 
 -- the master at `at`, where there is one
 abbrev pub masterOrNone : ℕ → ℕ → ℕ
 masterOrNone m at = cond (eqb (mastersFrom m at) 0) 0 at
 
-none-from : (m : ℕ) → mastersFrom m (16 + 4 * m) ≡ 0
+none-from : (m : ℕ) → mastersFrom m (zoneHeader + masterSize * m) ≡ 0
 none-from m = omega arith
 
-pub chain-none : (m : ℕ) → 0 ≡ masterOrNone m (16 + 4 * m)
+pub chain-none : (m : ℕ) → 0 ≡ masterOrNone m (zoneHeader + masterSize * m)
 chain-none m = rw (none-from m)
 
-pub chain-start : (z : List ℕ) (m : ℕ) → z ≡ overwrite z (16 + 4 * m) (chainBytes (16 + 4 * m) (mastersFrom m (16 + 4 * m)))
+pub chain-start : (z : List ℕ) (m : ℕ) → z ≡ overwrite z (zoneHeader + masterSize * m) (chainBytes (zoneHeader + masterSize * m) (mastersFrom m (zoneHeader + masterSize * m)))
 unfolding chainBytes
-chain-start z m = rw (none-from m) (sym (write-none z (16 + 4 * m)))
+chain-start z m = rw (none-from m) (sym (write-none z (zoneHeader + masterSize * m)))
 
-module _ (at m : ℕ) (low : 16 < at) (four : at % 4 ≡ 0) (high : at ≤ 16 + 4 * m) where
-  one-from : mastersFrom m (at - 4) ≡ suc (mastersFrom m at)
+module _ (at m : ℕ) (low : zoneHeader < at) (four : at % 4 ≡ 0) (high : at ≤ zoneHeader + masterSize * m) where
+  one-from : mastersFrom m (at - masterSize) ≡ suc (mastersFrom m at)
   one-from = omega arith
 
-  pub chain-next : at - 4 ≡ masterOrNone m (at - 4)
-  chain-next = rw (ne-eqb (mastersFrom m (at - 4)) 0 (λ e. omega arith))
+  pub chain-next : at - masterSize ≡ masterOrNone m (at - masterSize)
+  chain-next = rw (ne-eqb (mastersFrom m (at - masterSize)) 0 (λ e. omega arith))
 
-  pub chain-step : (s z z′ : List ℕ) (next : ℕ) → 16 + 4 * m ≤ length s → next ≡ masterOrNone m at → z ≡ overwrite s at (chainBytes at (mastersFrom m at))
-      → z′ ≡ overwrite z (at - 4) (toBE 4 next) → z′ ≡ overwrite s (at - 4) (chainBytes (at - 4) (mastersFrom m (at - 4)))
+  pub chain-step : (s z z′ : List ℕ) (next : ℕ) → zoneHeader + masterSize * m ≤ length s → next ≡ masterOrNone m at → z ≡ overwrite s at (chainBytes at (mastersFrom m at))
+      → z′ ≡ overwrite z (at - masterSize) (toBE 4 next) → z′ ≡ overwrite s (at - masterSize) (chainBytes (at - masterSize) (mastersFrom m (at - masterSize)))
   unfolding chainBytes
   chain-step s z z′ next f en ez e =
       let k = mastersFrom m at in
@@ -134,17 +135,17 @@ module _ (at m : ℕ) (low : 16 < at) (four : at % 4 ≡ 0) (high : at ≤ 16 + 
       let b = chainBytes at k in
       let la = length-toBE 4 next in
       let lb = chain-long at k in
-      let q : at - 4 + length a ≡ at = omega arith in
-      let r : at - 4 + 4 ≡ at = omega arith in
+      let q : at - relocHeader + length a ≡ at = omega arith in
+      let r : at - masterSize + masterSize ≡ at = omega arith in
       e
-      ∙ ap (λ (x : List ℕ). overwrite x (at - 4) a) (ez ∙ ap (λ (i : ℕ). overwrite s i b) (sym q))
-      ∙ write-before s a b (at - 4) (omega arith)
+      ∙ ap (λ (x : List ℕ). overwrite x (at - masterSize) a) (ez ∙ ap (λ (i : ℕ). overwrite s i b) (sym q))
+      ∙ write-before s a b (at - masterSize) (omega arith)
       ∙ (rw (one-from, r, en))
 
-pub chain-end : (s z : List ℕ) (at m : ℕ) → 16 ≤ at → at ≤ 16 → z ≡ overwrite s at (chainBytes at (mastersFrom m at)) → z ≡ overwrite s 16 (chainBytes 16 m)
+pub chain-end : (s z : List ℕ) (at m : ℕ) → zoneHeader ≤ at → at ≤ zoneHeader → z ≡ overwrite s at (chainBytes at (mastersFrom m at)) → z ≡ overwrite s 16 (chainBytes zoneHeader m)
 chain-end s z at m l h e =
-    let a : at ≡ 16 = omega arith in
-    let k : mastersFrom m 16 ≡ m = omega arith in
+    let a : at ≡ zoneHeader = omega arith in
+    let k : mastersFrom m zoneHeader ≡ m = omega arith in
     e ∙ (rw (a, k))
 
 -- ---- the free block
@@ -155,28 +156,28 @@ module _ (z : List ℕ) (first n : ℕ) where
   free-none a b = let e : n - first ≡ 0 = omega arith in rw e (sym (write-none z first))
 
   pub free-some : (z₁ z₂ : List ℕ) → first < n → n ≤ length z → (n - first) % 4 ≡ 0 → z₁ ≡ overwrite z first (toBE 4 ((n - first) / 2))
-      → z₂ ≡ overwrite z₁ (first + 4) (replicate (n - (first + 4)) 0) → z₂ ≡ overwrite z first (freeBytes (n - first))
+      → z₂ ≡ overwrite z₁ (first + freeHeader) (replicate (n - (first + freeHeader)) 0) → z₂ ≡ overwrite z first (freeBytes (n - first))
   unfolding freeBytes
   free-some z₁ z₂ l f q e₁ e₂ =
-      let k : n - (first + 4) ≡ n - first - 4 = omega arith in
-      let lr = length-replicate {A = ℕ} (n - (first + 4)) 0 in
+      let k : n - (first + freeHeader) ≡ n - first - freeHeader = omega arith in
+      let lr = length-replicate {A = ℕ} (n - (first + freeHeader)) 0 in
       let lt = length-toBE 4 ((n - first) / 2) in
       rw (ne-eqb (n - first) 0 (λ x. omega arith), ← k)
-      (e₂ ∙ (rw e₁ (write-more z (toBE 4 ((n - first) / 2)) (replicate (n - (first + 4)) 0) first (first + 4) (omega arith) (omega arith))))
+      (e₂ ∙ (rw e₁ (write-more z (toBE 4 ((n - first) / 2)) (replicate (n - (first + freeHeader)) 0) first (first + freeHeader) (omega arith) (omega arith))))
 
 -- ---- all of it
 
-pub make-done : (z z₁ z₂ z₃ : List ℕ) (n m : ℕ) → Fresh (length z) n m → z₁ ≡ overwrite z 0 (headBytes n m) → z₂ ≡ overwrite z₁ 16 (chainBytes 16 m)
-    → z₃ ≡ overwrite z₂ (16 + 4 * m) (freeBytes (n - (16 + 4 * m))) → z₃ ≡ overwrite z 0 (freshBytes n m)
+pub make-done : (z z₁ z₂ z₃ : List ℕ) (n m : ℕ) → Fresh (length z) n m → z₁ ≡ overwrite z 0 (headBytes n m) → z₂ ≡ overwrite z₁ 16 (chainBytes zoneHeader m)
+    → z₃ ≡ overwrite z₂ (zoneHeader + masterSize * m) (freeBytes (n - (zoneHeader + masterSize * m))) → z₃ ≡ overwrite z 0 (freshBytes n m)
 unfolding freshBytes
 make-done z z₁ z₂ z₃ n m x e₁ e₂ e₃ =
     let r = x .room in
     let g = x .fits in
     let q = x .four in
     let lh = head-long n m in
-    let lc = chain-long 16 m in
-    let lf = free-long (n - (16 + 4 * m)) (omega arith) in
-    let la = length-append (headBytes n m) (chainBytes 16 m) in
-    let p₂ : z₂ ≡ overwrite z 0 (headBytes n m ++ chainBytes 16 m) = e₂ ∙ (rw e₁ (write-more z (headBytes n m) (chainBytes 16 m) 0 16 (omega arith) (omega arith))) in
-    e₃ ∙ (rw p₂ (write-more z (headBytes n m ++ chainBytes 16 m) (freeBytes (n - (16 + 4 * m))) 0 (16 + 4 * m) (omega arith) (omega arith)))
-    ∙ ap (λ (y : List ℕ). overwrite z 0 y) (append-assoc (headBytes n m) (chainBytes 16 m) (freeBytes (n - (16 + 4 * m))))
+    let lc = chain-long zoneHeader m in
+    let lf = free-long (n - (zoneHeader + masterSize * m)) (omega arith) in
+    let la = length-append (headBytes n m) (chainBytes zoneHeader m) in
+    let p₂ : z₂ ≡ overwrite z 0 (headBytes n m ++ chainBytes zoneHeader m) = e₂ ∙ (rw e₁ (write-more z (headBytes n m) (chainBytes zoneHeader m) 0 16 (omega arith) (omega arith))) in
+    e₃ ∙ (rw p₂ (write-more z (headBytes n m ++ chainBytes zoneHeader m) (freeBytes (n - (zoneHeader + masterSize * m))) 0 (zoneHeader + masterSize * m) (omega arith) (omega arith)))
+    ∙ ap (λ (y : List ℕ). overwrite z 0 y) (append-assoc (headBytes n m) (chainBytes zoneHeader m) (freeBytes (n - (zoneHeader + masterSize * m))))

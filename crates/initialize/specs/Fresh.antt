@@ -6,31 +6,31 @@ use Prim.Native.Nat.{ℕ, zero, suc, _+_, _*_, _-_, _/_, _%_, _≤_}
 use lib.ListN.{replicate}
 use lib.Dec.{eqb, leb}
 use Rattle.bigendian.specs.BigEndian.{toBE}
-use Rattle.block_type.specs.Limits.{firstBlock, longestZone, mostMasters}
+use Rattle.block_type.specs.Limits.{firstBlock, longestZone, mostMasters, masterSize, zoneHeader, freeHeader}
 
 -- length, bkFst, m
 unfoldable pub sizeBytes : ℕ → ℕ → List ℕ
-sizeBytes n m = toBE 4 n ++ (toBE 4 (16 + 4 * m) ++ toBE 4 m)
+sizeBytes n m = toBE 4 n ++ (toBE 4 (zoneHeader + masterSize * m) ++ toBE 4 m)
 
 -- then the chain's head and two zero bytes
 unfoldable pub headBytes : ℕ → ℕ → List ℕ
-headBytes n m = sizeBytes n m ++ (toBE 2 (cond (eqb m 0) 0 16) ++ toBE 2 0)
+headBytes n m = sizeBytes n m ++ (toBE 2 (cond (eqb m 0) 0 zoneHeader) ++ toBE 2 0)
 
 -- what the master at h holds, with k masters behind it
 abbrev pub linkAfter : ℕ → ℕ → ℕ
-linkAfter h k = cond (eqb k 0) 0 (h + 4)
+linkAfter h k = cond (eqb k 0) 0 (h + masterSize)
 
 -- k masters from h on
 unfoldable pub chainBytes : ℕ → ℕ → List ℕ
 chainBytes h zero = []
-chainBytes h (suc k) = toBE 4 (linkAfter h k) ++ chainBytes (h + 4) k
+chainBytes h (suc k) = toBE 4 (linkAfter h k) ++ chainBytes (h + masterSize) k
 
 -- a free block of k bytes, none for 0
 unfoldable pub freeBytes : ℕ → List ℕ
-freeBytes k = cond (eqb k 0) [] (toBE 4 (k / 2) ++ replicate (k - 4) 0)
+freeBytes k = cond (eqb k 0) [] (toBE 4 (k / 2) ++ replicate (k - freeHeader) 0)
 
 unfoldable pub freshBytes : ℕ → ℕ → List ℕ
-freshBytes n m = headBytes n m ++ (chainBytes 16 m ++ freeBytes (n - (16 + 4 * m)))
+freshBytes n m = headBytes n m ++ (chainBytes zoneHeader m ++ freeBytes (n - (zoneHeader + masterSize * m)))
 
 -- whether a zone of n bytes with m masters can be made in a buffer of `buf` bytes
 abbrev pub accepts : ℕ → ℕ → ℕ → Bool
@@ -39,7 +39,7 @@ accepts buf n m = eqb (n % 4) 0 && leb (firstBlock m) n && leb n buf && leb n lo
 -- what an accepted call may rely on
 pub record Fresh (buf n m : ℕ) : Type 0 where
   pub four : n % 4 ≡ 0
-  pub room : 16 + 4 * m ≤ n
+  pub room : zoneHeader + masterSize * m ≤ n
   pub fits : n ≤ buf
-  pub short : n ≤ 1048576
-  pub few : m ≤ 8188
+  pub short : n ≤ longestZone
+  pub few : m ≤ mostMasters

@@ -4,6 +4,7 @@ ghost use mathlib.Core.Bool.{cond};
 ghost use Prim.Native.Nat.{_+_, _*_, _-_, _%_, _<_, _≤_};
 ghost use lib.ListN.{length};
 ghost use lib.Dec.{eqb};
+ghost use Rattle.block_type.specs.Limits.{longestZone, masterSize, mostMasters, zoneHeader};
 ghost use Rattle.bigendian.specs.BigEndian.{overwrite};
 ghost use Rattle.calls.specs.Calls.{told};
 ghost use Rattle.zone.specs.Call.{result, initialize};
@@ -51,8 +52,8 @@ fn put_header(z: &mut [u8], n: usize, m: usize)
 
 // The masters, from the last one down, each with the offset of the one after it, which was written just before; 0 in the last.
 fn put_chain(z: &mut [u8], m: usize)
-    requires { ⌜ (16 + 4 * m ≤ length (now z)) × (m ≤ 8188) ⌝ }
-    ensures { λ _. ⌜ now (z .exit) ≡ overwrite (now (z .entry)) 16 (chainBytes 16 m) ⌝ }
+    requires { ⌜ (zoneHeader + masterSize * m ≤ length (now z)) × (m ≤ mostMasters) ⌝ }
+    ensures { λ _. ⌜ now (z .exit) ≡ overwrite (now (z .entry)) 16 (chainBytes zoneHeader m) ⌝ }
 {
     let mut next = 0;
     let mut at = 16 + 4 * m;
@@ -65,7 +66,7 @@ fn put_chain(z: &mut [u8], m: usize)
 
 // The free block from `first` up to n; none where they are the same.
 fn put_free(z: &mut [u8], first: usize, n: usize)
-    requires { ⌜ (first ≤ n) × (n ≤ length (now z)) × (n ≤ 1048576) × ((n - first) % 4 ≡ 0) ⌝ }
+    requires { ⌜ (first ≤ n) × (n ≤ length (now z)) × (n ≤ longestZone) × ((n - first) % 4 ≡ 0) ⌝ }
     ensures { λ _. ⌜ now (z .exit) ≡ overwrite (now (z .entry)) first (freeBytes (n - first)) ⌝ }
 {
     if first < n {

@@ -10,7 +10,8 @@ use lib.Dec.{leb, eqb}
 use Rattle.block_type.specs.Limits.{relocHeader, up4, fixedNeed, relocNeed, zoneHeader, firstBlock, recordSize}
 use Rattle.calls.specs.Calls.{Target, by-handle, by-pointer, Call, allocate-relocatable, allocate-fixed, free-handle, free-pointer, resize, size, read, write, view, compact, sums, check, length-of, enlarge, shrink, roster, Card, Answer, toldTwo, shows, lists, refused}
 use Rattle.calls.specs.Bays.{Bays, last, onLowest, mapS, onFixed, onLast, concatS, sumS, maxS, lastS}
-use Rattle.calls.specs.State.{Item, total, is, alter, newItem, sized, card, handlesFrom, Fixed, pointer, alterFixed, State, Out, says, done, withBays, cutHigh, joinAt, dataOf, ownSum, liveCount, top, rest}
+use Rattle.kinds.specs.Kinds.{Item}
+use Rattle.calls.specs.State.{total, is, alter, newItem, sized, card, handlesFrom, Fixed, pointer, alterFixed, State, Out, says, done, withBays, cutHigh, joinAt, dataOf, ownSum, liveCount, top, rest}
 use Rattle.calls.specs.Table.{Facts, factsOf, refusalOf}
 
 -- ---- "State: L; the buffer's length; free handles as a stack; in address order, bays (capacity, live handles with their bytes)

@@ -8,7 +8,8 @@ use lib.Dec.{leb}
 use Rattle.block_type.specs.Limits.{up4, fixedNeed, relocNeed, relocHeader}
 use Rattle.calls.specs.Calls.{Call, allocate-relocatable, allocate-fixed, resize}
 use Rattle.calls.specs.Bays.{last, more}
-use Rattle.calls.specs.State.{Item, get, fsize}
+use Rattle.kinds.specs.Kinds.{Item}
+use Rattle.calls.specs.State.{get, fsize}
 use Rattle.calls.specs.Table.{first, beforeNoBay, causes}
 use Rattle.ledger.specs.Ledger.{Bay, Layout, Ledger, sumOf, facts}
 

@@ -8,14 +8,16 @@ use native.Mathlib.Omega.{arith}
 use lib.ListN.{length}
 use lib.Dec.{eqb}
 use borrow.Author.Tests.{ne-eqb}
+use Rattle.block_type.specs.Limits.{fixedHeader, relocHeader}
 use Rattle.structure.specs.Structure as Structure
-use Rattle.structure.specs.Structure.{Block, free, fixed, reloc, size}
+use Rattle.structure.specs.Structure.{Block, fixed, size, cell}
 use Rattle.access.specs.Edit as Edit
 use Rattle.row.specs.Row.{kindB}
 use Rattle.calls.specs.Calls.{Target, by-handle, by-pointer}
 use Rattle.calls.specs.Bays.{Bays, last, more, over, orElse, findS, findF}
-use Rattle.calls.specs.State.{Item, get, Fixed, pointer, content}
-use Rattle.zone.specs.Bay.{items, Cell, free as gapCell, held}
+use Rattle.kinds.specs.Kinds.{Item}
+use Rattle.calls.specs.State.{get, Fixed, pointer, content}
+use Rattle.bay.specs.Bay.{items, Cell, free, held}
 use Rattle.zone.specs.Group.{inFront, group}
 use Rattle.locate.specs.Locate.{placeAmong, dataAmong}
 
@@ -24,35 +26,35 @@ use Rattle.locate.specs.Locate.{placeAmong, dataAmong}
 pub handle-place : (h at : ℕ) (bs : List Block) → Structure.placeOf h at bs ≡ placeAmong (by-handle h) at bs
 unfolding Structure.placeOf placeAmong
 handle-place h at [] = refl
-handle-place h at (free n ∷ bs) = handle-place h (at + n) bs
-handle-place h at (fixed d ∷ bs) = handle-place h (at + (2 + length d)) bs
-handle-place h at (reloc k d ∷ bs) = ap (cond (eqb h k) (at + 4)) (handle-place h (at + (4 + length d)) bs)
+handle-place h at (cell (free n) ∷ bs) = handle-place h (at + n) bs
+handle-place h at (fixed d ∷ bs) = handle-place h (at + (fixedHeader + length d)) bs
+handle-place h at (cell (held it) ∷ bs) = ap (cond (eqb h (it .handle)) (at + relocHeader)) (handle-place h (at + (relocHeader + length (it .bytes))) bs)
 
 pub handle-data : (h at : ℕ) (bs : List Block) → Edit.dataOf h bs ≡ dataAmong (by-handle h) at bs
 unfolding Edit.dataOf dataAmong
 handle-data h at [] = refl
-handle-data h at (free n ∷ bs) = handle-data h (at + n) bs
-handle-data h at (fixed d ∷ bs) = handle-data h (at + (2 + length d)) bs
-handle-data h at (reloc k d ∷ bs) = ap (cond (eqb h k) d) (handle-data h (at + (4 + length d)) bs)
+handle-data h at (cell (free n) ∷ bs) = handle-data h (at + n) bs
+handle-data h at (fixed d ∷ bs) = handle-data h (at + (fixedHeader + length d)) bs
+handle-data h at (cell (held it) ∷ bs) = ap (cond (eqb h (it .handle)) (it .bytes)) (handle-data h (at + (relocHeader + length (it .bytes))) bs)
 
 -- ---- by pointer, one block
 
 module _ (p at : ℕ) (bs : List Block) where
-  pub pointer-place : (b : Block) → placeAmong (by-pointer p) at (b ∷ bs) ≡ cond (eqb (kindB b) 1 && eqb p (at + 2)) (at + 2) (placeAmong (by-pointer p) (at + size b) bs)
+  pub pointer-place : (b : Block) → placeAmong (by-pointer p) at (b ∷ bs) ≡ cond (eqb (kindB b) 1 && eqb p (at + fixedHeader)) (at + fixedHeader) (placeAmong (by-pointer p) (at + size b) bs)
   unfolding placeAmong
-  pointer-place (free n) = refl
+  pointer-place (cell (free n)) = refl
   pointer-place (fixed d) = refl
-  pointer-place (reloc h d) = refl
+  pointer-place (cell (held it)) = refl
 
-  pub pointer-data : (b : Block) → length (dataAmong (by-pointer p) at (b ∷ bs)) ≡ cond (eqb (kindB b) 1 && eqb p (at + 2)) (size b - 2) (length (dataAmong (by-pointer p) (at + size b) bs))
+  pub pointer-data : (b : Block) → length (dataAmong (by-pointer p) at (b ∷ bs)) ≡ cond (eqb (kindB b) 1 && eqb p (at + fixedHeader)) (size b - fixedHeader) (length (dataAmong (by-pointer p) (at + size b) bs))
   unfolding dataAmong
-  pointer-data (free n) = refl
-  pointer-data (fixed d) = go (eqb p (at + 2))
+  pointer-data (cell (free n)) = refl
+  pointer-data (fixed d) = go (eqb p (at + fixedHeader))
     where
-      go : (t : Bool) → length (cond t d (dataAmong (by-pointer p) (at + (2 + length d)) bs)) ≡ cond t (2 + length d - 2) (length (dataAmong (by-pointer p) (at + (2 + length d)) bs))
+      go : (t : Bool) → length (cond t d (dataAmong (by-pointer p) (at + (fixedHeader + length d)) bs)) ≡ cond t (fixedHeader + length d - fixedHeader) (length (dataAmong (by-pointer p) (at + (fixedHeader + length d)) bs))
       go true = omega arith
       go false = refl
-  pointer-data (reloc h d) = refl
+  pointer-data (cell (held it)) = refl
 
 -- ---- in the bays
 
@@ -62,7 +64,7 @@ orNone k d = cond (eqb k 0) none (some d)
 abbrev in-bays : Target → Bays (List Cell) Fixed → Option (List ℕ)
 in-bays t s = content items t s
 
-front-free : (t : Target) (n : ℕ) (s : Bays (List Cell) Fixed) → in-bays t (inFront (gapCell n) s) ≡ in-bays t s
+front-free : (t : Target) (n : ℕ) (s : Bays (List Cell) Fixed) → in-bays t (inFront (free n) s) ≡ in-bays t s
 front-free (by-handle h) n (last b) = refl
 front-free (by-handle h) n (more b x s) = refl
 front-free (by-pointer p) n (last b) = refl
@@ -94,16 +96,16 @@ pub content-among : (t : Target) (at : ℕ) (bs : List Block) → content items 
 unfolding placeAmong dataAmong
 content-among (by-handle h) at [] = refl
 content-among (by-pointer p) at [] = refl
-content-among (by-handle h) at (free n ∷ bs) = front-free (by-handle h) n (group (at + n) bs) ∙ content-among (by-handle h) (at + n) bs
-content-among (by-pointer p) at (free n ∷ bs) = front-free (by-pointer p) n (group (at + n) bs) ∙ content-among (by-pointer p) (at + n) bs
-content-among (by-handle h) at (fixed d ∷ bs) = content-among (by-handle h) (at + (2 + length d)) bs
-content-among (by-pointer p) at (fixed d ∷ bs) = found (eqb p (at + 2)) ∙ ap (cond (eqb p (at + 2)) (some d)) (content-among (by-pointer p) (at + (2 + length d)) bs)
-    ∙ here (eqb p (at + 2)) (at + 2) _ d _ (λ e. omega arith)
+content-among (by-handle h) at (cell (free n) ∷ bs) = front-free (by-handle h) n (group (at + n) bs) ∙ content-among (by-handle h) (at + n) bs
+content-among (by-pointer p) at (cell (free n) ∷ bs) = front-free (by-pointer p) n (group (at + n) bs) ∙ content-among (by-pointer p) (at + n) bs
+content-among (by-handle h) at (fixed d ∷ bs) = content-among (by-handle h) (at + (fixedHeader + length d)) bs
+content-among (by-pointer p) at (fixed d ∷ bs) = found (eqb p (at + fixedHeader)) ∙ ap (cond (eqb p (at + fixedHeader)) (some d)) (content-among (by-pointer p) (at + (fixedHeader + length d)) bs)
+    ∙ here (eqb p (at + fixedHeader)) (at + fixedHeader) _ d _ (λ e. omega arith)
   where
-    found : (t : Bool) → over (λ (x : Fixed). x .bytes) (cond t (some (record { place = at; bytes = d })) (findF (λ (x : Fixed). eqb p (pointer x)) (group (at + (2 + length d)) bs)))
-        ≡ cond t (some d) (content items (by-pointer p) (group (at + (2 + length d)) bs))
+    found : (t : Bool) → over (λ (x : Fixed). x .bytes) (cond t (some (record { place = at; bytes = d })) (findF (λ (x : Fixed). eqb p (pointer x)) (group (at + (fixedHeader + length d)) bs)))
+        ≡ cond t (some d) (content items (by-pointer p) (group (at + (fixedHeader + length d)) bs))
     found true = refl
     found false = refl
-content-among (by-handle h) at (reloc k d ∷ bs) = front-held h (record { handle = k; bytes = d }) (group (at + (4 + length d)) bs)
-    ∙ ap (cond (eqb h k) (some d)) (content-among (by-handle h) (at + (4 + length d)) bs) ∙ here (eqb h k) (at + 4) _ d _ (λ e. omega arith)
-content-among (by-pointer p) at (reloc k d ∷ bs) = front-pointer p (record { handle = k; bytes = d }) (group (at + (4 + length d)) bs) ∙ content-among (by-pointer p) (at + (4 + length d)) bs
+content-among (by-handle h) at (cell (held it) ∷ bs) = front-held h (record { handle = (it .handle); bytes = (it .bytes) }) (group (at + (relocHeader + length (it .bytes))) bs)
+    ∙ ap (cond (eqb h (it .handle)) (some (it .bytes))) (content-among (by-handle h) (at + (relocHeader + length (it .bytes))) bs) ∙ here (eqb h (it .handle)) (at + relocHeader) _ (it .bytes) _ (λ e. omega arith)
+content-among (by-pointer p) at (cell (held it) ∷ bs) = front-pointer p (record { handle = (it .handle); bytes = (it .bytes) }) (group (at + (relocHeader + length (it .bytes))) bs) ∙ content-among (by-pointer p) (at + (relocHeader + length (it .bytes))) bs

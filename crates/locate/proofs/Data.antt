@@ -3,31 +3,31 @@ use mathlib.Core.Path.{_≡_, refl, sym, ap, _∙_}
 use mathlib.Core.Bool.{Bool, true, false, cond, false≢true}
 use mathlib.Core.Option.{none, some}
 use mathlib.Core.List.{List, [], _∷_, _++_, map, append-assoc}
-use Prim.Native.Nat.{ℕ, _+_, _-_, _/_, _≤_}
+use Prim.Native.Nat.{ℕ, _+_, _-_, _/_, _≤_, _*_}
 use native.Mathlib.Omega.{arith}
 use lib.ListN.{length, take, drop, length-append, length-take}
 use lib.Seq.{take-at, drop-at, take-take, drop-drop, drop-append-add}
 use borrow.Author.Tests.{ne-eqb}
+use Rattle.block_type.specs.Limits.{fixedCode, fixedHeader, longestZone, relocCode, relocHeader, typeUnit}
 use Rattle.bigendian.specs.BigEndian.{toBE, slice, Bytes}
 use Rattle.bigendian.proofs.Laws.{length-toBE}
-use Rattle.format.specs.WellFormed.{wellFormed, zoneOf, lengthField, firstField, mastersField, chainField}
-use Rattle.format.specs.Steps.{Fields}
-use Rattle.format.proofs.Bool.{and-left}
-use Rattle.format.proofs.Header.{header-facts}
+use Rattle.format.specs.WellFormed.{wellFormed, zoneOf, lengthField}
 use Rattle.format.proofs.Walk.{drop-take}
-use Rattle.structure.specs.Structure.{Block, free, fixed, reloc, size, sizes, start, encodeBlock, join, decodeZone, decode}
+use Rattle.structure.specs.Structure.{Block, fixed, size, sizes, start, encodeBlock, join, decodeZone, decode, cell}
 use Rattle.structure.proofs.Round.{rest-is}
 use Rattle.structure.proofs.Table.{Whole, whole, len-is, encode-zone}
 use Rattle.structure.proofs.Sound.{valid-zone}
 use Rattle.row.specs.Row.{Sound, bytesOf}
 use Rattle.row.proofs.Laws.{enc-of}
+use Rattle.row.proofs.Zone.{valid-sound}
+use Rattle.access.proofs.Checked.{fields-of}
 use Rattle.calls.specs.Calls.{Target, by-handle, by-pointer}
+use Rattle.kinds.specs.Kinds.{item}
 use Rattle.calls.specs.State.{content}
-use Rattle.zone.specs.Bay.{items}
+use Rattle.bay.specs.Bay.{items, free, held}
 use Rattle.zone.specs.Group.{group}
 use Rattle.locate.specs.Locate.{names, headerOf, heldBy, placeAmong, dataAmong, targetPlace, targetData, Located, ill-formed, absent, present}
 use Rattle.locate.proofs.Among.{content-among}
-use Rattle.locate.proofs.Laws.{sound-zone}
 
 -- ---- one block
 
@@ -40,24 +40,24 @@ pub record Parts (b : Block) : Type 0 where
 
 fixed-parts : (d : List ℕ) → Parts (fixed d)
 unfolding encodeBlock
-fixed-parts d = record { head = toBE 2 (16384 + (2 + length d) / 2); bytes = refl; long = length-toBE 2 (16384 + (2 + length d) / 2); whole = refl }
+fixed-parts d = record { head = toBE 2 (fixedCode * typeUnit + (fixedHeader + length d) / 2); bytes = refl; long = length-toBE 2 (fixedCode * typeUnit + (fixedHeader + length d) / 2); whole = refl }
 
-reloc-parts : (h : ℕ) (d : List ℕ) → Parts (reloc h d)
+reloc-parts : (h : ℕ) (d : List ℕ) → Parts (cell (held (item h d)))
 unfolding encodeBlock
 reloc-parts h d = record {
-  head = toBE 2 (32768 + (4 + length d) / 2) ++ toBE 2 h;
-  bytes = sym (append-assoc (toBE 2 (32768 + (4 + length d) / 2)) (toBE 2 h) d);
+  head = toBE 2 (relocCode * typeUnit + (relocHeader + length d) / 2) ++ toBE 2 h;
+  bytes = sym (append-assoc (toBE 2 (relocCode * typeUnit + (relocHeader + length d) / 2)) (toBE 2 h) d);
   long = simp (length-append, length-toBE);
   whole = refl;
 }
 
 pub named-parts : (t : Target) (at : ℕ) (b : Block) → names t at b ≡ true → Parts b
-named-parts (by-handle h) at (free n) e = absurd (false≢true e)
-named-parts (by-pointer p) at (free n) e = absurd (false≢true e)
+named-parts (by-handle h) at (cell (free n)) e = absurd (false≢true e)
+named-parts (by-pointer p) at (cell (free n)) e = absurd (false≢true e)
 named-parts (by-handle h) at (fixed d) e = fixed-parts d
 named-parts (by-pointer p) at (fixed d) e = fixed-parts d
-named-parts (by-handle h) at (reloc k d) e = reloc-parts k d
-named-parts (by-pointer p) at (reloc k d) e = reloc-parts k d
+named-parts (by-handle h) at (cell (held it)) e = reloc-parts (it .handle) (it .bytes)
+named-parts (by-pointer p) at (cell (held it)) e = reloc-parts (it .handle) (it .bytes)
 
 -- ---- among blocks
 
@@ -118,15 +118,11 @@ module _ (s : List ℕ) (y : Bytes s) (wf : wellFormed s ≡ true) (t : Target) 
   unfolding targetPlace targetData
   target-fits = omega (arith, among-fits t (start (decodeZone z)) (decodeZone z .blocks) live, len-is z w, w .all, length-take (lengthField s) s)
 
-  facts : Fields s (lengthField s) (firstField s) (mastersField s) (chainField s)
-  unfolding wellFormed
-  facts = header-facts s (and-left _ _ wf)
-
   pub target-room : lengthField s ≤ length s
-  target-room = omega (arith, facts .room)
+  target-room = omega (arith, fields-of s wf .room)
 
-  pub target-small : lengthField s ≤ 1048576
-  target-small = omega (arith, facts .limit)
+  pub target-small : lengthField s ≤ longestZone
+  target-small = omega (arith, fields-of s wf .limit)
 
   target-bytes : slice z (targetPlace t z) (length (targetData t z)) ≡ targetData t z
   unfolding targetPlace targetData
@@ -137,7 +133,7 @@ module _ (s : List ℕ) (y : Bytes s) (wf : wellFormed s ≡ true) (t : Target) 
       let e : a + (p - a) ≡ p = omega (arith, among-low t a bs live) in
       let r : drop a z ≡ bytesOf bs = ap (drop a) (sym (encode-zone z w)) ∙ rest-is (decodeZone z) (valid-zone z w) in
       ap (take (length (dataAmong t a bs))) (ap (λ (k : ℕ). drop k z) (sym e) ∙ sym (drop-drop (p - a) a z) ∙ ap (drop (p - a)) r)
-      ∙ among-bytes t a bs (sound-zone z w) live
+      ∙ among-bytes t a bs (valid-sound (decodeZone z) (valid-zone z w)) live
 
   -- n bytes from offset i of the data
   pub target-part : (i n : ℕ) → i + n ≤ length (targetData t z) → slice s (targetPlace t z + i) n ≡ take n (drop i (targetData t z))
@@ -151,7 +147,7 @@ module _ (s : List ℕ) (y : Bytes s) (wf : wellFormed s ≡ true) (t : Target) 
 
 -- ---- what is found is small, and in the bays
 
-pub located-small : (s : List ℕ) (t : Target) (number at size : ℕ) → Located s t number at size → (at ≤ 1048576) × (size ≤ 1048576)
+pub located-small : (s : List ℕ) (t : Target) (number at size : ℕ) → Located s t number at size → (at ≤ longestZone) × (size ≤ longestZone)
 located-small s t number at size (ill-formed y wf n a k) = (omega arith, omega arith)
 located-small s t number at size (absent y wf p n a k) = (omega arith, omega arith)
 located-small s t number at size (present y wf a l k n) =

@@ -8,27 +8,28 @@ use lib.Dec.{eqb}
 use Rattle.block_type.specs.Limits.{freeHeader, fixedHeader, relocHeader}
 use Rattle.bigendian.specs.BigEndian.{Bytes}
 use Rattle.format.specs.WellFormed.{wellFormed, zoneOf}
-use Rattle.structure.specs.Structure.{Block, free, fixed, reloc, size, start, decodeZone}
+use Rattle.structure.specs.Structure.{Block, fixed, size, start, decodeZone, cell}
+use Rattle.bay.specs.Bay.{free, held}
 use Rattle.calls.specs.Calls.{Target, by-handle, by-pointer}
 
 -- whether t names the block that starts at offset `at`; a pointer names a fixed block by where its data begin
 abbrev pub names : Target → ℕ → Block → Bool
-names (by-handle h) at (free n) = false
+names (by-handle h) at (cell (free n)) = false
 names (by-handle h) at (fixed d) = false
-names (by-handle h) at (reloc k d) = eqb h k
-names (by-pointer p) at (free n) = false
+names (by-handle h) at (cell (held it)) = eqb h (it .handle)
+names (by-pointer p) at (cell (free n)) = false
 names (by-pointer p) at (fixed d) = eqb p (at + fixedHeader)
-names (by-pointer p) at (reloc k d) = false
+names (by-pointer p) at (cell (held it)) = false
 
 abbrev pub headerOf : Block → ℕ
-headerOf (free n) = freeHeader
+headerOf (cell (free n)) = freeHeader
 headerOf (fixed d) = fixedHeader
-headerOf (reloc h d) = relocHeader
+headerOf (cell (held it)) = relocHeader
 
 abbrev pub heldBy : Block → List ℕ
-heldBy (free n) = []
+heldBy (cell (free n)) = []
 heldBy (fixed d) = d
-heldBy (reloc h d) = d
+heldBy (cell (held it)) = (it .bytes)
 
 -- among blocks of which the first starts at offset `at`: where the data of the named block begin, 0 for none, and these data
 unfoldable pub placeAmong : Target → ℕ → List Block → ℕ

@@ -4,8 +4,9 @@ use mathlib.Core.List.{List, _++_, append-assoc}
 use Prim.Native.Nat.{ℕ, _+_, _-_, _<_, _≤_}
 use native.Mathlib.Omega.{arith}
 use lib.ListN.{length, take, drop, length-append, length-take, length-drop, take-append-drop}
-use lib.Seq.{length-take-le, take-at, drop-at, take-take, drop-drop, take-append-le, drop-append-le, drop-append-add}
+use lib.Seq.{length-take-le, take-at, drop-at, take-take, take-append-le, drop-append-le}
 use Rattle.bigendian.specs.BigEndian.{slice, overwrite}
+use Rattle.bigendian.proofs.Overwrite.{drop-write}
 use Rattle.memory.proofs.Writes.{slice-add, write-none}
 
 -- ---- parts
@@ -30,19 +31,11 @@ take-write s b p at h l =
     let e : take p (overwrite s at b) ≡ take p (take at s ++ b) = take-append-le p (take at s ++ b) (drop (at + length b) s) (omega (arith, length-append (take at s) b)) in
     e ∙ take-append-le p (take at s) b (omega arith) ∙ take-take p at s h
 
-drop-write : (s b : List ℕ) (p at : ℕ) → at + length b ≤ p → p ≤ length s → drop p (overwrite s at b) ≡ drop p s
-drop-write s b p at h l =
-    let j = p - (at + length b) in
-    let a = take at s ++ b in
-    let e : p ≡ length a + j = omega (arith, length-append (take at s) b, length-take-le at s (omega arith)) in
-    let e′ : at + length b + j ≡ p = omega arith in
-    ap (λ (i : ℕ). drop i (overwrite s at b)) e ∙ drop-append-add a (drop (at + length b) s) j ∙ drop-drop j (at + length b) s ∙ ap (λ (i : ℕ). drop i s) e′
-
 -- a write behind one
 write-behind : (s a b : List ℕ) (p : ℕ) → p + length a + length b ≤ length s → overwrite (overwrite s p a) (p + length a) b ≡ overwrite s p (a ++ b)
 write-behind s a b p h =
     let t : take (p + length a) (overwrite s p a) ≡ take p s ++ a = take-at (take p s ++ a) (drop (p + length a) s) (p + length a) (omega (arith, length-append (take p s) a, length-take-le p s (omega arith))) in
-    let d : drop (p + length a + length b) (overwrite s p a) ≡ drop (p + length a + length b) s = drop-write s a (p + length a + length b) p (omega arith) h in
+    let d : drop (p + length a + length b) (overwrite s p a) ≡ drop (p + length a + length b) s = drop-write s p (p + length a + length b) a (omega arith) h in
     let e : p + length (a ++ b) ≡ p + length a + length b = omega (arith, length-append a b) in
     rw (t, d, e) (simp append-assoc)
 
@@ -69,7 +62,7 @@ down-step s t w dst src k n m et h hm d l inv =
     let e₁ : n - k ≡ m + j = omega arith in
     let e₂ : src + (k + m) ≡ src + k + m = omega arith in
     let e₃ : dst + (k + m) ≡ dst + k + length a = omega arith in
-    let f : drop (src + k + m) t ≡ drop (src + k + m) s = ap (drop (src + k + m)) et ∙ drop-write s a (src + k + m) (dst + k) (omega arith) (omega arith) in
+    let f : drop (src + k + m) t ≡ drop (src + k + m) s = ap (drop (src + k + m)) et ∙ drop-write s (dst + k) (src + k + m) a (omega arith) (omega arith) in
     let g : slice t (src + (k + m)) j ≡ b = ap (λ (i : ℕ). slice t i j) e₂ ∙ ap (take j) f in
     ap₂ (λ (i : ℕ) (x : List ℕ). overwrite t i x) e₃ g
     ∙ ap (λ (x : List ℕ). overwrite x (dst + k + length a) b) et

@@ -16,7 +16,7 @@ use Rattle.zone.specs.Call.{result, outcome, inLine, zoneIn, numberOf, replacin
 use Rattle.zone.specs.Census.{strata, Counted, counted}
 use Rattle.zone.specs.View.{viewStart, viewLength}
 use Rattle.zone.specs.Promise.{Alike, Promise, InitPromise}
-use Rattle.zone.proofs.BayLaws.{perm-length}
+use Rattle.bay.proofs.Perm.{perm-length}
 use Rattle.zone.proofs.Numbers.{work-number}
 use Rattle.zone.proofs.Run.{stored-well, call-well}
 use Rattle.zone.proofs.Initial.{accepted, fresh-whole, fresh-stored}

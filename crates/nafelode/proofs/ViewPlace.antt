@@ -8,10 +8,10 @@ use lib.ListN.{length, drop, length-take}
 use lib.Seq.{take-take}
 use lib.Dec.{eqb}
 use borrow.Author.Tests.{ne-eqb}
+use Rattle.format.specs.Occurs.{occurs}
 use Rattle.bigendian.specs.BigEndian.{Bytes, fromBE}
 use Rattle.format.specs.WellFormed.{wellFormed, zoneOf, firstField, lengthField, masterAt, isMaster, splitBlocks}
 use Rattle.format.proofs.Walk.{drop-take}
-use Rattle.format.proofs.Count.{occurs}
 use Rattle.format.proofs.Live.{handles}
 use Rattle.calls.specs.Calls.{Target, by-handle, by-pointer, view}
 use Rattle.zone.specs.Call.{numberOf}

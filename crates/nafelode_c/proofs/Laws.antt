@@ -8,12 +8,13 @@ use lib.ListN.{length, drop, length-take, length-drop}
 use borrow.Author.Tests.{ne-eqb}
 use mir.Val.{Fits}
 use mir.Syntax.{w32}
+use Rattle.block_type.specs.Limits.{longestZone}
 use Rattle.bigendian.specs.BigEndian.{Bytes, slice}
 use Rattle.format.specs.WellFormed.{lengthField}
 use Rattle.calls.specs.Calls.{Target, by-handle, by-pointer, Answer, size, read, write, view, check, toldTwo, shows}
 use Rattle.zone.specs.Promise.{Promise}
 use Rattle.locate.proofs.Data.{target-fits}
-use Rattle.tell.proofs.Opened.{fields-of}
+use Rattle.access.proofs.Checked.{fields-of}
 use Rattle.zone.specs.View as View
 use Rattle.nafelode.proofs.ViewPlace.{start-tied, length-tied}
 use Rattle.stretch.specs.Stretch.{viewStart, viewLength, Planned, refused, granted}
@@ -43,10 +44,10 @@ module _ (t u : Target) (e : t ≡ u) (s : List ℕ) (a : Answer) where
 -- ---- view
 
 module _ (s : List ℕ) (t : Target) (i n number start end : ℕ) (p : Planned s t i n n number start end) where
-  small : end ≤ 1048576
+  small : end ≤ longestZone
   small = go p
     where
-      go : Planned s t i n n number start end → end ≤ 1048576
+      go : Planned s t i n n number start end → end ≤ longestZone
       go (refused q l a b) = omega arith
       go (granted y k q a b) = let c = accepted s t i n n k in omega (arith, c .room, target-fits s y (c .well) t (c .live), fields-of s (c .well) .limit)
 

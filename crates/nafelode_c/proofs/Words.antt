@@ -8,33 +8,35 @@ use lib.Dec.{eqb}
 use borrow.Author.Tests.{eqb-true}
 use mir.Val.{Fits}
 use mir.Syntax.{w32}
+use Rattle.block_type.specs.Limits.{longestZone}
 use Rattle.bigendian.specs.BigEndian.{Bytes}
 use Rattle.format.specs.WellFormed.{wellFormed}
-use Rattle.structure.specs.Structure.{Block, free, fixed, reloc, size, sizes, start, decode}
+use Rattle.structure.specs.Structure.{Block, size, sizes, start, decode}
+use Rattle.bay.specs.Bay.{Cell, baySum}
+use Rattle.bay.proofs.Laws.{bsize-split}
 use Rattle.structure.proofs.Sound.{valid}
-use Rattle.walk.specs.Walker.{freeTotal}
+use Rattle.calls.specs.Bays.{Bays, sumS}
+use Rattle.calls.specs.State.{Fixed}
 use Rattle.calls.specs.Calls.{sums, check, toldTwo}
 use Rattle.zone.specs.Call.{call}
 use Rattle.zone.specs.Promise.{Promise}
+use Rattle.zone.proofs.Places.{Tiled, tile-last, tile-more}
+use Rattle.zone.proofs.Run.{well-whole}
 use Rattle.zone.specs.Walker.{Described, Walked, codeOf, describe, walked, walkStart, walkStep}
-use Rattle.tell.proofs.Opened.{fields-of}
-use Rattle.tell.proofs.SumLaws.{total-is}
+use Rattle.access.proofs.Checked.{fields-of}
 use Rattle.tell.proofs.Outcomes.{largest-total, check-few}
 
 -- ---- the sums
 
-free-sizes : (bs : List Block) → freeTotal bs ≤ sizes bs
-unfolding freeTotal sizes
-free-sizes [] = omega arith
-free-sizes (free n ∷ bs) = omega (arith, free-sizes bs)
-free-sizes (fixed d ∷ bs) = omega (arith, free-sizes bs)
-free-sizes (reloc h d ∷ bs) = omega (arith, free-sizes bs)
+tiled-sum : {p end : ℕ} {s : Bays (List Cell) Fixed} → Tiled p s end → p + sumS baySum s ≤ end
+tiled-sum (tile-last {b = b} e) = omega (arith, bsize-split b)
+tiled-sum (tile-more {b = b} e t) = omega (arith, bsize-split b, tiled-sum t)
 
-pub total-small : (s : List ℕ) → Bytes s → (call sums s) .answer .value ≤ 1048576
+pub total-small : (s : List ℕ) → Bytes s → (call sums s) .answer .value ≤ longestZone
 total-small s y = go (wellFormed s) refl
   where
-    go : (t : Bool) → wellFormed s ≡ t → (call sums s) .answer .value ≤ 1048576
-    go true h = rw h (omega (arith, total-is (start (decode s)) (decode s .blocks), free-sizes (decode s .blocks), valid s y h .short))
+    go : (t : Bool) → wellFormed s ≡ t → (call sums s) .answer .value ≤ longestZone
+    go true h = rw h (omega (arith, tiled-sum (well-whole s y h .placed .tiled), valid s y h .short))
     go false h = rw h (omega arith)
 
 module _ (s : List ℕ) (y : Bytes s) where
@@ -53,7 +55,7 @@ module _ (s : List ℕ) (y : Bytes s) where
 pub start-word : (s : List ℕ) (v : ℕ) → v ≡ walkStart s → Fits w32 v
 start-word s v e = record { fits = omega (arith, go (wellFormed s) refl) }
   where
-    go : (t : Bool) → wellFormed s ≡ t → v ≤ 1048576
+    go : (t : Bool) → wellFormed s ≡ t → v ≤ longestZone
     go true h = let q = rw h at e in let f = fields-of s h in omega arith
     go false h = let q = rw h at e in omega arith
 
@@ -72,10 +74,10 @@ within at p (b ∷ bs) = go (eqb at p) refl (within at (p + size b) bs)
     go true e w = record { block = omega arith; step = omega (arith, eqb-true at p e) }
     go false e w = record { block = omega (arith, w .block); step = omega (arith, w .step) }
 
-step-within : (s : List ℕ) (at : ℕ) → Bytes s → (walkStep s at .block .offset + walkStep s at .block .size ≤ 1048576) × (walkStep s at .position ≤ max at 1048576)
+step-within : (s : List ℕ) (at : ℕ) → Bytes s → (walkStep s at .block .offset + walkStep s at .block .size ≤ longestZone) × (walkStep s at .position ≤ max at longestZone)
 step-within s at y = go (wellFormed s) refl
   where
-    go : (t : Bool) → wellFormed s ≡ t → (walkStep s at .block .offset + walkStep s at .block .size ≤ 1048576) × (walkStep s at .position ≤ max at 1048576)
+    go : (t : Bool) → wellFormed s ≡ t → (walkStep s at .block .offset + walkStep s at .block .size ≤ longestZone) × (walkStep s at .position ≤ max at longestZone)
     go true h =
         let w = within at (start (decode s)) (decode s .blocks) in
         let v = valid s y h .short in

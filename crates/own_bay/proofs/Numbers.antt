@@ -8,24 +8,23 @@ use native.Mathlib.Omega.{arith}
 use lib.ListN.{length}
 use lib.Dec.{eqb, ltb}
 use borrow.Author.Tests.{eqb-true, eqb-false, ne-eqb, lt-ltb, le-ltb, ltb-false}
-use Rattle.format.proofs.Count.{occurs, one-same, one-other, occurs-append}
-use Rattle.structure.specs.Structure.{Block, free, fixed, reloc, size, sizes, placeOf}
+use Rattle.format.specs.Occurs.{occurs}
+use Rattle.block_type.specs.Limits.{fixedHeader, relocHeader}
+use Rattle.format.proofs.Count.{one-same, one-other, occurs-append}
+use Rattle.structure.specs.Structure.{Block, fixed, size, sizes, placeOf, cell}
+use Rattle.bay.specs.Bay.{free, held}
 use Rattle.structure.specs.Valid.{handlesOf}
 use Rattle.row.specs.Row.{fixedB}
 use Rattle.find_bay.specs.Spots.{freeSize, freeTotal, Spot, spot, baysFrom, Choice, some}
 use Rattle.find_bay.specs.Find.{bayN, bayAt}
-use Rattle.find_bay.proofs.Numbers.{sizes-append, free-append}
-use Rattle.compact_bay.proofs.Squeeze.{handles-append}
+use Rattle.find_bay.proofs.Numbers.{free-append}
+use Rattle.structure.proofs.Append.{sizes-append, sizes-snoc, handles-append}
 use Rattle.bay_spots.proofs.Spots.{firstBy}
 use Rattle.bay_changes.proofs.Own.{ownBlocks}
 use Rattle.own_bay.specs.Own.{hasHandle, ownBay, findOwn}
 
 same : {a a′ e e′ s s′ : ℕ} → a ≡ a′ → e ≡ e′ → s ≡ s′ → bayN true a e s ≡ bayN true a′ e′ s′
 same p q r = rw (p, q, r)
-
-sizes-snoc : (a : List Block) (b : Block) → sizes (a ++ b ∷ []) ≡ sizes a + size b
-unfolding sizes
-sizes-snoc a b = sizes-append a (b ∷ []) ∙ ap (λ (n : ℕ). sizes a + n) (add-zero (size b))
 
 free-snoc : (a : List Block) (b : Block) → freeTotal (a ++ b ∷ []) ≡ freeTotal a + freeSize b
 unfolding freeTotal
@@ -45,11 +44,11 @@ occurs-two h a b = ap (occurs h) (handles-append a b) ∙ occurs-append h (handl
 pub place-low : (h at : ℕ) (bs : List Block) → 0 < occurs h (handlesOf bs) → at + 4 ≤ placeOf h at bs
 unfolding occurs handlesOf placeOf
 place-low h at [] l = let x : ⊥ = omega arith in absurd x
-place-low h at (free n ∷ bs) l = omega (arith, place-low h (at + n) bs l)
-place-low h at (fixed d ∷ bs) l = omega (arith, place-low h (at + (2 + length d)) bs l)
-place-low h at (reloc k d ∷ bs) l = go (eqb h k) l (place-low h (at + (4 + length d)) bs)
+place-low h at (cell (free n) ∷ bs) l = omega (arith, place-low h (at + n) bs l)
+place-low h at (fixed d ∷ bs) l = omega (arith, place-low h (at + (fixedHeader + length d)) bs l)
+place-low h at (cell (held it) ∷ bs) l = go (eqb h (it .handle)) l (place-low h (at + (relocHeader + length (it .bytes))) bs)
   where
-    go : (t : Bool) → 0 < cond t 1 0 + occurs h (handlesOf bs) → (0 < occurs h (handlesOf bs) → at + (4 + length d) + 4 ≤ placeOf h (at + (4 + length d)) bs) → at + 4 ≤ cond t (at + 4) (placeOf h (at + (4 + length d)) bs)
+    go : (t : Bool) → 0 < cond t 1 0 + occurs h (handlesOf bs) → (0 < occurs h (handlesOf bs) → at + (relocHeader + length (it .bytes)) + 4 ≤ placeOf h (at + (relocHeader + length (it .bytes))) bs) → at + 4 ≤ cond t (at + 4) (placeOf h (at + (relocHeader + length (it .bytes))) bs)
     go true l f = omega arith
     go false l f = omega (arith, f (omega arith))
 
@@ -74,25 +73,25 @@ module _ (h t first : ℕ) where
       → findOwn t st at sum bs ≡ bayAt first (firstBy (hasHandle h) (baysFrom pre mid bs))
   unfolding findOwn baysFrom placeOf handlesOf occurs
   there pre mid [] st at sum es ea em o l e = let x : ⊥ = omega arith in absurd x
-  there pre mid (free n ∷ bs) st at sum es ea em o l e =
-      there pre (mid ++ free n ∷ []) bs st (at + n) (sum + n) es (omega (arith, sizes-snoc mid (free n))) (omega (arith, free-snoc mid (free n))) (omega (arith, occurs-two h mid (free n ∷ []))) l e
+  there pre mid (cell (free n) ∷ bs) st at sum es ea em o l e =
+      there pre (mid ++ cell (free n) ∷ []) bs st (at + n) (sum + n) es (omega (arith, sizes-snoc mid (cell (free n)))) (omega (arith, free-snoc mid (cell (free n)))) (omega (arith, occurs-two h mid (cell (free n) ∷ []))) l e
   there pre mid (fixed d ∷ bs) st at sum es ea em o l e =
-      let n = 2 + length d in
-      let q : at ≤ t = omega (arith, place-low h (at + (2 + length d)) bs l) in
-      let es′ : at + (2 + length d) ≡ first + sizes (pre ++ (mid ++ fixed d ∷ [])) = omega (arith, sizes-append pre (mid ++ fixed d ∷ []), sizes-snoc mid (fixed d)) in
+      let n = fixedHeader + length d in
+      let q : at ≤ t = omega (arith, place-low h (at + (fixedHeader + length d)) bs l) in
+      let es′ : at + (fixedHeader + length d) ≡ first + sizes (pre ++ (mid ++ fixed d ∷ [])) = omega (arith, sizes-append pre (mid ++ fixed d ∷ []), sizes-snoc mid (fixed d)) in
       rw (le-ltb t at q, o)
-      (there (pre ++ (mid ++ fixed d ∷ [])) [] bs (at + (2 + length d)) (at + (2 + length d)) 0 es′ (omega (arith, no-size)) (sym no-free) refl l e)
-  there pre mid (reloc k d ∷ bs) st at sum es ea em o l e =
-      go (eqb h k) refl l e (there pre (mid ++ reloc k d ∷ []) bs st (at + (4 + length d)) (sum + 0) es (omega (arith, sizes-snoc mid (reloc k d))) (omega (arith, free-snoc mid (reloc k d))))
+      (there (pre ++ (mid ++ fixed d ∷ [])) [] bs (at + (fixedHeader + length d)) (at + (fixedHeader + length d)) 0 es′ (omega (arith, no-size)) (sym no-free) refl l e)
+  there pre mid (cell (held it) ∷ bs) st at sum es ea em o l e =
+      go (eqb h (it .handle)) refl l e (there pre (mid ++ cell (held it) ∷ []) bs st (at + (relocHeader + length (it .bytes))) (sum + 0) es (omega (arith, sizes-snoc mid (cell (held it)))) (omega (arith, free-snoc mid (cell (held it)))))
     where
-      go : (u : Bool) → eqb h k ≡ u → 0 < cond u 1 0 + occurs h (handlesOf bs) → t + 4 ≡ cond u (at + 4) (placeOf h (at + (4 + length d)) bs)
-          → (occurs h (handlesOf (mid ++ reloc k d ∷ [])) ≡ 0 → 0 < occurs h (handlesOf bs) → t + 4 ≡ placeOf h (at + (4 + length d)) bs
-          → findOwn t st (at + (4 + length d)) (sum + 0) bs ≡ bayAt first (firstBy (hasHandle h) (baysFrom pre (mid ++ reloc k d ∷ []) bs)))
-          → findOwn t st (at + (4 + length d)) (sum + 0) bs ≡ bayAt first (firstBy (hasHandle h) (baysFrom pre (mid ++ reloc k d ∷ []) bs))
+      go : (u : Bool) → eqb h (it .handle) ≡ u → 0 < cond u 1 0 + occurs h (handlesOf bs) → t + 4 ≡ cond u (at + 4) (placeOf h (at + (relocHeader + length (it .bytes))) bs)
+          → (occurs h (handlesOf (mid ++ cell (held it) ∷ [])) ≡ 0 → 0 < occurs h (handlesOf bs) → t + 4 ≡ placeOf h (at + (relocHeader + length (it .bytes))) bs
+          → findOwn t st (at + (relocHeader + length (it .bytes))) (sum + 0) bs ≡ bayAt first (firstBy (hasHandle h) (baysFrom pre (mid ++ cell (held it) ∷ []) bs)))
+          → findOwn t st (at + (relocHeader + length (it .bytes))) (sum + 0) bs ≡ bayAt first (firstBy (hasHandle h) (baysFrom pre (mid ++ cell (held it) ∷ []) bs))
       go true q l e f =
-          here pre (mid ++ reloc k d ∷ []) bs st (at + (4 + length d)) (sum + 0) es (omega (arith, sizes-snoc mid (reloc k d))) (omega (arith, free-snoc mid (reloc k d)))
-          (omega (arith, occurs-two h mid (reloc k d ∷ []), one-same h k (eqb-true h k q))) (omega arith)
-      go false q l e f = f (omega (arith, occurs-two h mid (reloc k d ∷ []), one-other h k (eqb-false h k q), o)) (omega arith) e
+          here pre (mid ++ cell (held it) ∷ []) bs st (at + (relocHeader + length (it .bytes))) (sum + 0) es (omega (arith, sizes-snoc mid (cell (held it)))) (omega (arith, free-snoc mid (cell (held it))))
+          (omega (arith, occurs-two h mid (cell (held it) ∷ []), one-same h (it .handle) (eqb-true h (it .handle) q))) (omega arith)
+      go false q l e f = f (omega (arith, occurs-two h mid (cell (held it) ∷ []), one-other h (it .handle) (eqb-false h (it .handle) q), o)) (omega arith) e
 
   pub own-numbers : (bs : List Block) → 0 < occurs h (handlesOf bs) → t + 4 ≡ placeOf h first bs → findOwn t first first 0 bs ≡ bayAt first (ownBay h bs)
   unfolding occurs handlesOf

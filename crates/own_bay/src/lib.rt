@@ -4,6 +4,7 @@ ghost use mathlib.Core.Path.{_≡_};
 ghost use mathlib.Core.Bool.{true};
 ghost use Prim.Native.Nat.{_≤_};
 ghost use lib.ListN.{length, drop};
+ghost use Rattle.block_type.specs.Limits.{longestZone};
 ghost use Rattle.row.specs.Row.{Row, blocksOf};
 ghost use Rattle.find_bay.specs.Find.{bayN};
 ghost use Rattle.own_bay.specs.Own.{findOwn};
@@ -16,7 +17,7 @@ pub struct OwnBay {
 
 // The bay of the block at offset t: the first that ends above t, or else the last.
 pub fn own_bay(z: &[u8], first: usize, t: usize) -> OwnBay
-    requires { ⌜ Row (drop first (now z)) × (first ≤ length (now z)) × (length (now z) ≤ 1048576) ⌝ }
+    requires { ⌜ Row (drop first (now z)) × (first ≤ length (now z)) × (length (now z) ≤ longestZone) ⌝ }
     ensures { λ r. ⌜ bayN true (r .start) (r .end) (r .sum) ≡ findOwn t first first 0 (blocksOf (drop first (now (z .entry)))) ⌝ }
 {
     let mut start = first;

@@ -2,128 +2,84 @@
 use mathlib.Core.Path.{_≡_, refl, sym, ap, ap₂, _∙_, subst}
 use mathlib.Core.List.{List, [], _∷_, _++_, map, append-assoc}
 use mathlib.Core.Bool.{Bool, true, false, cond}
-use Prim.Native.Nat.{ℕ, zero, suc, _+_, _*_, _-_, _/_, _%_, _<_, _≤_}
-use native.Mathlib.Nat.{add-zero, zero-add, add-assoc}
+use Prim.Native.Nat.{ℕ, suc, _+_, _*_, _-_, _/_, _%_, _<_, _≤_}
+use native.Mathlib.Nat.{zero-add}
 use native.Mathlib.Omega.{arith}
 use lib.Dec.{eqb}
-use borrow.Author.Tests.{eqb-true, eqb-false, eq-eqb, ne-eqb}
+use borrow.Author.Tests.{eq-eqb, ne-eqb}
 use lib.ListN.{length, set, length-append, length-replicate, length-set, length-map}
+use Rattle.format.specs.Occurs.{occurs}
+use Rattle.format.specs.WellFormed.{offsets}
+use Rattle.block_type.specs.Limits.{fixedHeader, longestZone, masterSize, relocHeader, zoneHeader}
 use Rattle.bigendian.specs.BigEndian.{toBE, overwrite}
 use Rattle.bigendian.proofs.Laws.{length-toBE}
-use Rattle.format.proofs.Count.{one, occurs, offsets, one-same, one-other, occurs-append, length-offsets}
-use Rattle.structure.specs.Structure.{Block, free, fixed, reloc, Structure, encodeBlock, sizes, relocCount, count, start, len, headOf, placeOf, nextOf, value, join, encode}
+use Rattle.format.proofs.Count.{one, one-same, one-other, occurs-append, length-offsets}
+use Rattle.structure.specs.Structure.{Block, fixed, Structure, encodeBlock, sizes, relocCount, count, start, len, headOf, placeOf, nextOf, value, join, encode, cell}
+use Rattle.bay.specs.Bay.{free, held}
 use Rattle.structure.specs.Valid.{handlesOf, Tiled, Valid}
 use Rattle.structure.proofs.Round.{offset-le, offset-is, place-none}
 use Rattle.access.proofs.Store.{length-enc}
-use Rattle.release.proofs.ZoneLayout.{lay, values, encode-lay, lay-chain, lay-master, lay-rest, lay-same, write-mid}
+use Rattle.structure.proofs.Append.{sizes-append, handles-append, count-handles, place-append}
+use Rattle.structure.proofs.ZoneLayout.{lay, values, encode-lay, lay-chain, lay-master, lay-rest, lay-same, write-mid, values-set}
 use Rattle.release.specs.Release.{gap, release, freed, Span}
-
--- ---- appended blocks
-
-pub sizes-append : (a b : List Block) → sizes (a ++ b) ≡ sizes a + sizes b
-unfolding sizes
-sizes-append [] b = omega arith
-sizes-append (x ∷ a) b = omega (arith, sizes-append a b)
-
-pub handles-append : (a b : List Block) → handlesOf (a ++ b) ≡ handlesOf a ++ handlesOf b
-unfolding handlesOf
-handles-append [] b = refl
-handles-append (free n ∷ a) b = handles-append a b
-handles-append (fixed d ∷ a) b = handles-append a b
-handles-append (reloc h d ∷ a) b = ap (λ (t : List ℕ). h ∷ t) (handles-append a b)
-
-pub count-handles : (a : List Block) → relocCount a ≡ length (handlesOf a)
-unfolding relocCount handlesOf
-count-handles [] = refl
-count-handles (free n ∷ a) = count-handles a
-count-handles (fixed d ∷ a) = count-handles a
-count-handles (reloc h d ∷ a) = ap suc (count-handles a)
-
-pub place-append : (g at : ℕ) (a b : List Block) → placeOf g at (a ++ b) ≡ cond (eqb (occurs g (handlesOf a)) 0) (placeOf g (at + sizes a) b) (placeOf g at a)
-unfolding placeOf sizes handlesOf occurs
-place-append g at [] b = rw add-zero
-place-append g at (free n ∷ a) b = rw (← add-assoc at n (sizes a)) (place-append g (at + n) a b)
-place-append g at (fixed d ∷ a) b = rw (← add-assoc at (2 + length d) (sizes a)) (place-append g (at + (2 + length d)) a b)
-place-append g at (reloc k d ∷ a) b = go (eqb g k) refl (place-append g (at + (4 + length d)) a b)
-  where
-    go : (t : Bool) → eqb g k ≡ t → placeOf g (at + (4 + length d)) (a ++ b) ≡ cond (eqb (occurs g (handlesOf a)) 0) (placeOf g (at + (4 + length d) + sizes a) b) (placeOf g (at + (4 + length d)) a)
-        → cond t (at + 4) (placeOf g (at + (4 + length d)) (a ++ b))
-        ≡ cond (eqb (one g k + occurs g (handlesOf a)) 0) (placeOf g (at + (4 + length d + sizes a)) b) (cond t (at + 4) (placeOf g (at + (4 + length d)) a))
-    go true e i = rw (ne-eqb (one g k + occurs g (handlesOf a)) 0 (λ x. omega (arith, one-same g k (eqb-true g k e))))
-    go false e i = rw (one-other g k (eqb-false g k e), zero-add, ← add-assoc at (4 + length d) (sizes a)) i
-
--- ---- lists of values
-
-pub values-set : (f f′ : ℕ → ℕ) (h k n i : ℕ) → h ≡ k + 4 * i → i < n → ((g : ℕ) → (g ≡ h → ⊥) → f′ g ≡ f g) → map f′ (offsets k n) ≡ set (map f (offsets k n)) i (f′ h)
-unfolding offsets
-values-set f f′ h k zero i e l s = let x : ⊥ = omega arith in absurd x
-values-set f f′ h k (suc n) zero e l s =
-    let q : k ≡ h = omega arith in
-    ap₂ (λ (x : ℕ) (xs : List ℕ). x ∷ xs) (ap f′ q) (above f f′ h (k + 4) n (omega arith) s)
-  where
-    above : (f f′ : ℕ → ℕ) (h k n : ℕ) → h < k → ((g : ℕ) → (g ≡ h → ⊥) → f′ g ≡ f g) → map f′ (offsets k n) ≡ map f (offsets k n)
-    above f f′ h k zero l s = refl
-    above f f′ h k (suc n) l s = ap₂ (λ (x : ℕ) (xs : List ℕ). x ∷ xs) (s k (λ x. omega arith)) (above f f′ h (k + 4) n (omega arith) s)
-values-set f f′ h k (suc n) (suc i) e l s =
-    ap₂ (λ (x : ℕ) (xs : List ℕ). x ∷ xs) (s k (λ x. omega arith)) (values-set f f′ h (k + 4) n i (omega arith) (omega arith) s)
 
 -- ---- what stays valid
 
 sizes-gap : (n : ℕ) (bs : List Block) → sizes (gap n bs) ≡ n + sizes bs
 unfolding gap sizes
 sizes-gap n [] = refl
-sizes-gap n (free k ∷ bs) = omega arith
+sizes-gap n (cell (free k) ∷ bs) = omega arith
 sizes-gap n (fixed d ∷ bs) = refl
-sizes-gap n (reloc k d ∷ bs) = refl
+sizes-gap n (cell (held it) ∷ bs) = refl
 
 sizes-release : (h : ℕ) (bs : List Block) → sizes (release h bs) ≡ sizes bs
 unfolding release sizes
 sizes-release h [] = refl
-sizes-release h (free n ∷ bs) = sizes-gap n (release h bs) ∙ ap (λ (x : ℕ). n + x) (sizes-release h bs)
-sizes-release h (fixed d ∷ bs) = ap (λ (x : ℕ). 2 + length d + x) (sizes-release h bs)
-sizes-release h (reloc k d ∷ bs) = go (eqb h k) (sizes-release h bs)
+sizes-release h (cell (free n) ∷ bs) = sizes-gap n (release h bs) ∙ ap (λ (x : ℕ). n + x) (sizes-release h bs)
+sizes-release h (fixed d ∷ bs) = ap (λ (x : ℕ). fixedHeader + length d + x) (sizes-release h bs)
+sizes-release h (cell (held it) ∷ bs) = go (eqb h (it .handle)) (sizes-release h bs)
   where
-    go : (t : Bool) → sizes (release h bs) ≡ sizes bs → sizes (cond t (gap (4 + length d) bs) (reloc k d ∷ release h bs)) ≡ 4 + length d + sizes bs
-    go true e = sizes-gap (4 + length d) bs
-    go false e = ap (λ (x : ℕ). 4 + length d + x) e
+    go : (t : Bool) → sizes (release h bs) ≡ sizes bs → sizes (cond t (gap (relocHeader + length (it .bytes)) bs) (cell (held it) ∷ release h bs)) ≡ relocHeader + length (it .bytes) + sizes bs
+    go true e = sizes-gap (relocHeader + length (it .bytes)) bs
+    go false e = ap (λ (x : ℕ). relocHeader + length (it .bytes) + x) e
 
-gap-tiled : (n : ℕ) (bs : List Block) → 4 ≤ n → n % 4 ≡ 0 → n + sizes bs ≤ 1048576 → Tiled false bs → Tiled false (gap n bs)
+gap-tiled : (n : ℕ) (bs : List Block) → 4 ≤ n → n % 4 ≡ 0 → n + sizes bs ≤ longestZone → Tiled false bs → Tiled false (gap n bs)
 unfolding gap sizes
 gap-tiled n [] l q u t = (refl, l, q, omega arith, tt)
-gap-tiled n (free k ∷ bs) l q u t = (refl, omega arith, omega (arith, t .2), omega arith, t .4)
+gap-tiled n (cell (free k) ∷ bs) l q u t = (refl, omega arith, omega (arith, t .2), omega arith, t .4)
 gap-tiled n (fixed d ∷ bs) l q u t = (refl, l, q, omega arith, t)
-gap-tiled n (reloc k d ∷ bs) l q u t = (refl, l, q, omega arith, t)
+gap-tiled n (cell (held it) ∷ bs) l q u t = (refl, l, q, omega arith, t)
 
-release-tiled : (h : ℕ) (prev : Bool) (bs : List Block) → sizes bs ≤ 1048576 → Tiled prev bs → Tiled false (release h bs)
+release-tiled : (h : ℕ) (prev : Bool) (bs : List Block) → sizes bs ≤ longestZone → Tiled prev bs → Tiled false (release h bs)
 unfolding release sizes
 release-tiled h prev [] u t = tt
-release-tiled h prev (free n ∷ bs) u t = gap-tiled n (release h bs) (t .1) (t .2) (omega (arith, sizes-release h bs)) (release-tiled h true bs (omega arith) (t .4))
+release-tiled h prev (cell (free n) ∷ bs) u t = gap-tiled n (release h bs) (t .1) (t .2) (omega (arith, sizes-release h bs)) (release-tiled h true bs (omega arith) (t .4))
 release-tiled h prev (fixed d ∷ bs) u t = (t .0, t .1, t .2, release-tiled h false bs (omega arith) (t .3))
-release-tiled h prev (reloc k d ∷ bs) u t = go (eqb h k) (release-tiled h false bs (omega arith) (t .3))
+release-tiled h prev (cell (held it) ∷ bs) u t = go (eqb h (it .handle)) (release-tiled h false bs (omega arith) (t .3))
   where
-    go : (b : Bool) → Tiled false (release h bs) → Tiled false (cond b (gap (4 + length d) bs) (reloc k d ∷ release h bs))
-    go true r = gap-tiled (4 + length d) bs (omega arith) (omega (arith, t .0)) (omega arith) (t .3)
+    go : (b : Bool) → Tiled false (release h bs) → Tiled false (cond b (gap (relocHeader + length (it .bytes)) bs) (cell (held it) ∷ release h bs))
+    go true r = gap-tiled (relocHeader + length (it .bytes)) bs (omega arith) (omega (arith, t .0)) (omega arith) (t .3)
     go false r = (t .0, t .1, t .2, r)
 
 -- ---- the bytes of blocks
 
-pub join-append : (a b : List Block) → join (map encodeBlock (a ++ b)) ≡ join (map encodeBlock a) ++ join (map encodeBlock b)
+join-append : (a b : List Block) → join (map encodeBlock (a ++ b)) ≡ join (map encodeBlock a) ++ join (map encodeBlock b)
 unfolding join
 join-append [] b = refl
 join-append (x ∷ a) b = rw (join-append a b) (sym (append-assoc (encodeBlock x) (join (map encodeBlock a)) (join (map encodeBlock b))))
 
-pub length-join : (prev : Bool) (a b : List Block) → Tiled prev (a ++ b) → length (join (map encodeBlock a)) ≡ sizes a
+length-join : (prev : Bool) (a b : List Block) → Tiled prev (a ++ b) → length (join (map encodeBlock a)) ≡ sizes a
 unfolding join sizes
 length-join prev [] b t = refl
-length-join prev (free k ∷ a) b t = omega (arith, length-append (encodeBlock (free k)) (join (map encodeBlock a)), length-enc prev (free k) (a ++ b) t, length-join true a b (t .4))
+length-join prev (cell (free k) ∷ a) b t = omega (arith, length-append (encodeBlock (cell (free k))) (join (map encodeBlock a)), length-enc prev (cell (free k)) (a ++ b) t, length-join true a b (t .4))
 length-join prev (fixed d ∷ a) b t = omega (arith, length-append (encodeBlock (fixed d)) (join (map encodeBlock a)), length-enc prev (fixed d) (a ++ b) t, length-join false a b (t .3))
-length-join prev (reloc k d ∷ a) b t = omega (arith, length-append (encodeBlock (reloc k d)) (join (map encodeBlock a)), length-enc prev (reloc k d) (a ++ b) t, length-join false a b (t .3))
+length-join prev (cell (held it) ∷ a) b t = omega (arith, length-append (encodeBlock (cell (held it))) (join (map encodeBlock a)), length-enc prev (cell (held it)) (a ++ b) t, length-join false a b (t .3))
 
-pub tiled-tail : (prev : Bool) (a b : List Block) → Tiled prev (a ++ b) → (q : Bool) × Tiled q b
+tiled-tail : (prev : Bool) (a b : List Block) → Tiled prev (a ++ b) → (q : Bool) × Tiled q b
 tiled-tail prev [] b t = (prev, t)
-tiled-tail prev (free k ∷ a) b t = tiled-tail true a b (t .4)
+tiled-tail prev (cell (free k) ∷ a) b t = tiled-tail true a b (t .4)
 tiled-tail prev (fixed d ∷ a) b t = tiled-tail false a b (t .3)
-tiled-tail prev (reloc k d ∷ a) b t = tiled-tail false a b (t .3)
+tiled-tail prev (cell (held it) ∷ a) b t = tiled-tail false a b (t .3)
 
 -- ---- the freed structure
 
@@ -135,11 +91,11 @@ module _ (h : ℕ) (s : Structure) (v : Valid s) (from to : ℕ) (p : Span h (st
   n = sizes (p .mid)
 
   abbrev after : List Block
-  after = p .pre ++ free n ∷ p .post
+  after = p .pre ++ cell (free n) ∷ p .post
 
   sizes-same : sizes after ≡ sizes (s .blocks)
   unfolding sizes
-  sizes-same = omega (arith, sizes-append (p .pre) (free n ∷ p .post), sizes-append (p .pre) (p .mid ++ p .post), sizes-append (p .mid) (p .post), ap sizes (p .parts))
+  sizes-same = omega (arith, sizes-append (p .pre) (cell (free n) ∷ p .post), sizes-append (p .pre) (p .mid ++ p .post), sizes-append (p .mid) (p .post), ap sizes (p .parts))
 
   handles-of : (g : ℕ) → occurs g (handlesOf (s .blocks)) ≡ one g h + occurs g (handlesOf after)
   unfolding occurs handlesOf
@@ -147,7 +103,7 @@ module _ (h : ℕ) (s : Structure) (v : Valid s) (from to : ℕ) (p : Span h (st
       let a = ap (λ (b : List Block). occurs g (handlesOf b)) (p .parts) in
       let b = ap (occurs g) (handles-append (p .pre) (p .mid ++ p .post)) in
       let c = ap (occurs g) (handles-append (p .mid) (p .post)) in
-      let d = ap (occurs g) (handles-append (p .pre) (free n ∷ p .post)) in
+      let d = ap (occurs g) (handles-append (p .pre) (cell (free n) ∷ p .post)) in
       omega (
         arith,
         a,
@@ -170,7 +126,7 @@ module _ (h : ℕ) (s : Structure) (v : Valid s) (from to : ℕ) (p : Span h (st
         ap (λ (b : List Block). length (handlesOf b)) (p .parts),
         ap length (handles-append (p .pre) (p .mid ++ p .post)),
         ap length (handles-append (p .mid) (p .post)),
-        ap length (handles-append (p .pre) (free n ∷ p .post)),
+        ap length (handles-append (p .pre) (cell (free n) ∷ p .post)),
         length-append (handlesOf (p .pre)) (handlesOf (p .mid ++ p .post)),
         length-append (handlesOf (p .mid)) (handlesOf (p .post)),
         length-append (handlesOf (p .pre)) (handlesOf (p .post)),
@@ -182,7 +138,7 @@ module _ (h : ℕ) (s : Structure) (v : Valid s) (from to : ℕ) (p : Span h (st
   count-same = omega (arith, ap relocCount (p .result), count-less)
 
   start-same : start s′ ≡ start s
-  start-same = ap (λ (k : ℕ). 16 + 4 * k) count-same
+  start-same = ap (λ (k : ℕ). zoneHeader + masterSize * k) count-same
 
   len-same : len s′ ≡ len s
   unfolding freed
@@ -197,14 +153,14 @@ module _ (h : ℕ) (s : Structure) (v : Valid s) (from to : ℕ) (p : Span h (st
   place-same g ne =
       let o = start s + sizes (p .pre) in
       let m : placeOf g o (p .mid ++ p .post) ≡ placeOf g (o + n) (p .post) = place-append g o (p .mid) (p .post) ∙ (rw (mid-none g ne)) in
-      place-append g (start s) (p .pre) (free n ∷ p .post)
+      place-append g (start s) (p .pre) (cell (free n) ∷ p .post)
       ∙ ap (λ (x : ℕ). cond (eqb (occurs g (handlesOf (p .pre))) 0) x (placeOf g (start s) (p .pre))) (sym m)
       ∙ sym (place-append g (start s) (p .pre) (p .mid ++ p .post))
       ∙ ap (placeOf g (start s)) (sym (p .parts))
 
   -- the handle is in use once, and not any more
-  pub owned-once : occurs h (handlesOf after) ≡ 0
-  owned-once = omega (arith, handles-of h, one-same h h refl, v .owned h, offset-le h 16 (count s))
+  owned-once : occurs h (handlesOf after) ≡ 0
+  owned-once = omega (arith, handles-of h, one-same h h refl, v .owned h, offset-le h zoneHeader (count s))
 
   value-other : (g : ℕ) → (g ≡ h → ⊥) → value s′ g ≡ value s g
   unfolding freed nextOf
@@ -221,48 +177,48 @@ module _ (h : ℕ) (s : Structure) (v : Valid s) (from to : ℕ) (p : Span h (st
       (rw (eq-eqb h h refl))
       ∙ zero-add _
 
-  values-same : (i : ℕ) → h ≡ 16 + 4 * i → i < count s → values s′ ≡ set (values s) i (headOf (s .chain))
+  values-same : (i : ℕ) → h ≡ zoneHeader + masterSize * i → i < count s → values s′ ≡ set (values s) i (headOf (s .chain))
   values-same i e l =
-      ap (λ (k : ℕ). map (value s′) (offsets 16 k)) count-same
+      ap (λ (k : ℕ). map (value s′) (offsets zoneHeader k)) count-same
       ∙ values-set (value s) (value s′) h 16 (count s) i e l value-other
       ∙ ap (set (values s) i) value-self
 
   -- the offset of a handle's master is a multiple of 4
-  pub index : (i : ℕ) × (h ≡ 16 + 4 * i) × (i < count s)
+  index : (i : ℕ) × (h ≡ zoneHeader + masterSize * i) × (i < count s)
   index =
-      let r = offset-is h 16 (count s) (omega (arith, v .owned h, handles-of h, one-same h h refl)) in
+      let r = offset-is h zoneHeader (count s) (omega (arith, v .owned h, handles-of h, one-same h h refl)) in
       ((h - 16) / 4, omega (arith, r .0, r .2), omega (arith, r .0, r .1))
 
   four : (a : List Block) → 4 * relocCount a ≤ sizes a
   unfolding relocCount sizes
   four [] = omega arith
-  four (free k ∷ a) = omega (arith, four a)
+  four (cell (free k) ∷ a) = omega (arith, four a)
   four (fixed d ∷ a) = omega (arith, four a)
-  four (reloc k d ∷ a) = omega (arith, four a)
+  four (cell (held it) ∷ a) = omega (arith, four a)
 
   pub four-mid : 4 ≤ n
   four-mid = omega (arith, four (p .mid), count-handles (p .mid), ap length (p .only))
 
-  length-gap : length (encodeBlock (free n)) ≡ n
+  length-gap : length (encodeBlock (cell (free n))) ≡ n
   unfolding encodeBlock
   length-gap = simp (length-append, length-toBE, length-replicate) (omega (arith, four-mid))
 
   tiled-parts : Tiled false (p .pre ++ (p .mid ++ p .post))
   tiled-parts = subst (Tiled false) (p .parts) (v .tiled)
 
-  rest-write : overwrite (join (map encodeBlock (s .blocks))) (sizes (p .pre)) (encodeBlock (free n)) ≡ join (map encodeBlock after)
+  rest-write : overwrite (join (map encodeBlock (s .blocks))) (sizes (p .pre)) (encodeBlock (cell (free n))) ≡ join (map encodeBlock after)
   unfolding join
   rest-write =
       let t = tiled-tail false (p .pre) (p .mid ++ p .post) tiled-parts in
       let j : join (map encodeBlock (s .blocks)) ≡ join (map encodeBlock (p .pre)) ++ (join (map encodeBlock (p .mid)) ++ join (map encodeBlock (p .post))) =
       ap (λ (b : List Block). join (map encodeBlock b)) (p .parts) ∙ join-append (p .pre) (p .mid ++ p .post) ∙ ap (λ (x : List ℕ). join (map encodeBlock (p .pre)) ++ x) (join-append (p .mid) (p .post)) in
-      ap (λ (x : List ℕ). overwrite x (sizes (p .pre)) (encodeBlock (free n))) j
-      ∙ write-mid (join (map encodeBlock (p .pre))) (join (map encodeBlock (p .mid))) (encodeBlock (free n)) (join (map encodeBlock (p .post))) (sizes (p .pre))
+      ap (λ (x : List ℕ). overwrite x (sizes (p .pre)) (encodeBlock (cell (free n)))) j
+      ∙ write-mid (join (map encodeBlock (p .pre))) (join (map encodeBlock (p .mid))) (encodeBlock (cell (free n))) (join (map encodeBlock (p .post))) (sizes (p .pre))
       (length-join false (p .pre) (p .mid ++ p .post) tiled-parts) (length-join (t .0) (p .mid) (p .post) (t .1) ∙ sym length-gap)
-      ∙ sym (join-append (p .pre) (free n ∷ p .post))
+      ∙ sym (join-append (p .pre) (cell (free n) ∷ p .post))
 
   length-values : length (values s) ≡ count s
-  length-values = length-map (offsets 16 (count s)) (value s) ∙ length-offsets 16 (count s)
+  length-values = length-map (offsets zoneHeader (count s)) (value s) ∙ length-offsets zoneHeader (count s)
 
   first-link : headOf (s′ .chain) ≡ h
   unfolding freed
@@ -273,7 +229,7 @@ module _ (h : ℕ) (s : Structure) (v : Valid s) (from to : ℕ) (p : Span h (st
   tiles-same = ap (λ (b : List Block). join (map encodeBlock b)) (p .result)
 
   -- three writes make the bytes of the freed structure
-  pub free-bytes : overwrite (overwrite (overwrite (encode s) 12 (toBE 2 h)) h (toBE 4 (headOf (s .chain)))) from (encodeBlock (free n)) ≡ encode (freed h s)
+  pub free-bytes : overwrite (overwrite (overwrite (encode s) 12 (toBE 2 h)) h (toBE 4 (headOf (s .chain)))) from (encodeBlock (cell (free n))) ≡ encode (freed h s)
   free-bytes =
       let i = index .0 in
       let l = len s in let f = start s in let m = count s in let c = headOf (s .chain) in
@@ -281,15 +237,15 @@ module _ (h : ℕ) (s : Structure) (v : Valid s) (from to : ℕ) (p : Span h (st
       let vs′ = set (values s) i c in
       let e₁ = ap (λ (x : List ℕ). overwrite x 12 (toBE 2 h)) (encode-lay s) ∙ lay-chain l f m c h (values s) r in
       let e₂ = ap₂ (λ (x : List ℕ) (o : ℕ). overwrite x o (toBE 4 c)) e₁ (index .1) ∙ lay-master l f m h i c (values s) r (omega (arith, index .2, length-values)) in
-      let o : from ≡ 16 + (4 * length vs′ + sizes (p .pre)) = omega (arith, p .is-from, length-values, length-set (values s) i c) in
-      let e₃ = ap₂ (λ (x : List ℕ) (o : ℕ). overwrite x o (encodeBlock (free n))) e₂ o ∙ lay-rest l f m h (sizes (p .pre)) vs′ r (encodeBlock (free n)) ∙ ap (lay l f m h vs′) rest-write in
+      let o : from ≡ zoneHeader + (masterSize * length vs′ + sizes (p .pre)) = omega (arith, p .is-from, length-values, length-set (values s) i c) in
+      let e₃ = ap₂ (λ (x : List ℕ) (o : ℕ). overwrite x o (encodeBlock (cell (free n)))) e₂ o ∙ lay-rest l f m h (sizes (p .pre)) vs′ r (encodeBlock (cell (free n))) ∙ ap (lay l f m h vs′) rest-write in
       e₃ ∙ sym (encode-lay (freed h s) ∙ lay-same len-same start-same count-same first-link (values-same i (index .1) (index .2)) tiles-same)
 
   pub free-valid : Valid (freed h s)
   unfolding freed occurs
   free-valid = record {
     tiled = release-tiled h false (s .blocks) (omega (arith, v .short)) (v .tiled);
-    owned = λ g. omega (arith, ap (λ (b : List Block). occurs g (handlesOf b)) (p .result), handles-of g, v .owned g, ap (λ (k : ℕ). occurs g (offsets 16 k)) count-same);
+    owned = λ g. omega (arith, ap (λ (b : List Block). occurs g (handlesOf b)) (p .result), handles-of g, v .owned g, ap (λ (k : ℕ). occurs g (offsets zoneHeader k)) count-same);
     few = omega (arith, count-same, v .few);
     short = omega (arith, len-same, v .short);
   }

@@ -2,13 +2,15 @@
 use mathlib.Core.Path.{_≡_, refl, sym, ap, _∙_, subst}
 use mathlib.Core.List.{List, [], _∷_, _++_}
 use mathlib.Core.Bool.{Bool, true, false}
-use Prim.Native.Nat.{ℕ, _+_, _-_, _<_, _≤_}
+use Prim.Native.Nat.{ℕ, _+_, _-_, _≤_}
 use native.Mathlib.Nat.{add-zero}
 use native.Mathlib.Omega.{arith}
 use lib.ListN.{length, drop}
-use native.Mathlib.Decide.{decLt}
-use Rattle.format.specs.WellFormed.{sizeOf, isFree, firstField}
-use Rattle.structure.specs.Structure.{Block, free, fixed, reloc, size, sizes, start, decodeZone}
+use Rattle.block_type.specs.Limits.{relocHeader}
+use Rattle.format.specs.WellFormed.{isFree, firstField}
+use Rattle.structure.specs.Structure.{Block, fixed, size, sizes, start, decodeZone, cell}
+use Rattle.kinds.specs.Kinds.{item}
+use Rattle.bay.specs.Bay.{free, held}
 use Rattle.structure.proofs.Table.{Whole, start-is, len-is}
 use Rattle.structure.proofs.Sound.{valid-zone}
 use Rattle.structure.specs.Valid.{Tiled}
@@ -17,37 +19,11 @@ use Rattle.access.proofs.Zone.{whole-of}
 use Rattle.access.proofs.PutLaws.{data-fits}
 use mir.Val.{Fits}
 use mir.Syntax.{w64}
-use Rattle.walk.specs.Walker.{blocksAt, Edge, edge, Seen, blockAt, freeB, lowOf}
-use Rattle.walk.proofs.Laws.{seen, tiles-end}
-use Rattle.release.specs.Release.{Span, SpanIn, span-in}
-use Rattle.release.proofs.Find.{leadOf, Mid, mid-of, span-at}
-
-head-eq : (b c : Block) (bs cs : List Block) → b ∷ bs ≡ c ∷ cs → b ≡ c
-head-eq b c bs cs e = cc
-
-tail-eq : (b c : Block) (bs cs : List Block) → b ∷ bs ≡ c ∷ cs → bs ≡ cs
-tail-eq b c bs cs e = cc
-
-no-cons : (b : Block) (bs : List Block) → _≡_ {A = List Block} [] (b ∷ bs) → ⊥
-no-cons b bs e = let z : _≡_ {A = ℕ} 0 1 = cc in omega arith
-
-inside : (z : List ℕ) (p : ℕ) (b : Block) (bs : List Block) → blocksAt z p ≡ b ∷ bs → p < length z
-inside z p b bs e = go (decLt p (length z))
-  where
-    go : Dec (p < length z) → p < length z
-    go (yes l) = l
-    go (no n) = absurd (no-cons b bs (sym (tiles-end z p (omega arith)) ∙ e))
-
-pub reach : (z : List ℕ) (first p : ℕ) (pre rest : List Block) → Edge z first p → blocksAt z p ≡ pre ++ rest → Edge z first (p + sizes pre) × (blocksAt z (p + sizes pre) ≡ rest)
-unfolding sizes
-reach z first p [] rest g e = (subst (Edge z first) (sym (add-zero p)) g, ap (blocksAt z) (add-zero p) ∙ e)
-reach z first p (b ∷ pre) rest g e =
-    let s = seen z first p (sizeOf (drop p z)) g (inside z p b (pre ++ rest) e) refl in
-    let e′ = sym (s .blocks) ∙ e in
-    let q : sizeOf (drop p z) ≡ size b = sym (s .bytes) ∙ ap size (head-eq (blockAt z p) b (blocksAt z (p + sizeOf (drop p z))) (pre ++ rest) e′) in
-    let a : p + (size b + sizes pre) ≡ p + sizeOf (drop p z) + sizes pre = omega arith in
-    let r = reach z first (p + sizeOf (drop p z)) pre rest (s .next) (tail-eq (blockAt z p) b (blocksAt z (p + sizeOf (drop p z))) (pre ++ rest) e′) in
-    (subst (Edge z first) (sym a) (r .0), ap (blocksAt z) a ∙ r .1)
+use Rattle.walk.specs.Walker.{blocksAt, Edge, Seen, blockAt, freeB, lowOf}
+use Rattle.walk.proofs.Laws.{tiles-end}
+use Rattle.walk.proofs.Zone.{reach, zone-edge, tiles-are}
+use Rattle.release.specs.Release.{Span, SpanIn, span-in, leadOf}
+use Rattle.release.proofs.Find.{Mid, mid-of, span-at}
 
 -- a free block in front of the blocks from e on
 lead-free : (z : List ℕ) (first e n : ℕ) → Seen z first e n → isFree (drop e z) ≡ true → leadOf (blocksAt z e) ≡ n
@@ -55,18 +31,18 @@ unfolding leadOf
 lead-free z first e n s f = rw (s .blocks) (go (blockAt z e) (s .kind ∙ f) (s .bytes))
   where
     go : (b : Block) → freeB b ≡ true → size b ≡ n → leadOf (b ∷ blocksAt z (e + n)) ≡ n
-    go (free k) f q = q
+    go (cell (free k)) f q = q
     go (fixed d) f q = let z : _≡_ {A = ℕ} 0 1 = cc in let x : ⊥ = omega arith in absurd x
-    go (reloc h d) f q = let z : _≡_ {A = ℕ} 0 1 = cc in let x : ⊥ = omega arith in absurd x
+    go (cell (held it)) f q = let z : _≡_ {A = ℕ} 0 1 = cc in let x : ⊥ = omega arith in absurd x
 
 lead-used : (z : List ℕ) (first e n : ℕ) → Seen z first e n → isFree (drop e z) ≡ false → leadOf (blocksAt z e) ≡ 0
 unfolding leadOf
 lead-used z first e n s f = rw (s .blocks) (go (blockAt z e) (s .kind ∙ f))
   where
     go : (b : Block) → freeB b ≡ false → leadOf (b ∷ blocksAt z (e + n)) ≡ 0
-    go (free k) f = let z : _≡_ {A = ℕ} 0 1 = cc in let x : ⊥ = omega arith in absurd x
+    go (cell (free k)) f = let z : _≡_ {A = ℕ} 0 1 = cc in let x : ⊥ = omega arith in absurd x
     go (fixed d) f = refl
-    go (reloc h d) f = refl
+    go (cell (held it)) f = refl
 
 -- ---- the zone
 
@@ -74,54 +50,43 @@ module _ (z : List ℕ) (i : IsZone z) where
   w : Whole z
   w = whole-of z i
 
-  pub zone-edge : (first : ℕ) → first ≡ firstField z → Edge z first first
-  unfolding blocksAt
-  zone-edge first e = edge false (rw e (w .parts .walk))
-
-  pub zone-first : (first : ℕ) → first ≡ firstField z → first ≤ length z
-  zone-first first e = omega (arith, w .within)
-
-  pub tiles-are : blocksAt z (firstField z) ≡ decodeZone z .blocks
-  unfolding blocksAt decodeZone
-  tiles-are = refl
-
   module _ (h first at n : ℕ) (ef : first ≡ firstField z) (ea : at ≡ placeIn z h) (live : at ≡ 0 → ⊥) (en : n ≡ length (dataIn z h)) where
     m : Mid h (start (decodeZone z)) (decodeZone z .blocks)
     unfolding placeIn
     m = mid-of h (start (decodeZone z)) (decodeZone z .blocks) (omega arith)
 
     -- the end of the block
-    end-is : at + n ≡ first + sizes (m .pre) + (4 + length (dataOf h (decodeZone z .blocks)))
+    end-is : at + n ≡ first + sizes (m .pre) + (relocHeader + length (dataOf h (decodeZone z .blocks)))
     unfolding placeIn dataIn
     end-is = omega (arith, m .place, start-is z w)
 
     abbrev d : List ℕ
     d = dataOf h (decodeZone z .blocks)
 
-    here-tiles : blocksAt z first ≡ m .pre ++ reloc h d ∷ m .post
-    here-tiles = ap (blocksAt z) ef ∙ tiles-are ∙ m .parts
+    here-tiles : blocksAt z first ≡ m .pre ++ cell (held (item h d)) ∷ m .post
+    here-tiles = ap (blocksAt z) ef ∙ tiles-are z i ∙ m .parts
 
     behind : Edge z first (at + n) × (blocksAt z (at + n) ≡ m .post)
     unfolding sizes
     behind =
-        let r₁ = reach z first first (m .pre) (reloc h d ∷ m .post) (zone-edge first ef) here-tiles in
-        let r₂ = reach z first (first + sizes (m .pre)) (reloc h d ∷ []) (m .post) (r₁ .0) (r₁ .1) in
-        let q : first + sizes (m .pre) + (4 + length d + 0) ≡ at + n = omega (arith, end-is) in
+        let r₁ = reach z first first (m .pre) (cell (held (item h d)) ∷ m .post) (zone-edge z i first ef) here-tiles in
+        let r₂ = reach z first (first + sizes (m .pre)) (cell (held (item h d)) ∷ []) (m .post) (r₁ .0) (r₁ .1) in
+        let q : first + sizes (m .pre) + (relocHeader + length d + 0) ≡ at + n = omega (arith, end-is) in
         (subst (Edge z first) q (r₂ .0), ap (blocksAt z) (sym q) ∙ r₂ .1)
 
     pub end-edge : Edge z first (at + n)
     end-edge = behind .0
 
-    pub span-zone : (from to : ℕ) → from ≡ lowOf (at - 4) first (blocksAt z first) → to ≡ at + n + leadOf (blocksAt z (at + n)) → SpanIn z h from to
+    span-zone : (from to : ℕ) → from ≡ lowOf (at - 4) first (blocksAt z first) → to ≡ at + n + leadOf (blocksAt z (at + n)) → SpanIn z h from to
     unfolding placeIn
     span-zone from to ff ft =
         let v = valid-zone z w in
         let st = start (decodeZone z) in
         let e₁ : at - 4 ≡ st + sizes (m .pre) = omega (arith, m .place) in
         let e₂ : first ≡ st = ef ∙ sym (start-is z w) in
-        let f₁ : from ≡ lowOf (st + sizes (m .pre)) st (m .pre ++ reloc h d ∷ m .post) =
+        let f₁ : from ≡ lowOf (st + sizes (m .pre)) st (m .pre ++ cell (held (item h d)) ∷ m .post) =
         ff ∙ ap (λ (t : ℕ). lowOf t first (blocksAt z first)) e₁ ∙ ap (λ (o : ℕ). lowOf (st + sizes (m .pre)) o (blocksAt z first)) e₂ ∙ ap (lowOf (st + sizes (m .pre)) st) here-tiles in
-        let t₁ : to ≡ st + sizes (m .pre) + (4 + length d) + leadOf (m .post) = omega (arith, end-is, ap leadOf (behind .1)) in
+        let t₁ : to ≡ st + sizes (m .pre) + (relocHeader + length d) + leadOf (m .post) = omega (arith, end-is, ap leadOf (behind .1)) in
         span-in (subst (λ (b : List Block). Span h st b from to) (sym (m .parts))
         (span-at h st from to false (m .pre) d (m .post) (subst (Tiled false) (m .parts) (v .tiled)) (m .none) f₁ t₁))
 

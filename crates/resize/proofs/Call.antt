@@ -14,7 +14,7 @@ use Rattle.format.specs.WellFormed.{wellFormed, lengthField}
 use Rattle.structure.specs.Structure.{decodeZone, decode, encode}
 use Rattle.calls.specs.Calls.{told, resize}
 use Rattle.zone.specs.Call.{result, call}
-use Rattle.call_laws.proofs.Plan.{bytes-of}
+use Rattle.access.proofs.Checked.{bytes-of}
 use Rattle.resize.specs.Resized.{resizedTo, resizeCode, resizeOut}
 use Rattle.resize.specs.Ways.{WayIn, PlannedIn, planned-in, Planned, refused, planned}
 use Rattle.resize.proofs.Flat.{resize-is}

@@ -50,13 +50,13 @@ pub code-6 : (h c : ℕ) (s : Structure) → placeOf h (start s) (s .blocks) ≡
 unfolding resizeCode
 code-6 h c s e = rw (eq-eqb (placeOf h (start s) (s .blocks)) 0 e)
 
-pub code-3 : (h c : ℕ) (s : Structure) → (placeOf h (start s) (s .blocks) ≡ 0 → ⊥) → 32760 < c → resizeCode h c s ≡ 3
+pub code-3 : (h c : ℕ) (s : Structure) → (placeOf h (start s) (s .blocks) ≡ 0 → ⊥) → relocLimit < c → resizeCode h c s ≡ 3
 unfolding resizeCode
-code-3 h c s ne l = rw (ne-eqb (placeOf h (start s) (s .blocks)) 0 ne, lt-ltb 32760 c l)
+code-3 h c s ne l = rw (ne-eqb (placeOf h (start s) (s .blocks)) 0 ne, lt-ltb relocLimit c l)
 
-pub code-room : (h c : ℕ) (s : Structure) → (placeOf h (start s) (s .blocks) ≡ 0 → ⊥) → c ≤ 32760 → resizeCode h c s ≡ roomCode h (up4 c) (s .blocks)
+pub code-room : (h c : ℕ) (s : Structure) → (placeOf h (start s) (s .blocks) ≡ 0 → ⊥) → c ≤ relocLimit → resizeCode h c s ≡ roomCode h (up4 c) (s .blocks)
 unfolding resizeCode
-code-room h c s ne l = rw (ne-eqb (placeOf h (start s) (s .blocks)) 0 ne, le-ltb 32760 c l)
+code-room h c s ne l = rw (ne-eqb (placeOf h (start s) (s .blocks)) 0 ne, le-ltb relocLimit c l)
 
 -- ---- the call
 
@@ -79,7 +79,7 @@ module _ (s : List ℕ) (h c : ℕ) (y : Bytes s) (wf : wellFormed s ≡ true) w
   unfolding placeIn decode
   place-is = refl
 
-  module _ (ne : placeOf h (start (decode s)) (decode s .blocks) ≡ 0 → ⊥) (l : c ≤ 32760) where
+  module _ (ne : placeOf h (start (decode s)) (decode s .blocks) ≡ 0 → ⊥) (l : c ≤ relocLimit) where
     abbrev a : ℕ
     a = up4 c
 

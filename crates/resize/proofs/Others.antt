@@ -1,16 +1,18 @@
 -- The plan where the own bay has no room.
 use mathlib.Core.Path.{_≡_, refl, sym, ap, _∙_}
-use mathlib.Core.List.{List}
+use mathlib.Core.List.{List, []}
 use mathlib.Core.Bool.{Bool, true, false}
 use Prim.Native.Nat.{ℕ, zero, suc, _+_, _-_, _≤_}
+use native.Mathlib.Nat.{add-zero}
 use native.Mathlib.Omega.{arith}
 use mir.Val.{Fits}
 use mir.Syntax.{w64}
 use lib.ListN.{length, drop}
+use Rattle.format.specs.Occurs.{occurs}
+use Rattle.block_type.specs.Limits.{longestZone}
 use Rattle.format.specs.WellFormed.{firstField}
 use Rattle.format.proofs.Bool.{not-both}
-use Rattle.format.proofs.Count.{occurs}
-use Rattle.structure.specs.Structure.{Structure, sizes, start, decodeZone}
+use Rattle.structure.specs.Structure.{Block, Structure, sizes, start, decodeZone}
 use Rattle.structure.specs.Valid.{handlesOf, Valid}
 use Rattle.structure.proofs.Table.{Whole, start-is}
 use Rattle.structure.proofs.Round.{place-none}
@@ -18,10 +20,11 @@ use Rattle.structure.proofs.Sound.{valid-zone}
 use Rattle.access.specs.Edit.{IsZone, placeIn, dataIn}
 use Rattle.access.proofs.Zone.{whole-of}
 use Rattle.row.specs.Row.{blocksOf, Row}
-use Rattle.find_bay.specs.Spots.{Choice, none, some, bays, firstFit}
+use Rattle.find_bay.specs.Spots.{freeTotal, Choice, none, some, bays, firstFit}
 use Rattle.find_bay.specs.Find.{BayN, bayN, findBay, bayAt}
+use Rattle.find_bay.proofs.Numbers.{bay-numbers}
 use Rattle.surgery.proofs.Sound.{handle-once}
-use Rattle.allocate_relocatable.proofs.Zone.{zone-row, zone-start, zone-short, start-numbers}
+use Rattle.bays.proofs.Zone.{zone-bays}
 use Rattle.resize_choice.proofs.Choice.{other-none, other-bay}
 use Rattle.resize_relocate.specs.Carry.{relocate-in}
 use Rattle.resize.specs.Resized.{ownFor, bayFor}
@@ -32,6 +35,11 @@ use Rattle.resize.proofs.Flat.{room-other, room-none}
 pub blocks-here : (z : List ℕ) (first : ℕ) → first ≡ firstField z → blocksOf (drop first z) ≡ decodeZone z .blocks
 unfolding blocksOf decodeZone
 blocks-here z first e = rw e
+
+-- the lowest bay that has room, by offsets
+start-numbers : (need first : ℕ) (bs : List Block) → bayAt first (firstFit need (bays bs)) ≡ findBay need first first 0 bs
+unfolding sizes freeTotal
+start-numbers need first bs = rw (add-zero first, add-zero first) at (bay-numbers need first [] [] bs)
 
 -- a live handle occurs once
 pub live-once : (z : List ℕ) (h at : ℕ) → IsZone z → at ≡ placeIn z h → (at ≡ 0 → ⊥) → occurs h (handlesOf (decodeZone z .blocks)) ≡ 1
@@ -80,13 +88,13 @@ module _ (z : List ℕ) (h first b a : ℕ) (x : Moves z h first b a) where
   move-word = record { fits = omega (arith, g .high) }
 
   pub move-row : Row (drop first z)
-  move-row = zone-row z (k .zone) first (g .is-first)
+  move-row = zone-bays z (k .zone) first (g .is-first) .row
 
   pub move-start : first ≤ length z
-  move-start = zone-start z (k .zone) first (g .is-first)
+  move-start = zone-bays z (k .zone) first (g .is-first) .low
 
-  pub move-short : length z ≤ 1048576
-  move-short = zone-short z (k .zone) first (g .is-first)
+  pub move-short : length z ≤ longestZone
+  move-short = zone-bays z (k .zone) first (g .is-first) .short
 
   module _ (st e sum : ℕ) (f : Bool) (q : bayN f st e sum ≡ findBay (4 + a) first first 0 (blocksOf (drop first z))) where
     bay-of : bayN f st e sum ≡ bayAt first (firstFit (4 + a) (bays (s .blocks)))

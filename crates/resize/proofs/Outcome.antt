@@ -13,18 +13,20 @@ use Rattle.block_type.specs.Limits.{relocHeader, up4}
 use Rattle.calls.specs.Calls.{by-handle, Answer, told, shows, Call, resize, size, view}
 use Rattle.calls.specs.Bays.{Bays, last, more, over, orElse, findS, mapS, maxS}
 use Rattle.zone.specs.PickBays.{onLow}
-use Rattle.calls.specs.State.{Item, is, get, alter, sized, Fixed, content, ownSum}
+use Rattle.kinds.specs.Kinds.{Item}
+use Rattle.calls.specs.State.{is, get, alter, sized, Fixed, content, ownSum}
 use Rattle.calls.specs.Table.{below, isNone}
 use Rattle.calls.proofs.First.{or-left}
-use Rattle.zone.specs.Bay.{Cell, items, baySum, release, resized, reshape}
-use Rattle.zone.specs.Counted.{count, roomFor, live}
+use Rattle.bay.specs.Bay.{Cell, items, baySum, release, resized, reshape}
+use Rattle.bay.specs.Counted.{count, roomFor, live}
 use Rattle.zone.specs.Search.{own, resizeIn}
 use Rattle.zone.specs.Work as Work
 use Rattle.zone.specs.Work.{Zone, work}
 use Rattle.zone.specs.Call.{zoneIn, call}
-use Rattle.zone.proofs.BayLaws.{Each, nothing, just, each-over, each-cond, release-items}
-use Rattle.zone.proofs.Sums.{each-weaken, each-orElse, mapS-zero}
-use Rattle.zone.proofs.Resize.{length-sized}
+use Rattle.bay.proofs.Each.{Each, nothing, just, each-over, each-cond, each-weaken, each-orElse}
+use Rattle.bay.proofs.Laws.{release-items}
+use Rattle.zone.proofs.Sums.{mapS-zero}
+use Rattle.bay.proofs.Resize.{length-sized}
 use Rattle.zone.proofs.Own.{own-shaped}
 use Rattle.zone.proofs.Found.{often, count-get, resize-found, Named, unnamed, named, block-named}
 use Rattle.zone.proofs.Walk.{each-got}

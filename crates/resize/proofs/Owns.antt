@@ -7,8 +7,9 @@ use native.Mathlib.Omega.{arith}
 use lib.ListN.{length, drop}
 use lib.Dec.{leb}
 use borrow.Author.Tests.{eq-eqb, le-leb, lt-leb, ltb-true}
+use Rattle.format.specs.Occurs.{occurs}
+use Rattle.block_type.specs.Limits.{longestZone}
 use Rattle.format.proofs.Bool.{not-both}
-use Rattle.format.proofs.Count.{occurs}
 use Rattle.structure.specs.Structure.{Block, Structure, sizes, start, placeOf, decodeZone}
 use Rattle.structure.specs.Valid.{handlesOf}
 use Rattle.structure.proofs.Table.{Whole, start-is}
@@ -19,7 +20,7 @@ use Rattle.find_bay.specs.Spots.{freeTotal, Spot, Choice, none, some, bays}
 use Rattle.find_bay.specs.Find.{BayN, bayN, bayAt}
 use Rattle.bay_changes.proofs.Own.{ownBlocks}
 use Rattle.bay_changes.proofs.Edges.{low-bay}
-use Rattle.allocate_relocatable.proofs.Zone.{zone-row, zone-start, zone-short}
+use Rattle.bays.proofs.Zone.{zone-bays}
 use Rattle.own_bay.specs.Own.{hasHandle, ownBay, findOwn}
 use Rattle.own_bay.proofs.Numbers.{place-low, own-numbers, own-pick}
 use Rattle.resize_layout.specs.Layout.{own-in}
@@ -57,13 +58,13 @@ module _ (z : List ℕ) (h first at b a : ℕ) (x : Grows z h first at b a) wher
   own-at = omega (arith, g .is-at, place-low h (start s) (s .blocks) (omega (arith, once)))
 
   pub own-row : Row (drop first z)
-  own-row = zone-row z zone first (g .is-first)
+  own-row = zone-bays z zone first (g .is-first) .row
 
   pub own-start : first ≤ length z
-  own-start = zone-start z zone first (g .is-first)
+  own-start = zone-bays z zone first (g .is-first) .low
 
-  pub own-short : length z ≤ 1048576
-  own-short = zone-short z zone first (g .is-first)
+  pub own-short : length z ≤ longestZone
+  own-short = zone-bays z zone first (g .is-first) .short
 
   pub own-more : b ≤ a
   unfolding dataIn

@@ -7,7 +7,7 @@ use native.Mathlib.Omega.{arith}
 use mir.Val.{Fits}
 use mir.Syntax.{w64}
 use lib.ListN.{length}
-use Rattle.block_type.specs.Limits.{up4}
+use Rattle.block_type.specs.Limits.{up4, relocLimit}
 use Rattle.format.specs.WellFormed.{firstField}
 use Rattle.structure.specs.Structure.{Structure, start, placeOf, decodeZone}
 use Rattle.access.specs.Edit.{IsZone, placeIn, dataIn}
@@ -38,15 +38,15 @@ module _ (z : List ℕ) (h c p : ℕ) (ep : p ≡ placeIn z h) where
     pub in-6 : number ≡ 6 → p ≡ 0 → PlannedIn z h c number way a b at n st e t
     in-6 en e0 = planned-in (en ∙ sym (code-6 h c s (sym (place-is z h) ∙ sym ep ∙ e0))) (stop number 5 en)
 
-    pub in-3 : number ≡ 3 → (p ≡ 0 → ⊥) → 32760 < c → PlannedIn z h c number way a b at n st e t
+    pub in-3 : number ≡ 3 → (p ≡ 0 → ⊥) → relocLimit < c → PlannedIn z h c number way a b at n st e t
     in-3 en ne l = planned-in (en ∙ sym (code-3 h c s (live-is ne) l)) (stop number 2 en)
 
     -- what the bays give
-    pub in-bays : (p ≡ 0 → ⊥) → c ≤ 32760 → (k : ℕ) → k ≡ (c + 3) / 4 * 4 → Chosen z h k number way a b at n st e t → PlannedIn z h c number way a b at n st e t
+    pub in-bays : (p ≡ 0 → ⊥) → c ≤ relocLimit → (k : ℕ) → k ≡ (c + 3) / 4 * 4 → Chosen z h k number way a b at n st e t → PlannedIn z h c number way a b at n st e t
     in-bays ne l k ek (chosen en f) =
         planned-in (en ∙ ap (λ (j : ℕ). roomCode h j (s .blocks)) ek ∙ sym (code-room h c s (live-is ne) l)) (λ q. (f q .0 ∙ ek, f q .1))
 
-  module _ (i : IsZone z) (ne : p ≡ 0 → ⊥) (l : c ≤ 32760) (a b f : ℕ) (ea : a ≡ (c + 3) / 4 * 4) (eb : b ≡ length (dataIn z h)) (ef : f ≡ leadIn z h) where
+  module _ (i : IsZone z) (ne : p ≡ 0 → ⊥) (l : c ≤ relocLimit) (a b f : ℕ) (ea : a ≡ (c + 3) / 4 * 4) (eb : b ≡ length (dataIn z h)) (ef : f ≡ leadIn z h) where
     room-is : b + f ≡ roomHere h (s .blocks)
     unfolding dataIn leadIn
     room-is = omega (arith, eb, ef)

@@ -7,6 +7,7 @@ use native.Mathlib.Omega.{arith}
 use mir.Val.{Fits}
 use mir.Syntax.{w64}
 use lib.ListN.{length, drop, length-take, length-drop}
+use Rattle.block_type.specs.Limits.{longestZone}
 use Rattle.bigendian.specs.BigEndian.{slice}
 use Rattle.format.proofs.Bool.{not-both}
 use Rattle.structure.specs.Structure.{Block, Structure, sizes, start, encode, decodeZone}
@@ -25,8 +26,8 @@ use Rattle.surgery.proofs.Sound.{valid-sound}
 use Rattle.surgery.proofs.Replace.{sizes-parts}
 use Rattle.surgery.proofs.Carved.{part-bytes}
 use Rattle.surgery.proofs.Spots.{IsBay, bay-is, hole-is as hole-at}
-use Rattle.allocate_relocatable.specs.Site.{HoleOf, there, made}
-use Rattle.allocate_relocatable.proofs.PlanLaws.{hole-found, hole-none}
+use Rattle.resize_move.specs.Hole.{HoleOf, there, made}
+use Rattle.resize_move.proofs.Flat.{hole-found, hole-none}
 use Rattle.resize.specs.Ways.{FoundBay, SpotIn, spot-in, HoleIn, hole-in}
 
 module _ (z : List ℕ) (need a e sum : ℕ) (x : SpotIn z need a e sum) where
@@ -69,7 +70,7 @@ module _ (z : List ℕ) (need a e sum : ℕ) (x : SpotIn z need a e sum) where
   pub site-end : e ≤ length z
   site-end = omega (arith, w .all, len-is z w, here .is-start, here .is-end, ap sizes (bay .parts), sizes-parts (p .before) mid (p .after))
 
-  pub site-limit : length (slice z a (e - a)) ≤ 1048576
+  pub site-limit : length (slice z a (e - a)) ≤ longestZone
   site-limit = omega (arith, w .limit, w .all, length-take (e - a) (drop a z), length-drop a z)
 
   bytes : slice z a (e - a) ≡ bytesOf mid

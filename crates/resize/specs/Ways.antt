@@ -4,12 +4,12 @@ use mathlib.Core.List.{List}
 use mathlib.Core.Bool.{Bool, true, false}
 use Prim.Native.Nat.{ℕ, _+_, _-_, _%_, _<_, _≤_}
 use lib.ListN.{length, take}
-use Rattle.block_type.specs.Limits.{relocHeader, up4}
+use Rattle.block_type.specs.Limits.{relocHeader, up4, relocLimit}
 use Rattle.format.specs.WellFormed.{wellFormed, lengthField, firstField}
 use Rattle.structure.specs.Structure.{Block, sizes, start, decodeZone}
 use Rattle.access.specs.Edit.{IsZone, placeIn, dataIn}
 use Rattle.find_bay.specs.Spots.{freeTotal, Spot, none, some, bays, firstFit}
-use Rattle.allocate_relocatable.specs.Site.{HoleOf}
+use Rattle.resize_move.specs.Hole.{HoleOf}
 use Rattle.resize_in_place.specs.InPlace.{Here}
 use Rattle.resize_layout.specs.Layout.{OwnIn}
 use Rattle.resize_relocate.specs.Carry.{RelocateIn}
@@ -45,7 +45,7 @@ pub record Grow (z : List ℕ) (h first at b a : ℕ) : Type 0 where
   pub is-b : b ≡ length (dataIn z h)
   pub more : roomHere h (decodeZone z .blocks) < a
   pub four : a % 4 ≡ 0
-  pub high : a ≤ 32760
+  pub high : a ≤ relocLimit
 
 pub data Grows (z : List ℕ) (h first at b a : ℕ) : Type 0 where
   grows : IsZone z → Grow z h first at b a → Grows z h first at b a

@@ -3,10 +3,12 @@ use mathlib.Core.Path.{_≡_, refl, sym, ap, _∙_}
 use mathlib.Core.List.{List, [], _∷_, _++_}
 use Prim.Native.Nat.{ℕ, _+_, _≤_}
 use native.Mathlib.Omega.{arith}
-use Rattle.format.proofs.Count.{occurs, one-same}
-use Rattle.structure.specs.Structure.{Block, free, fixed, sizes}
+use Rattle.format.specs.Occurs.{occurs}
+use Rattle.format.proofs.Count.{one-same}
+use Rattle.structure.specs.Structure.{Block, fixed, sizes, cell}
+use Rattle.bay.specs.Bay.{free}
 use Rattle.structure.specs.Valid.{handlesOf}
-use Rattle.find_bay.proofs.Numbers.{sizes-append}
+use Rattle.structure.proofs.Append.{sizes-append}
 use Rattle.release.specs.Release.{Span}
 use Rattle.resize_layout.proofs.Parts.{occurs-two}
 use Rattle.resize_choice.proofs.Freed.{fixedIn, fixed-two, fixed-freed}
@@ -39,7 +41,7 @@ module _ (h at from to : ℕ) (bs : List Block) (sp : Span h at bs from to) (onc
   no-fixed : fixedIn mid ≡ 0
   unfolding fixedIn
   no-fixed =
-      omega (arith, fixed-freed h bs (omega arith), ap fixedIn (sp .parts), ap fixedIn (sp .result), fixed-two pre (mid ++ post), fixed-two mid post, fixed-two pre (free (sizes mid) ∷ post))
+      omega (arith, fixed-freed h bs (omega arith), ap fixedIn (sp .parts), ap fixedIn (sp .result), fixed-two pre (mid ++ post), fixed-two mid post, fixed-two pre (cell (free (sizes mid)) ∷ post))
 
   has : occurs h (handlesOf mid) ≡ 1
   unfolding occurs

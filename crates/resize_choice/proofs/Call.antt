@@ -8,11 +8,11 @@ use native.Mathlib.Omega.{arith}
 use lib.ListN.{length, drop, replicate}
 use lib.Dec.{leb}
 use borrow.Author.Tests.{le-leb, leb-true, leb-false}
+use Rattle.format.specs.Occurs.{occurs}
 use Rattle.bigendian.specs.BigEndian.{Bytes, overwrite}
 use Rattle.block_type.specs.Limits.{relocLimit, up4}
 use Rattle.format.specs.WellFormed.{wellFormed, zoneOf, lengthField}
-use Rattle.format.proofs.Count.{occurs}
-use Rattle.structure.specs.Structure.{Block, reloc, Structure, start, encode, decode}
+use Rattle.structure.specs.Structure.{Block, Structure, start, encode, decode, cell}
 use Rattle.structure.specs.Valid.{handlesOf, Valid}
 use Rattle.structure.proofs.Sound.{valid}
 use Rattle.access.specs.Edit.{placeIn, dataOf, edit, store}
@@ -22,22 +22,23 @@ use Rattle.surgery.proofs.Spots.{bay-is}
 use Rattle.calls.specs.Calls.{told, resize}
 use Rattle.calls.specs.Bays.{Bays, mapS, orElse}
 use Rattle.zone.specs.PickBays.{onLow}
-use Rattle.zone.specs.Bay as Bay
-use Rattle.calls.specs.State.{Item, itemSize, sized, Fixed, done, withBays}
-use Rattle.zone.specs.Bay.{Cell, resized}
+use Rattle.bay.specs.Bay as Bay
+use Rattle.kinds.specs.Kinds.{Item, itemSize, item}
+use Rattle.calls.specs.State.{sized, Fixed, done, withBays}
+use Rattle.bay.specs.Bay.{Cell, resized, held}
 use Rattle.zone.specs.Search.{own, reaches, placeLow}
 use Rattle.zone.specs.Group.{flatten}
 use Rattle.zone.specs.Work.{Zone}
 use Rattle.zone.specs.Call.{inBays, result, call}
-use Rattle.zone.proofs.Sound.{Sound}
+use Rattle.bay.proofs.Sound.{Sound}
 use Rattle.zone.proofs.GroupLaws.{flatten-group}
-use Rattle.zone.proofs.Resize.{length-sized}
+use Rattle.bay.proofs.Resize.{length-sized}
 use Rattle.zone.proofs.Run.{well-whole}
 use Rattle.call_laws.proofs.Outcome.{step, none-lent, call-same, call-done}
 use Rattle.bay_spots.proofs.Spots.{blocksIn, Paired, neither, both, firstBy}
 use Rattle.bay_spots.proofs.Low.{BayAt, low-fit}
 use Rattle.bay_changes.proofs.Own.{ownBlocks}
-use Rattle.free_handle.proofs.Flat.{flat-release}
+use Rattle.resize_choice.proofs.Flat.{flat-release}
 use Rattle.resize_in_place.proofs.Cells.{has-own}
 use Rattle.resize_in_place.proofs.Call.{found-as, step-is, once}
 use Rattle.resize_layout.proofs.Parts.{occurs-two}
@@ -46,7 +47,7 @@ use Rattle.resize_move.proofs.NoRoom.{no-own-bay}
 use Rattle.resize_choice.proofs.Freed.{gone-freed}
 use Rattle.resize_choice.proofs.Settled.{found-item, all-freed, Settled, settled, over-zeros, edit-put}
 
-module _ (s : List ℕ) (h c : ℕ) (y : Bytes s) (wf : wellFormed s ≡ true) (ne : placeIn (zoneOf s) h ≡ 0 → ⊥) (few : c ≤ 32760)
+module _ (s : List ℕ) (h c : ℕ) (y : Bytes s) (wf : wellFormed s ≡ true) (ne : placeIn (zoneOf s) h ≡ 0 → ⊥) (few : c ≤ relocLimit)
     (no : firstBy (ownBlocks h (up4 c)) (bays (decode s .blocks)) ≡ noSpot) where
   abbrev u : Structure
   u = decode s
@@ -137,7 +138,7 @@ module _ (s : List ℕ) (h c : ℕ) (y : Bytes s) (wf : wellFormed s ≡ true) (
         ap (put q) (st .cells)
         ∙ sym (ap (λ (x : List Block). edit h 0 d (put q x)) (ap₂ (λ (n : ℕ) (bs : List Block). settle n h bs) (sym need-is) f ∙ st .flat)
         ∙ edit-put h d (replicate (itemSize i - 4) 0) q (st .at) g (omega (arith, none-in)) (st .none)
-        ∙ ap (λ (x : List ℕ). put q (put (st .at) (reloc h x ∷ g))) zeros)
+        ∙ ap (λ (x : List ℕ). put q (put (st .at) (cell (held (item h x)) ∷ g))) zeros)
 
     pub resize-moved : call (resize h c) s ≡ result (told 0 0) (encode (relocated h (4 + up4 c) (dataOf h (decode s .blocks)) (decode s)) ++ drop (lengthField s) s)
     unfolding relocated store

@@ -7,12 +7,14 @@ use native.Mathlib.Omega.{arith}
 use lib.ListN.{length}
 use lib.Dec.{leb}
 use borrow.Author.Tests.{eq-eqb, lt-leb, leb-false}
-use Rattle.format.proofs.Count.{occurs}
-use Rattle.structure.specs.Structure.{Block, free, fixed, reloc, sizes}
+use Rattle.format.specs.Occurs.{occurs}
+use Rattle.structure.specs.Structure.{Block, fixed, sizes, cell}
+use Rattle.kinds.specs.Kinds.{item}
+use Rattle.bay.specs.Bay.{free, held}
 use Rattle.structure.specs.Valid.{handlesOf, Tiled}
 use Rattle.access.specs.Edit.{dataOf}
 use Rattle.find_bay.specs.Spots.{freeTotal, Spot, spot, put, baysFrom, bays, Choice, none, some, firstFit}
-use Rattle.find_bay.proofs.Numbers.{sizes-append}
+use Rattle.structure.proofs.Append.{sizes-append}
 use Rattle.release.specs.Release.{release}
 use Rattle.surgery.proofs.Sound.{tiled-left, tiled-right}
 use Rattle.surgery.proofs.Spots.{IsBay, bay-is}
@@ -54,17 +56,17 @@ no-first false p c e = (refl, e)
 bay-walk : (pre mid m r : List Block) → fixedIn m ≡ 0 → baysFrom pre mid (m ++ r) ≡ baysFrom pre (mid ++ m) r
 unfolding baysFrom fixedIn
 bay-walk pre mid [] r e = ap (λ (x : List Block). baysFrom pre x r) (sym (append-nil mid))
-bay-walk pre mid (free n ∷ m) r e = bay-walk pre (mid ++ free n ∷ []) m r (omega arith) ∙ ap (λ (x : List Block). baysFrom pre x r) (append-assoc mid (free n ∷ []) m)
+bay-walk pre mid (cell (free n) ∷ m) r e = bay-walk pre (mid ++ cell (free n) ∷ []) m r (omega arith) ∙ ap (λ (x : List Block). baysFrom pre x r) (append-assoc mid (cell (free n) ∷ []) m)
 bay-walk pre mid (fixed d ∷ m) r e = let x : ⊥ = omega arith in absurd x
-bay-walk pre mid (reloc k d ∷ m) r e = bay-walk pre (mid ++ reloc k d ∷ []) m r (omega arith) ∙ ap (λ (x : List Block). baysFrom pre x r) (append-assoc mid (reloc k d ∷ []) m)
+bay-walk pre mid (cell (held it) ∷ m) r e = bay-walk pre (mid ++ cell (held it) ∷ []) m r (omega arith) ∙ ap (λ (x : List Block). baysFrom pre x r) (append-assoc mid (cell (held it) ∷ []) m)
 
 -- the block is in u: all bays behind it stay
 behind : (h need : ℕ) (u k mid r : List Block) (d : List ℕ) → 0 < occurs h (handlesOf u)
     → Other h (firstFit need (baysFrom (u ++ (fixed d ∷ k)) mid r)) (firstFit need (baysFrom (release h u ++ (fixed d ∷ k)) mid r))
 unfolding firstFit baysFrom
 behind h need u k mid [] d l = other-cond h (leb need (freeTotal mid)) (both refl (earlier u k d refl refl refl l)) neither
-behind h need u k mid (free n ∷ r) d l = behind h need u k (mid ++ free n ∷ []) r d l
-behind h need u k mid (reloc j x ∷ r) d l = behind h need u k (mid ++ reloc j x ∷ []) r d l
+behind h need u k mid (cell (free n) ∷ r) d l = behind h need u k (mid ++ cell (free n) ∷ []) r d l
+behind h need u k mid (cell (held it) ∷ r) d l = behind h need u k (mid ++ cell (held it) ∷ []) r d l
 behind h need u k mid (fixed x ∷ r) d l =
     other-cond h (leb need (freeTotal mid)) (both refl (earlier u k d refl refl refl l))
     (subst (λ (v : List Block). Other h (firstFit need (baysFrom ((u ++ (fixed d ∷ k)) ++ (mid ++ fixed x ∷ [])) [] r)) (firstFit need (baysFrom v [] r)))
@@ -160,8 +162,8 @@ module _ (h a : ℕ) where
       subst (λ (ps : List Spot). Other h (firstFit (4 + a) (baysFrom pre mid [])) (firstFit (4 + a) ps))
       (sym (ap (λ (x : List Block). baysFrom pre [] (release h x)) e ∙ ap (baysFrom pre []) (sym (append-nil r)) ∙ bay-walk pre [] r [] (fixed-freed h mid (omega arith) ∙ f)))
       (other-not h (leb (4 + a) (freeTotal mid)) (leb (4 + a) (freeTotal r)) (spot pre mid []) (spot pre r []) (small mid q w) (small-freed mid q w) neither)
-  alike pre mid (free m ∷ bs) k f t o n = past pre mid (free m) bs (alike pre (mid ++ free m ∷ []) bs) k (fixed-two mid (free m ∷ []) ∙ omega arith) t o n
-  alike pre mid (reloc j x ∷ bs) k f t o n = past pre mid (reloc j x) bs (alike pre (mid ++ reloc j x ∷ []) bs) k (fixed-two mid (reloc j x ∷ []) ∙ omega arith) t o n
+  alike pre mid (cell (free m) ∷ bs) k f t o n = past pre mid (cell (free m)) bs (alike pre (mid ++ cell (free m) ∷ []) bs) k (fixed-two mid (cell (free m) ∷ []) ∙ omega arith) t o n
+  alike pre mid (cell (held it) ∷ bs) k f t o n = past pre mid (cell (held it)) bs (alike pre (mid ++ cell (held it) ∷ []) bs) k (fixed-two mid (cell (held it) ∷ []) ∙ omega arith) t o n
   alike pre mid (fixed d ∷ bs) k f t o n = at-fixed pre mid d bs k f t (alike (pre ++ (mid ++ fixed d ∷ [])) [] bs) o n
 
 -- ---- the two laws

@@ -1,3 +1,4 @@
+pub mod Flat
 pub mod Freed
 pub mod Aside
 pub mod Choice

@@ -10,9 +10,11 @@ use lib.ListN.{length, drop, replicate, length-replicate, replicate-append-repli
 use lib.Seq.{take-all, drop-at}
 use lib.Dec.{eqb}
 use borrow.Author.Tests.{eqb-true, eq-eqb, ne-eqb}
+use Rattle.format.specs.Occurs.{occurs}
+use Rattle.block_type.specs.Limits.{fixedHeader, relocHeader}
 use Rattle.bigendian.specs.BigEndian.{overwrite}
-use Rattle.format.proofs.Count.{occurs, one-same}
-use Rattle.structure.specs.Structure.{Block, free, fixed, reloc}
+use Rattle.format.proofs.Count.{one-same}
+use Rattle.structure.specs.Structure.{Block, fixed, cell}
 use Rattle.structure.specs.Valid.{handlesOf}
 use Rattle.access.specs.Edit.{dataOf, edit}
 use Rattle.find_bay.specs.Spots.{freeTotal, Spot, spot, put, holes, Choice, none as noSpot, some as theSpot, firstFit, used, gapOf, carve, orElse, settle}
@@ -20,13 +22,14 @@ use Rattle.surgery.proofs.Spots.{hole-is}
 use Rattle.zone.specs.PickBays as Bays
 use Rattle.calls.specs.Bays.{Bays, last, more, findS, mapS}
 use Rattle.zone.specs.PickBays.{AllS}
-use Rattle.zone.specs.Bay as Bay
-use Rattle.calls.specs.State.{Item, itemSize, get, sized, Fixed}
-use Rattle.zone.specs.Bay.{Cell, free as gapCell, held, baySum, items, gap, packed, fit}
+use Rattle.bay.specs.Bay as Bay
+use Rattle.kinds.specs.Kinds.{Item, itemSize, item}
+use Rattle.calls.specs.State.{get, sized, Fixed}
+use Rattle.bay.specs.Bay.{Cell, free, held, baySum, items, gap, packed}
 use Rattle.zone.specs.Group.{inFront, group}
-use Rattle.zone.proofs.Sound.{Sound, release-sound}
+use Rattle.bay.proofs.Sound.{Sound, release-sound}
 use Rattle.bay_spots.proofs.Spots.{blocksIn, sum-flat, packed-flat, gap-flat, Paired, neither, both}
-use Rattle.bay_spots.proofs.Fit.{fit-hole}
+use Rattle.bay_spots.proofs.Fit.{fit, fit-is, fit-hole}
 use Rattle.resize_layout.proofs.Parts.{occurs-two, used-handles}
 
 -- ---- the item of a handle, and the bays once it is free
@@ -34,7 +37,7 @@ use Rattle.resize_layout.proofs.Parts.{occurs-two, used-handles}
 abbrev find : ℕ → Bays (List Cell) Fixed → Option Item
 find h s = findS (λ (b : List Cell). get h (items b)) s
 
-find-free : (h n : ℕ) (s : Bays (List Cell) Fixed) → find h (inFront (gapCell n) s) ≡ find h s
+find-free : (h n : ℕ) (s : Bays (List Cell) Fixed) → find h (inFront (free n) s) ≡ find h s
 find-free h n (last b) = refl
 find-free h n (more b x s) = refl
 
@@ -49,13 +52,13 @@ find-held h e (more b x s) = go (eqb h (e .handle))
 pub found-item : (h p : ℕ) (bs : List Block) → 0 < occurs h (handlesOf bs) → findS (λ (b : List Cell). get h (items b)) (group p bs) ≡ some (record { handle = h; bytes = dataOf h bs })
 unfolding dataOf handlesOf occurs
 found-item h p [] l = let x : ⊥ = omega arith in absurd x
-found-item h p (free n ∷ bs) l = find-free h n (group (p + n) bs) ∙ found-item h (p + n) bs l
-found-item h p (fixed d ∷ bs) l = found-item h (p + (2 + length d)) bs l
-found-item h p (reloc k d ∷ bs) l = find-held h (record { handle = k; bytes = d }) (group (p + (4 + length d)) bs) ∙ go (eqb h k) refl l (found-item h (p + (4 + length d)) bs)
+found-item h p (cell (free n) ∷ bs) l = find-free h n (group (p + n) bs) ∙ found-item h (p + n) bs l
+found-item h p (fixed d ∷ bs) l = found-item h (p + (fixedHeader + length d)) bs l
+found-item h p (cell (held it) ∷ bs) l = find-held h (record { handle = (it .handle); bytes = (it .bytes) }) (group (p + (relocHeader + length (it .bytes))) bs) ∙ go (eqb h (it .handle)) refl l (found-item h (p + (relocHeader + length (it .bytes))) bs)
   where
-    go : (t : Bool) → eqb h k ≡ t → 0 < cond t 1 0 + occurs h (handlesOf bs) → (0 < occurs h (handlesOf bs) → find h (group (p + (4 + length d)) bs) ≡ some (record { handle = h; bytes = dataOf h bs }))
-        → cond t (some (record { handle = k; bytes = d })) (find h (group (p + (4 + length d)) bs)) ≡ some (record { handle = h; bytes = cond t d (dataOf h bs) })
-    go true e l i = ap (λ (j : ℕ). some (record { handle = j; bytes = d })) (sym (eqb-true h k e))
+    go : (t : Bool) → eqb h (it .handle) ≡ t → 0 < cond t 1 0 + occurs h (handlesOf bs) → (0 < occurs h (handlesOf bs) → find h (group (p + (relocHeader + length (it .bytes))) bs) ≡ some (record { handle = h; bytes = dataOf h bs }))
+        → cond t (some (record { handle = (it .handle); bytes = (it .bytes) })) (find h (group (p + (relocHeader + length (it .bytes))) bs)) ≡ some (record { handle = h; bytes = cond t (it .bytes) (dataOf h bs) })
+    go true e l i = ap (λ (j : ℕ). some (record { handle = j; bytes = (it .bytes) })) (sym (eqb-true h (it .handle) e))
     go false e l i = i (omega arith)
 
 pub all-freed : (h : ℕ) (s : Bays (List Cell) Fixed) → AllS Sound s → AllS Sound (mapS (Bay.release h) s)
@@ -67,29 +70,29 @@ all-freed h (more b x s) d = (release-sound h (d .0), all-freed h s (d .1))
 pub record Settled (e : Item) (cs : List Cell) : Type 0 where
   pub at : Spot
   pub none : occurs (e .handle) (handlesOf (at .before)) ≡ 0
-  pub cells : blocksIn (Bay.put e cs) ≡ put at (reloc (e .handle) (e .bytes) ∷ gapOf (freeTotal (at .inside) - itemSize e))
-  pub flat : settle (itemSize e) (e .handle) (blocksIn cs) ≡ put at (reloc (e .handle) (replicate (itemSize e - 4) 0) ∷ gapOf (freeTotal (at .inside) - itemSize e))
+  pub cells : blocksIn (Bay.put e cs) ≡ put at (cell (held e) ∷ gapOf (freeTotal (at .inside) - itemSize e))
+  pub flat : settle (itemSize e) (e .handle) (blocksIn cs) ≡ put at (cell (held (item (e .handle) (replicate (itemSize e - 4) 0))) ∷ gapOf (freeTotal (at .inside) - itemSize e))
 
 module _ (e : Item) (cs : List Cell) where
   abbrev need : ℕ
   need = itemSize e
 
   abbrev rest : Spot
-  rest = spot (used (blocksIn cs)) (free (freeTotal (blocksIn cs)) ∷ []) []
+  rest = spot (used (blocksIn cs)) (cell (free (freeTotal (blocksIn cs))) ∷ []) []
 
   abbrev packing : List Cell
   packing = packed (items cs) (held e ∷ gap (baySum cs - itemSize e) [])
 
-  in-rest : blocksIn (packed (items cs) (held e ∷ gap (baySum cs - itemSize e) [])) ≡ put rest (reloc (e .handle) (e .bytes) ∷ gapOf (freeTotal (free (freeTotal (blocksIn cs)) ∷ []) - need))
+  in-rest : blocksIn (packed (items cs) (held e ∷ gap (baySum cs - itemSize e) [])) ≡ put rest (cell (held e) ∷ gapOf (freeTotal (cell (free (freeTotal (blocksIn cs))) ∷ []) - need))
   unfolding freeTotal
   in-rest =
       packed-flat cs (held e ∷ gap (baySum cs - need) [])
       ∙ ap (used (blocksIn cs) ++_)
-      (ap (reloc (e .handle) (e .bytes) ∷_) (gap-flat (baySum cs - need) ∙ ap (λ (j : ℕ). gapOf (j - need)) (sym (add-zero (freeTotal (blocksIn cs)) ∙ sum-flat cs)))
+      (ap (cell (held e) ∷_) (gap-flat (baySum cs - need) ∙ ap (λ (j : ℕ). gapOf (j - need)) (sym (add-zero (freeTotal (blocksIn cs)) ∙ sum-flat cs)))
       ∙ sym (append-nil _))
 
   flat-is : (c : Choice) → firstFit need (holes (blocksIn cs)) ≡ c
-      → settle need (e .handle) (blocksIn cs) ≡ put (orElse c rest) (reloc (e .handle) (replicate (need - 4) 0) ∷ gapOf (freeTotal (orElse c rest .inside) - need))
+      → settle need (e .handle) (blocksIn cs) ≡ put (orElse c rest) (cell (held (item (e .handle) (replicate (need - 4) 0))) ∷ gapOf (freeTotal (orElse c rest .inside) - need))
   unfolding settle carve
   flat-is c y = ap (λ (k : Choice). carve need (e .handle) (orElse k rest)) y
 
@@ -97,11 +100,11 @@ module _ (e : Item) (cs : List Cell) where
   settled d o = go (fit e cs) (firstFit need (holes (blocksIn cs))) refl refl (fit-hole e cs d)
     where
       go : (f : Option (List Cell)) (c : Choice) → fit e cs ≡ f → firstFit need (holes (blocksIn cs)) ≡ c
-          → Paired (λ (ds : List Cell) (p : Spot). blocksIn ds ≡ put p (reloc (e .handle) (e .bytes) ∷ gapOf (freeTotal (p .inside) - need))) f c → Settled e cs
+          → Paired (λ (ds : List Cell) (p : Spot). blocksIn ds ≡ put p (cell (held e) ∷ gapOf (freeTotal (p .inside) - need))) f c → Settled e cs
       go none noSpot x y neither = record {
         at = rest;
         none = ap (occurs (e .handle)) (used-handles (blocksIn cs)) ∙ o;
-        cells = ap (λ (f : Option (List Cell)). blocksIn (Option·getD f packing)) x ∙ in-rest;
+        cells = ap (λ (f : Option (List Cell)). blocksIn (Option·getD f packing)) (fit-is e cs ∙ x) ∙ in-rest;
         flat = flat-is noSpot y;
       }
       go (some ds) (theSpot p) x y (both r) = record {
@@ -113,18 +116,18 @@ module _ (e : Item) (cs : List Cell) where
               ap (λ (bs : List Block). occurs (e .handle) (handlesOf bs)) (hole-is need (blocksIn cs) p y .0 .parts),
               occurs-two (e .handle) (p .before) (p .inside ++ p .after),
             );
-        cells = ap (λ (f : Option (List Cell)). blocksIn (Option·getD f packing)) x ∙ r;
+        cells = ap (λ (f : Option (List Cell)). blocksIn (Option·getD f packing)) (fit-is e cs ∙ x) ∙ r;
         flat = flat-is (theSpot p) y;
       }
 
 -- ---- its data
 
-edit-at : (h : ℕ) (d x : List ℕ) (a r : List Block) → occurs h (handlesOf a) ≡ 0 → edit h 0 d (a ++ (reloc h x ∷ r)) ≡ a ++ (reloc h (overwrite x 0 d) ∷ r)
+edit-at : (h : ℕ) (d x : List ℕ) (a r : List Block) → occurs h (handlesOf a) ≡ 0 → edit h 0 d (a ++ (cell (held (item h x)) ∷ r)) ≡ a ++ (cell (held (item h (overwrite x 0 d))) ∷ r)
 unfolding edit handlesOf occurs
 edit-at h d x [] r e = rw (eq-eqb h h refl)
-edit-at h d x (free n ∷ a) r e = ap (free n ∷_) (edit-at h d x a r e)
+edit-at h d x (cell (free n) ∷ a) r e = ap (cell (free n) ∷_) (edit-at h d x a r e)
 edit-at h d x (fixed b ∷ a) r e = ap (fixed b ∷_) (edit-at h d x a r e)
-edit-at h d x (reloc k b ∷ a) r e = rw (ne-eqb h k (λ q. omega (arith, one-same h k q))) (ap (reloc k b ∷_) (edit-at h d x a r (omega arith)))
+edit-at h d x (cell (held it) ∷ a) r e = rw (ne-eqb h (it .handle) (λ q. omega (arith, one-same h (it .handle) q))) (ap (cell (held it) ∷_) (edit-at h d x a r (omega arith)))
 
 -- the old bytes, then zeros
 pub over-zeros : (a : ℕ) (d : List ℕ) → length d ≤ a → overwrite (replicate a 0) 0 d ≡ sized a d
@@ -135,8 +138,8 @@ over-zeros a d l =
 
 -- in the spot at of the bay p
 pub edit-put : (h : ℕ) (d x : List ℕ) (p at : Spot) (g : List Block) → occurs h (handlesOf (p .before)) ≡ 0 → occurs h (handlesOf (at .before)) ≡ 0
-    → edit h 0 d (put p (put at (reloc h x ∷ g))) ≡ put p (put at (reloc h (overwrite x 0 d) ∷ g))
+    → edit h 0 d (put p (put at (cell (held (item h x)) ∷ g))) ≡ put p (put at (cell (held (item h (overwrite x 0 d))) ∷ g))
 edit-put h d x p at g e f =
-    let group : (y : List ℕ) → put p (put at (reloc h y ∷ g)) ≡ (p .before ++ at .before) ++ (reloc h y ∷ (g ++ (at .after ++ p .after))) = λ y. simp append-assoc in
+    let group : (y : List ℕ) → put p (put at (cell (held (item h y)) ∷ g)) ≡ (p .before ++ at .before) ++ (cell (held (item h y)) ∷ (g ++ (at .after ++ p .after))) = λ y. simp append-assoc in
     ap (edit h 0 d) (group x) ∙ edit-at h d x (p .before ++ at .before) (g ++ (at .after ++ p .after)) (omega (arith, occurs-two h (p .before) (at .before)))
     ∙ sym (group (overwrite x 0 d))

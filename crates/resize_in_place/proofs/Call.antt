@@ -8,34 +8,35 @@ use native.Mathlib.Omega.{arith}
 use lib.ListN.{length, drop}
 use lib.Dec.{eqb, leb}
 use borrow.Author.Tests.{le-leb, lt-leb}
+use Rattle.structure.proofs.Append.{handles-append}
+use Rattle.format.specs.Occurs.{occurs}
+use Rattle.release.specs.Release.{leadOf}
 use Rattle.bigendian.specs.BigEndian.{Bytes}
 use Rattle.block_type.specs.Limits.{relocHeader, relocLimit, up4}
 use Rattle.format.specs.WellFormed.{wellFormed, zoneOf, lengthField}
-use Rattle.format.proofs.Count.{occurs, one-same, occurs-append}
-use Rattle.structure.specs.Structure.{Block, reloc, Structure, start, encode, decode}
+use Rattle.format.proofs.Count.{one-same, occurs-append}
+use Rattle.structure.specs.Structure.{Block, Structure, start, encode, decode, cell}
 use Rattle.structure.specs.Valid.{handlesOf, Tiled, Valid}
 use Rattle.structure.proofs.Sound.{valid}
 use Rattle.access.specs.Edit.{placeIn, dataOf}
-use Rattle.compact_bay.proofs.Squeeze.{handles-append}
 use Rattle.find_bay.specs.Spots.{Spot, put, Choice, none as noSpot, some as theSpot, bays, gapOf}
-use Rattle.release.proofs.Find.{leadOf, Mid, mid-of}
+use Rattle.release.proofs.Find.{Mid, mid-of}
 use Rattle.surgery.proofs.Sound.{handle-once, tiled-left, tiled-right}
 use Rattle.surgery.proofs.Spots.{IsBay}
 use Rattle.calls.specs.Calls.{told, resize}
 use Rattle.calls.specs.Bays.{Bays, over, orElse, mapS, maxS}
 use Rattle.zone.specs.PickBays.{onLow}
-use Rattle.zone.specs.Bay as Bay
-use Rattle.calls.specs.State.{Item, sized, Fixed, Out, says, done, withBays, ownSum}
+use Rattle.bay.specs.Bay as Bay
+use Rattle.kinds.specs.Kinds.{Item, item}
+use Rattle.calls.specs.State.{sized, Fixed, Out, says, done, withBays, ownSum}
 use Rattle.calls.specs.Table.{cause, below, isNone, first, order}
-use Rattle.zone.specs.Bay.{Cell, baySum, items, growHere}
+use Rattle.bay.specs.Bay.{Cell, baySum, items, growHere, held}
 use Rattle.zone.specs.Search.{own, lookup, placeLow, resizeIn}
 use Rattle.zone.specs.Group.{flatten}
 use Rattle.zone.specs.Work as Work
 use Rattle.zone.specs.Work.{Zone}
 use Rattle.zone.specs.Call.{inBays, inLine, result, call}
-use Rattle.zone.proofs.Sound.{Sound}
-use Rattle.zone.proofs.BaysLaws.{Both, absent, present}
-use Rattle.zone.proofs.Bytes.{whereS}
+use Rattle.bay.proofs.Sound.{Sound}
 use Rattle.zone.proofs.GroupLaws.{flatten-group}
 use Rattle.zone.proofs.Found.{Found, lost, got, resize-found, Named, unnamed, named, block-named}
 use Rattle.zone.proofs.Grouped.{single-live}
@@ -46,7 +47,7 @@ use Rattle.bay_spots.proofs.Low.{BayAt, low-spot}
 use Rattle.bay_changes.proofs.Own.{ownBlocks, count-flat, own-flat}
 use Rattle.bay_changes.proofs.Edges.{low-bay}
 use Rattle.bay_changes.proofs.Grow.{Stands, stands}
-use Rattle.free_handle.proofs.Bays.{found-strip, place-is}
+use Rattle.free_handle.proofs.Bays.{place-live, place-gone}
 use Rattle.resize_in_place.specs.InPlace.{pastLead, leadAfter, atSize, resizedIn}
 use Rattle.resize_in_place.proofs.Shape.{size-at, lead-at, data-at, lead-join, past-join}
 use Rattle.resize_in_place.proofs.Cells.{Sized, sized-here, given, own-once, has-own}
@@ -59,7 +60,7 @@ pub record Owns (h a : ℕ) (bs : List Block) (p : Spot) (bay : List Cell) : Typ
   pub once : occurs h (handlesOf (blocksIn bay)) ≡ 1
   pub at : Stands h a bay
   pub none : occurs h (handlesOf (p .before ++ at .pre)) ≡ 0
-  pub parts : bs ≡ (p .before ++ at .pre) ++ (reloc h (at .item .bytes) ∷ (blocksIn (at .rest) ++ p .after))
+  pub parts : bs ≡ (p .before ++ at .pre) ++ (cell (held (item h (at .mine .bytes))) ∷ (blocksIn (at .rest) ++ p .after))
 
 occurs-two : (h : ℕ) (a b : List Block) → occurs h (handlesOf (a ++ b)) ≡ occurs h (handlesOf a) + occurs h (handlesOf b)
 occurs-two h a b = ap (occurs h) (handles-append a b) ∙ occurs-append h (handlesOf a) (handlesOf b)
@@ -75,7 +76,7 @@ owns h a bs p bay l i e t =
       once = o;
       at = st;
       none = omega (arith, l, o, ap (λ (x : List Block). occurs h (handlesOf x)) all, occurs-two h (p .before) (blocksIn bay ++ p .after), occurs-two h (blocksIn bay) (p .after), st .first, occurs-two h (p .before) (st .pre));
-      parts = all ∙ ap (put p) (st .parts ∙ ap (λ (k : ℕ). st .pre ++ (reloc k (st .item .bytes) ∷ blocksIn (st .rest))) (sym (st .its))) ∙ (simp append-assoc);
+      parts = all ∙ ap (put p) (st .parts ∙ ap (λ (k : ℕ). st .pre ++ (cell (held (item k (st .mine .bytes))) ∷ blocksIn (st .rest))) (sym (st .its))) ∙ (simp append-assoc);
     }
 
 regroup : (a b g x e : List Block) (n : Block) → a ++ ((b ++ (n ∷ (g ++ x))) ++ e) ≡ (a ++ b) ++ (n ∷ (g ++ (x ++ e)))
@@ -91,13 +92,13 @@ module _ (h a : ℕ) (bs : List Block) (p : Spot) (bay : List Cell) (w : Owns h 
   pre = p .before ++ st .pre
 
   abbrev d : List ℕ
-  d = st .item .bytes
+  d = st .mine .bytes
 
   abbrev rest : List Block
   rest = blocksIn (st .rest)
 
   tiled : Tiled false (rest ++ p .after)
-  tiled = tiled-right false pre (reloc h d ∷ (rest ++ p .after)) (subst (Tiled false) (w .parts) t) .3
+  tiled = tiled-right false pre (cell (held (item h d)) ∷ (rest ++ p .after)) (subst (Tiled false) (w .parts) t) .3
 
   lead-is : leadAfter h bs ≡ leadOf rest
   lead-is = ap (leadAfter h) (w .parts) ∙ lead-at h pre d (rest ++ p .after) (w .none) ∙ lead-join rest (p .after) (w .edges .right)
@@ -105,20 +106,20 @@ module _ (h a : ℕ) (bs : List Block) (p : Spot) (bay : List Cell) (w : Owns h 
   data-is : dataOf h bs ≡ d
   data-is = ap (dataOf h) (w .parts) ∙ data-at h pre d (rest ++ p .after) (w .none)
 
-  now-sized : Sized (st .item) a (st .rest)
-  now-sized = sized-here (st .item) a (st .rest) (tiled-left false rest (p .after) tiled) (omega (arith, l, lead-is, ap length data-is))
+  now-sized : Sized (st .mine) a (st .rest)
+  now-sized = sized-here (st .mine) a (st .rest) (tiled-left false rest (p .after) tiled) (omega (arith, l, lead-is, ap length data-is))
 
-  new-bay : blocksIn (Bay.reshape h a bay) ≡ st .pre ++ (reloc h (sized a d) ∷ (gapOf (length d + leadOf rest - a) ++ pastLead rest))
+  new-bay : blocksIn (Bay.reshape h a bay) ≡ st .pre ++ (cell (held (item h (sized a d))) ∷ (gapOf (length d + leadOf rest - a) ++ pastLead rest))
   new-bay =
       given (growHere h a bay) (st .pre ++ blocksIn (now-sized .cells)) _ (st .grows ∙ ap (over (λ (ds : List Cell). st .pre ++ blocksIn ds)) (now-sized .is))
-      ∙ ap (st .pre ++_) (now-sized .blocks ∙ ap (λ (k : ℕ). reloc k (sized a d) ∷ (gapOf (length d + leadOf rest - a) ++ pastLead rest)) (sym (st .its)))
+      ∙ ap (st .pre ++_) (now-sized .blocks ∙ ap (λ (k : ℕ). cell (held (item k (sized a d))) ∷ (gapOf (length d + leadOf rest - a) ++ pastLead rest)) (sym (st .its)))
 
   pub reshaped : put p (blocksIn (Bay.reshape h a bay)) ≡ atSize h a bs
   reshaped =
       ap (put p) new-bay
-      ∙ regroup (p .before) (st .pre) (gapOf (length d + leadOf rest - a)) (pastLead rest) (p .after) (reloc h (sized a d))
+      ∙ regroup (p .before) (st .pre) (gapOf (length d + leadOf rest - a)) (pastLead rest) (p .after) (cell (held (item h (sized a d))))
       ∙ sym (ap (atSize h a) (w .parts) ∙ size-at h a pre d (rest ++ p .after) (w .none)
-      ∙ ap₂ (λ (n : ℕ) (x : List Block). pre ++ (reloc h (sized a d) ∷ (gapOf (length d + n - a) ++ x))) (lead-join rest (p .after) (w .edges .right)) (past-join rest (p .after) (w .edges .right)))
+      ∙ ap₂ (λ (n : ℕ) (x : List Block). pre ++ (cell (held (item h (sized a d))) ∷ (gapOf (length d + n - a) ++ x))) (lead-join rest (p .after) (w .edges .right)) (past-join rest (p .after) (w .edges .right)))
 
 -- ---- the call
 
@@ -174,31 +175,22 @@ module _ (s : List ℕ) (h c : ℕ) (y : Bytes s) (wf : wellFormed s ≡ true) w
           ap₂ with p t ∙ settled (resize-found h a d (z .bays) (single-live z (well-whole s y wf) h) p) ∙ ap (λ (j : Item). found-as (resizeIn h a j (z .bays))) i
 
   live : (placeIn (zoneOf s) h ≡ 0 → ⊥) → (e : Item) × (lookup h z ≡ some e)
-  live ne = go (lookup h z) (whereS h (start u) (z .bays)) refl refl (found-strip h (start u) (z .bays))
-    where
-      go : (o : Option Item) (w : Option ℕ) → lookup h z ≡ o → whereS h (start u) (z .bays) ≡ w → Both (λ (e : Item) (q : ℕ). 4 ≤ q) o w → (e : Item) × (lookup h z ≡ some e)
-      go none none p q absent = absurd (ne (place-is s y h wf ∙ ap (λ (o : Option ℕ). Option·getD o 0) q))
-      go (some e) (some k) p q (present l) = (e, p)
+  unfolding placeIn decode
+  live ne = let p = place-live h (decode s) ne in (p .0, p .1)
 
   gone : placeIn (zoneOf s) h ≡ 0 → lookup h z ≡ none
-  gone e = go (lookup h z) (whereS h (start u) (z .bays)) refl refl (found-strip h (start u) (z .bays))
-    where
-      go : (o : Option Item) (w : Option ℕ) → lookup h z ≡ o → whereS h (start u) (z .bays) ≡ w → Both (λ (e : Item) (q : ℕ). 4 ≤ q) o w → lookup h z ≡ none
-      go none none p q absent = p
-      go (some i) (some k) p q (present l) =
-          let r : placeIn (zoneOf s) h ≡ k = place-is s y h wf ∙ ap (λ (o : Option ℕ). Option·getD o 0) q in
-          let x : ⊥ = omega arith in
-          absurd x
+  unfolding placeIn decode
+  gone e = place-gone h (decode s) e
 
   -- "handle not live": 6
   pub resize-6 : placeIn (zoneOf s) h ≡ 0 → call (resize h c) s ≡ result (told 6 0) s
   resize-6 e = call-same s y wf (resize h c) (told 6 0) (ap (λ (o : Option Item). with o (leb c relocLimit)) (gone e))
 
   -- "size above the limit": 3
-  pub resize-3 : (placeIn (zoneOf s) h ≡ 0 → ⊥) → 32760 < c → call (resize h c) s ≡ result (told 3 0) s
+  pub resize-3 : (placeIn (zoneOf s) h ≡ 0 → ⊥) → relocLimit < c → call (resize h c) s ≡ result (told 3 0) s
   resize-3 ne l = call-same s y wf (resize h c) (told 3 0) (ap₂ with (live ne .1) (lt-leb c relocLimit l))
 
-  module _ (ne : placeIn (zoneOf s) h ≡ 0 → ⊥) (small : c ≤ 32760) where
+  module _ (ne : placeIn (zoneOf s) h ≡ 0 → ⊥) (small : c ≤ relocLimit) where
     m : Mid h (start u) (u .blocks)
     unfolding placeIn decode
     m = mid-of h (start u) (u .blocks) (let k : (placeIn (zoneOf s) h ≡ 0 → ⊥) = ne in omega arith)
@@ -215,7 +207,7 @@ module _ (s : List ℕ) (h c : ℕ) (y : Bytes s) (wf : wellFormed s ≡ true) w
     pub once : occurs h (handlesOf (u .blocks)) ≡ 1
     unfolding handlesOf occurs
     once =
-        let o = ap (λ (bs : List Block). occurs h (handlesOf bs)) (m .parts) ∙ occurs-two h (m .pre) (reloc h (dataOf h (u .blocks)) ∷ m .post) in
+        let o = ap (λ (bs : List Block). occurs h (handlesOf bs)) (m .parts) ∙ occurs-two h (m .pre) (cell (held (item h (dataOf h (u .blocks)))) ∷ m .post) in
         omega (arith, handle-once u v h, o, one-same h h refl)
 
     -- there is room right after the block

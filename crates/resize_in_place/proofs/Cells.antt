@@ -9,18 +9,20 @@ use native.Mathlib.Omega.{arith}
 use lib.ListN.{length}
 use lib.Dec.{eqb, leb}
 use borrow.Author.Tests.{eqb-true, eq-eqb, ne-eqb, le-leb, leb-true, leb-false}
-use Rattle.format.proofs.Count.{occurs, one-same, occurs-append}
-use Rattle.structure.specs.Structure.{Block, free, fixed, reloc}
+use Rattle.structure.proofs.Append.{handles-append}
+use Rattle.format.specs.Occurs.{occurs}
+use Rattle.release.specs.Release.{leadOf}
+use Rattle.format.proofs.Count.{one-same, occurs-append}
+use Rattle.structure.specs.Structure.{Block, fixed, cell}
 use Rattle.structure.specs.Valid.{handlesOf, Tiled}
 use Rattle.access.specs.Edit.{dataOf}
 use Rattle.find_bay.specs.Spots.{gapOf, freeTotal}
-use Rattle.compact_bay.proofs.Squeeze.{handles-append}
-use Rattle.release.proofs.Find.{leadOf}
 use Rattle.surgery.proofs.Sound.{firstFree}
 use Rattle.calls.specs.Bays.{Bays, last, more, over}
 use Rattle.zone.specs.PickBays.{onLow}
-use Rattle.calls.specs.State.{Item, sized, Fixed}
-use Rattle.zone.specs.Bay.{Cell, free as gapCell, held, gap, resized, growInto, inPlace}
+use Rattle.kinds.specs.Kinds.{Item, item}
+use Rattle.calls.specs.State.{sized, Fixed}
+use Rattle.bay.specs.Bay.{Cell, free, held, gap, resized, growInto, inPlace}
 use Rattle.zone.specs.Search.{own}
 use Rattle.zone.specs.Group.{flatten}
 use Rattle.bay_spots.proofs.Spots.{blocksIn, flat-split}
@@ -33,14 +35,14 @@ use Rattle.resize_in_place.proofs.Shape.{lead-split, lead-join, lead-to
 gap-none : (n : ℕ) (cs : List Cell) → Tiled true (blocksIn cs) → blocksIn (gap n cs) ≡ gapOf n ++ blocksIn cs
 gap-none zero cs t = refl
 gap-none (suc n) [] t = rw (ne-eqb (suc n) 0 (λ e. omega arith))
-gap-none (suc n) (gapCell k ∷ cs) t = absurd (true≢false (t .0))
+gap-none (suc n) (free k ∷ cs) t = absurd (true≢false (t .0))
 gap-none (suc n) (held e ∷ cs) t = rw (ne-eqb (suc n) 0 (λ e. omega arith))
 
 gap-lead : (n : ℕ) (cs : List Cell) → Tiled false (blocksIn cs) → blocksIn (gap n cs) ≡ gapOf (n + leadOf (blocksIn cs)) ++ pastLead (blocksIn cs)
 unfolding leadOf pastLead
 gap-lead zero cs t = lead-split false (blocksIn cs) t ∙ ap (λ (n : ℕ). gapOf n ++ pastLead (blocksIn cs)) (let e : leadOf (blocksIn cs) ≡ 0 + leadOf (blocksIn cs) = omega arith in e)
 gap-lead (suc n) [] t = rw (ne-eqb (suc n + 0) 0 (λ e. omega arith), add-zero (suc n))
-gap-lead (suc n) (gapCell k ∷ cs) t = rw (ne-eqb (suc n + k) 0 (λ e. omega arith))
+gap-lead (suc n) (free k ∷ cs) t = rw (ne-eqb (suc n + k) 0 (λ e. omega arith))
 gap-lead (suc n) (held e ∷ cs) t = rw (ne-eqb (suc n + 0) 0 (λ e. omega arith), add-zero (suc n))
 
 -- ---- the block e with the cells cs behind it
@@ -48,19 +50,19 @@ gap-lead (suc n) (held e ∷ cs) t = rw (ne-eqb (suc n + 0) 0 (λ e. omega arith
 pub record Sized (e : Item) (a : ℕ) (cs : List Cell) : Type 0 where
   pub cells : List Cell
   pub is : inPlace e a cs ≡ some cells
-  pub blocks : blocksIn cells ≡ reloc (e .handle) (sized a (e .bytes)) ∷ (gapOf (length (e .bytes) + leadOf (blocksIn cs) - a) ++ pastLead (blocksIn cs))
+  pub blocks : blocksIn cells ≡ cell (held (item (e .handle) (sized a (e .bytes)))) ∷ (gapOf (length (e .bytes) + leadOf (blocksIn cs) - a) ++ pastLead (blocksIn cs))
 
 module _ (e : Item) (a : ℕ) where
   abbrev b : ℕ
   b = length (e .bytes)
 
   abbrev new : Block
-  new = reloc (e .handle) (sized a (e .bytes))
+  new = cell (held (item (e .handle) (sized a (e .bytes))))
 
   into : (cs : List Cell) → Tiled false (blocksIn cs) → b < a → a ≤ b + leadOf (blocksIn cs) → inPlace e a cs ≡ growInto (resized a e) (a - b) cs → Sized e a cs
   unfolding leadOf pastLead
   into [] t l f q = let x : ⊥ = omega arith in absurd x
-  into (gapCell k ∷ cs) t l f q = record {
+  into (free k ∷ cs) t l f q = record {
     cells = held (resized a e) ∷ gap (k - (a - b)) cs;
     is = q ∙ (rw (le-leb (a - b) k (omega arith)));
     blocks = ap (new ∷_) (gap-none (k - (a - b)) cs (t .4) ∙ ap (λ (n : ℕ). gapOf n ++ blocksIn cs) (let r : k - (a - b) ≡ b + k - a = omega arith in r));
@@ -91,34 +93,34 @@ module _ (h : ℕ) where
   data-skip : (a r : List Block) → occurs h (handlesOf a) ≡ 0 → dataOf h (a ++ r) ≡ dataOf h r
   unfolding dataOf handlesOf occurs
   data-skip [] r e = refl
-  data-skip (free n ∷ a) r e = data-skip a r e
+  data-skip (cell (free n) ∷ a) r e = data-skip a r e
   data-skip (fixed d ∷ a) r e = data-skip a r e
-  data-skip (reloc k d ∷ a) r e = rw (ne-eqb h k (λ q. omega (arith, one-same h k q))) (data-skip a r (omega arith))
+  data-skip (cell (held it) ∷ a) r e = rw (ne-eqb h (it .handle) (λ q. omega (arith, one-same h (it .handle) q))) (data-skip a r (omega arith))
 
   lead-skip : (a r : List Block) → occurs h (handlesOf a) ≡ 0 → leadAfter h (a ++ r) ≡ leadAfter h r
   unfolding leadAfter handlesOf occurs
   lead-skip [] r e = refl
-  lead-skip (free n ∷ a) r e = lead-skip a r e
+  lead-skip (cell (free n) ∷ a) r e = lead-skip a r e
   lead-skip (fixed d ∷ a) r e = lead-skip a r e
-  lead-skip (reloc k d ∷ a) r e = rw (ne-eqb h k (λ q. omega (arith, one-same h k q))) (lead-skip a r (omega arith))
+  lead-skip (cell (held it) ∷ a) r e = rw (ne-eqb h (it .handle) (λ q. omega (arith, one-same h (it .handle) q))) (lead-skip a r (omega arith))
 
   data-keep : (a r : List Block) → 0 < occurs h (handlesOf a) → dataOf h (a ++ r) ≡ dataOf h a
   unfolding dataOf handlesOf occurs
   data-keep [] r l = let x : ⊥ = omega arith in absurd x
-  data-keep (free n ∷ a) r l = data-keep a r l
+  data-keep (cell (free n) ∷ a) r l = data-keep a r l
   data-keep (fixed d ∷ a) r l = data-keep a r l
-  data-keep (reloc k d ∷ a) r l = go (eqb h k) l (data-keep a r)
+  data-keep (cell (held it) ∷ a) r l = go (eqb h (it .handle)) l (data-keep a r)
     where
-      go : (t : Bool) → 0 < cond t 1 0 + occurs h (handlesOf a) → (0 < occurs h (handlesOf a) → dataOf h (a ++ r) ≡ dataOf h a) → cond t d (dataOf h (a ++ r)) ≡ cond t d (dataOf h a)
+      go : (t : Bool) → 0 < cond t 1 0 + occurs h (handlesOf a) → (0 < occurs h (handlesOf a) → dataOf h (a ++ r) ≡ dataOf h a) → cond t (it .bytes) (dataOf h (a ++ r)) ≡ cond t (it .bytes) (dataOf h a)
       go true l f = refl
       go false l f = f (omega arith)
 
   lead-keep : (a r : List Block) → firstFree r ≡ false → 0 < occurs h (handlesOf a) → leadAfter h (a ++ r) ≡ leadAfter h a
   unfolding leadAfter handlesOf occurs
   lead-keep [] r q l = let x : ⊥ = omega arith in absurd x
-  lead-keep (free n ∷ a) r q l = lead-keep a r q l
+  lead-keep (cell (free n) ∷ a) r q l = lead-keep a r q l
   lead-keep (fixed d ∷ a) r q l = lead-keep a r q l
-  lead-keep (reloc k d ∷ a) r q l = go (eqb h k) l (lead-keep a r q)
+  lead-keep (cell (held it) ∷ a) r q l = go (eqb h (it .handle)) l (lead-keep a r q)
     where
       go : (t : Bool) → 0 < cond t 1 0 + occurs h (handlesOf a) → (0 < occurs h (handlesOf a) → leadAfter h (a ++ r) ≡ leadAfter h a) → cond t (leadOf (a ++ r)) (leadAfter h (a ++ r)) ≡ cond t (leadOf a) (leadAfter h a)
       go true l f = lead-join a r q

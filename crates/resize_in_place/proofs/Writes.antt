@@ -2,16 +2,20 @@
 use mathlib.Core.Path.{_≡_, refl, sym, ap, ap₂, _∙_, subst}
 use mathlib.Core.List.{List, [], _∷_, _++_, append-assoc, append-nil}
 use mathlib.Core.Bool.{false}
-use Prim.Native.Nat.{ℕ, zero, suc, _+_, _-_, _/_, _%_, _<_, _≤_, min}
+use Prim.Native.Nat.{ℕ, zero, suc, _+_, _-_, _/_, _%_, _<_, _≤_, min, _*_}
 use native.Mathlib.Nat.{add-zero}
 use native.Mathlib.Omega.{arith}
 use native.Mathlib.Decide.{ℕ-discrete}
 use borrow.Author.Tests.{eq-eqb, ne-eqb}
 use lib.ListN.{length, take, drop, replicate, length-replicate, length-append, length-take, length-drop, take-append-drop, replicate-append-replicate}
+use Rattle.format.specs.Occurs.{occurs}
+use Rattle.release.specs.Release.{leadOf}
+use Rattle.block_type.specs.Limits.{longestZone, relocCode, relocLimit, typeUnit}
 use Rattle.bigendian.specs.BigEndian.{toBE, slice, overwrite}
 use Rattle.bigendian.proofs.Laws.{length-toBE}
-use Rattle.format.proofs.Count.{one, occurs, one-same, one-other}
-use Rattle.structure.specs.Structure.{Block, reloc, Structure, sizes, encodeBlock, count, start, len, headOf, placeOf, nextOf, value, join, encode, decodeZone}
+use Rattle.format.proofs.Count.{one, one-same, one-other}
+use Rattle.structure.specs.Structure.{Block, Structure, sizes, encodeBlock, count, start, len, headOf, placeOf, nextOf, value, join, encode, decodeZone, cell}
+use Rattle.bay.specs.Bay.{held}
 use Rattle.structure.specs.Valid.{handlesOf, Tiled, Valid}
 use Rattle.structure.proofs.Table.{Whole, encode-zone}
 use Rattle.structure.proofs.Sound.{valid-zone}
@@ -22,14 +26,15 @@ use Rattle.row.specs.Row.{bytesOf, Sound}
 use Rattle.row.proofs.Laws.{bytes-long, sound-left, sound-right}
 use Rattle.find_bay.specs.Spots.{gapOf}
 use Rattle.compact_bay.proofs.Squeeze.{gap-sizes, gap-sound, gap-handles}
-use Rattle.release.proofs.Find.{leadOf, Mid, mid-of}
-use Rattle.release.proofs.ZoneLayout.{write-mid}
+use Rattle.release.proofs.Find.{Mid, mid-of}
+use Rattle.structure.proofs.ZoneLayout.{write-mid}
 use Rattle.surgery.proofs.Image.{encode-img, img-rest}
 use Rattle.surgery.proofs.Sound.{valid-sound, lastFree, tiled-right}
 use Rattle.surgery.proofs.Replace.{replaced, place-same, place-mid, sizes-parts}
 use Rattle.surgery.proofs.Carved.{part-bytes}
+use Rattle.kinds.specs.Kinds.{item}
 use Rattle.calls.specs.State.{sized}
-use Rattle.zone.proofs.Resize.{length-sized}
+use Rattle.bay.proofs.Resize.{length-sized}
 use Rattle.resize_in_place.specs.InPlace.{pastLead, leadAfter, leadIn, atSize, resizedIn, LiveIn, live-in, Here}
 use Rattle.resize_in_place.proofs.Shape.{size-at, lead-at, lead-split, lead-four}
 
@@ -114,17 +119,17 @@ module _ (z : List ℕ) (i : IsZone z) (h at b f : ℕ) (ea : at ≡ placeIn z h
   unfolding leadIn
   f-is = ef ∙ ap (leadAfter h) (m .parts) ∙ lead-at h (m .pre) d (m .post) (m .none)
 
-  tiled : Tiled (lastFree false (m .pre)) (reloc h d ∷ m .post)
-  tiled = tiled-right false (m .pre) (reloc h d ∷ m .post) (subst (Tiled false) (m .parts) (v .tiled))
+  tiled : Tiled (lastFree false (m .pre)) (cell (held (item h d)) ∷ m .post)
+  tiled = tiled-right false (m .pre) (cell (held (item h d)) ∷ m .post) (subst (Tiled false) (m .parts) (v .tiled))
 
   abbrev mid : List Block
-  mid = reloc h d ∷ gapOf f
+  mid = cell (held (item h d)) ∷ gapOf f
 
   abbrev rest : List Block
   rest = pastLead (m .post)
 
   parts : s .blocks ≡ m .pre ++ (mid ++ rest)
-  parts = m .parts ∙ ap (λ (bs : List Block). m .pre ++ (reloc h d ∷ bs)) (lead-split false (m .post) (tiled .3) ∙ ap (λ (n : ℕ). gapOf n ++ rest) (sym f-is))
+  parts = m .parts ∙ ap (λ (bs : List Block). m .pre ++ (cell (held (item h d)) ∷ bs)) (lead-split false (m .post) (tiled .3) ∙ ap (λ (n : ℕ). gapOf n ++ rest) (sym f-is))
 
   sound : Sound (mid ++ rest)
   sound = sound-right (m .pre) (mid ++ rest) (subst Sound parts (valid-sound s v))
@@ -136,7 +141,7 @@ module _ (z : List ℕ) (i : IsZone z) (h at b f : ℕ) (ea : at ≡ placeIn z h
   pub end-in : at + b + f ≤ length z
   end-in = omega (arith, at-is, size-mid, ap length (encode-zone z w), length-is s v, ap sizes parts, sizes-parts (m .pre) mid rest)
 
-  pub is-short : length z ≤ 1048576
+  pub is-short : length z ≤ longestZone
   is-short = omega (arith, w .limit, w .all)
 
   pub is-four : (b + f) % 4 ≡ 0
@@ -145,12 +150,12 @@ module _ (z : List ℕ) (i : IsZone z) (h at b f : ℕ) (ea : at ≡ placeIn z h
   pub is-low : 4 ≤ at
   is-low = omega (arith, at-is)
 
-  module _ (a : ℕ) (four : a % 4 ≡ 0) (high : a ≤ 32760) (fits : a ≤ b + f) where
+  module _ (a : ℕ) (four : a % 4 ≡ 0) (high : a ≤ relocLimit) (fits : a ≤ b + f) where
     abbrev g : ℕ
     g = b + f - a
 
     abbrev mid′ : List Block
-    mid′ = reloc h (sized a d) ∷ gapOf g
+    mid′ = cell (held (item h (sized a d))) ∷ gapOf g
 
     la : length (sized a d) ≡ a
     la = length-sized a d
@@ -162,7 +167,7 @@ module _ (z : List ℕ) (i : IsZone z) (h at b f : ℕ) (ea : at ≡ placeIn z h
     sound-new : Sound mid′
     sound-new = ((omega (arith, la), omega (arith, la), sound .0 .2), gap-sound g (omega (arith, is-four)) (omega (arith, end-in, is-short)))
 
-    handle-of : (x : List ℕ) (n : ℕ) → handlesOf (reloc h x ∷ gapOf n) ≡ h ∷ []
+    handle-of : (x : List ℕ) (n : ℕ) → handlesOf (cell (held (item h x)) ∷ gapOf n) ≡ h ∷ []
     unfolding handlesOf
     handle-of x n = ap (h ∷_) (gap-handles n)
 
@@ -173,7 +178,7 @@ module _ (z : List ℕ) (i : IsZone z) (h at b f : ℕ) (ea : at ≡ placeIn z h
     blocks-are : atSize h a (s .blocks) ≡ m .pre ++ (mid′ ++ rest)
     blocks-are =
         ap (atSize h a) (m .parts) ∙ size-at h a (m .pre) d (m .post) (m .none)
-        ∙ ap₂ (λ (x y : ℕ). m .pre ++ (reloc h (sized a d) ∷ (gapOf (x + y - a) ++ rest))) (sym b-is) (sym f-is)
+        ∙ ap₂ (λ (x y : ℕ). m .pre ++ (cell (held (item h (sized a d))) ∷ (gapOf (x + y - a) ++ rest))) (sym b-is) (sym f-is)
 
     -- the bytes of the new blocks in place of the old
     blocks-written : overwrite z o (bytesOf mid′) ≡ encode (resizedIn h a s)
@@ -192,7 +197,7 @@ module _ (z : List ℕ) (i : IsZone z) (h at b f : ℕ) (ea : at ≡ placeIn z h
     back = drop (4 + b + f) (drop o z)
 
     abbrev word : ℕ → List ℕ
-    word n = toBE 2 (32768 + (4 + n) / 2)
+    word n = toBE 2 (relocCode * typeUnit + (4 + n) / 2)
 
     abbrev hh : List ℕ
     hh = toBE 2 h
@@ -221,7 +226,7 @@ module _ (z : List ℕ) (i : IsZone z) (h at b f : ℕ) (ea : at ≡ placeIn z h
       gone = drop keep d ++ bytesOf (gapOf f)
 
       long-gone : length gone ≡ b + f - keep
-      long-gone = omega (arith, length-append (drop keep d) (bytesOf (gapOf f)), length-drop keep d, b-is, bytes-long (gapOf f) (sound-right (reloc h d ∷ []) (gapOf f) (sound-left mid rest sound)), gap-sizes f)
+      long-gone = omega (arith, length-append (drop keep d) (bytesOf (gapOf f)), length-drop keep d, b-is, bytes-long (gapOf f) (sound-right (cell (held (item h d)) ∷ []) (gapOf f) (sound-left mid rest sound)), gap-sizes f)
 
       long-keep : length (take keep d) ≡ keep
       long-keep = omega (arith, length-take keep d, b-is)
@@ -246,12 +251,12 @@ module _ (z : List ℕ) (i : IsZone z) (h at b f : ℕ) (ea : at ≡ placeIn z h
           ∙ ap (λ (x : List ℕ). front ++ (((word a ++ (hh ++ x)) ++ t) ++ back)) data-is
           ∙ (simp append-assoc))
 
-      module _ (z₁ z₂ : List ℕ) (e₁ : z₁ ≡ overwrite z (at + keep) (replicate (at + b + f - (at + keep)) 0)) (e₂ : z₂ ≡ overwrite z₁ (at - 4) (toBE 2 (32768 + (4 + a) / 2))) where
+      module _ (z₁ z₂ : List ℕ) (e₁ : z₁ ≡ overwrite z (at + keep) (replicate (at + b + f - (at + keep)) 0)) (e₂ : z₂ ≡ overwrite z₁ (at - 4) (toBE 2 (relocCode * typeUnit + (4 + a) / 2))) where
         abbrev zeros : ℕ → List ℕ
         zeros n = replicate n 0
 
         lw : (n : ℕ) → length (word n) ≡ 2
-        lw n = length-toBE 2 (32768 + (4 + n) / 2)
+        lw n = length-toBE 2 (relocCode * typeUnit + (4 + n) / 2)
 
         after : z₂ ≡ front ++ (word a ++ (hh ++ (take keep d ++ (zeros (b + f - keep) ++ back))))
         after =
@@ -291,7 +296,7 @@ module _ (z : List ℕ) (i : IsZone z) (h at b f : ℕ) (ea : at ≡ placeIn z h
 -- ---- what the code's proof cites
 
 module _ (z : List ℕ) (h at b f a : ℕ) (x : Here z h at b f a) (keep : ℕ) (ek : keep ≡ min a b) (z₁ z₂ : List ℕ)
-    (e₁ : z₁ ≡ overwrite z (at + keep) (replicate (at + b + f - (at + keep)) 0)) (e₂ : z₂ ≡ overwrite z₁ (at - 4) (toBE 2 (32768 + (4 + a) / 2))) where
+    (e₁ : z₁ ≡ overwrite z (at + keep) (replicate (at + b + f - (at + keep)) 0)) (e₂ : z₂ ≡ overwrite z₁ (at - 4) (toBE 2 (relocCode * typeUnit + (4 + a) / 2))) where
   pub here-all : b + f ≤ a → z₂ ≡ encode (resizedIn h a (decodeZone z))
   here-all l = go (x .known)
     where

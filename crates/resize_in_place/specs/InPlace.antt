@@ -6,25 +6,28 @@ use mathlib.Core.Bool.{cond}
 use Prim.Native.Nat.{ℕ, _+_, _-_, _%_, _≤_}
 use lib.ListN.{length}
 use lib.Dec.{eqb}
-use Rattle.structure.specs.Structure.{Block, free, fixed, reloc, Structure, decodeZone}
+use Rattle.block_type.specs.Limits.{longestZone, relocLimit}
+use Rattle.structure.specs.Structure.{Block, fixed, Structure, decodeZone, cell}
+use Rattle.bay.specs.Bay.{free, held}
 use Rattle.access.specs.Edit.{IsZone, placeIn, dataIn}
 use Rattle.find_bay.specs.Spots.{gapOf}
 use Rattle.release.specs.Release.{leadOf}
+use Rattle.kinds.specs.Kinds.{item}
 use Rattle.calls.specs.State.{sized}
 
 -- what stands behind a free block in front
 unfoldable pub pastLead : List Block → List Block
 pastLead [] = []
-pastLead (free n ∷ bs) = bs
+pastLead (cell (free n) ∷ bs) = bs
 pastLead (fixed d ∷ bs) = fixed d ∷ bs
-pastLead (reloc h d ∷ bs) = reloc h d ∷ bs
+pastLead (cell (held it) ∷ bs) = cell (held it) ∷ bs
 
 -- the size of the free block right after the block of handle h, 0 for none
 unfoldable pub leadAfter : ℕ → List Block → ℕ
 leadAfter h [] = 0
-leadAfter h (free n ∷ bs) = leadAfter h bs
+leadAfter h (cell (free n) ∷ bs) = leadAfter h bs
 leadAfter h (fixed d ∷ bs) = leadAfter h bs
-leadAfter h (reloc k d ∷ bs) = cond (eqb h k) (leadOf bs) (leadAfter h bs)
+leadAfter h (cell (held it) ∷ bs) = cond (eqb h (it .handle)) (leadOf bs) (leadAfter h bs)
 
 unfoldable pub leadIn : List ℕ → ℕ → ℕ
 leadIn z h = leadAfter h (decodeZone z .blocks)
@@ -32,9 +35,9 @@ leadIn z h = leadAfter h (decodeZone z .blocks)
 -- the block of handle h has a data bytes: "the common first bytes stay, added bytes are zero"
 unfoldable pub atSize : ℕ → ℕ → List Block → List Block
 atSize h a [] = []
-atSize h a (free n ∷ bs) = free n ∷ atSize h a bs
+atSize h a (cell (free n) ∷ bs) = cell (free n) ∷ atSize h a bs
 atSize h a (fixed d ∷ bs) = fixed d ∷ atSize h a bs
-atSize h a (reloc k d ∷ bs) = cond (eqb h k) (reloc k (sized a d) ∷ (gapOf (length d + leadOf bs - a) ++ pastLead bs)) (reloc k d ∷ atSize h a bs)
+atSize h a (cell (held it) ∷ bs) = cond (eqb h (it .handle)) (cell (held (item (it .handle) (sized a (it .bytes)))) ∷ (gapOf (length (it .bytes) + leadOf bs - a) ++ pastLead bs)) (cell (held it) ∷ atSize h a bs)
 
 unfoldable pub resizedIn : ℕ → ℕ → Structure → Structure
 resizedIn h a s = record { chain = s .chain; blocks = atSize h a (s .blocks) }
@@ -48,8 +51,8 @@ pub record Here (z : List ℕ) (h at b f a : ℕ) : Type 0 where
   pub known : LiveIn z h at b f
   pub low : 4 ≤ at
   pub end : at + b + f ≤ length z
-  pub short : length z ≤ 1048576
+  pub short : length z ≤ longestZone
   pub four : a % 4 ≡ 0
   pub four-end : (b + f) % 4 ≡ 0
-  pub high : a ≤ 32760
+  pub high : a ≤ relocLimit
   pub fits : a ≤ b + f

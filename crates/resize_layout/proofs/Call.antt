@@ -7,28 +7,29 @@ use Prim.Native.Nat.{ℕ, _+_, _-_, _<_, _≤_}
 use native.Mathlib.Omega.{arith}
 use lib.ListN.{length, drop, replicate}
 use borrow.Author.Tests.{lt-leb}
+use Rattle.format.specs.Occurs.{occurs}
+use Rattle.release.specs.Release.{leadOf}
 use Rattle.bigendian.specs.BigEndian.{Bytes}
-use Rattle.block_type.specs.Limits.{up4}
+use Rattle.block_type.specs.Limits.{up4, relocLimit}
 use Rattle.format.specs.WellFormed.{wellFormed, zoneOf, lengthField}
-use Rattle.format.proofs.Count.{occurs}
-use Rattle.structure.specs.Structure.{Block, reloc, Structure, start, encode, decode}
+use Rattle.structure.specs.Structure.{Block, Structure, start, encode, decode, cell}
 use Rattle.structure.specs.Valid.{handlesOf, Valid}
 use Rattle.structure.proofs.Sound.{valid}
 use Rattle.access.specs.Edit.{placeIn, dataOf}
 use Rattle.find_bay.specs.Spots.{Spot, put, Choice, none as noSpot, some as theSpot, bays, gapOf}
-use Rattle.release.proofs.Find.{leadOf}
 use Rattle.surgery.proofs.Sound.{handle-once}
 use Rattle.calls.specs.Calls.{told, resize}
 use Rattle.calls.specs.Bays.{Bays, over}
 use Rattle.zone.specs.PickBays.{onLow}
-use Rattle.zone.specs.Bay as Bay
-use Rattle.calls.specs.State.{Item, alter, total, sized, Fixed}
-use Rattle.zone.specs.Bay.{Cell, free as gapCell, held, items, baySize, gap, packed, resized, growInto, inPlace, growHere}
+use Rattle.bay.specs.Bay as Bay
+use Rattle.kinds.specs.Kinds.{Item, item}
+use Rattle.calls.specs.State.{alter, total, sized, Fixed}
+use Rattle.bay.specs.Bay.{Cell, free, held, items, baySize, gap, packed, resized, growInto, inPlace, growHere}
 use Rattle.zone.specs.Search.{own}
 use Rattle.zone.specs.Group.{flatten}
 use Rattle.zone.specs.Work.{Zone}
 use Rattle.zone.specs.Call.{inBays, result, call}
-use Rattle.zone.proofs.Sound.{Sound}
+use Rattle.bay.proofs.Sound.{Sound}
 use Rattle.zone.proofs.GroupLaws.{flatten-group}
 use Rattle.zone.proofs.Run.{well-whole}
 use Rattle.bay_spots.proofs.Spots.{blocksIn, sum-flat, Paired, neither, both, firstBy}
@@ -51,7 +52,7 @@ not-here e a cs l k = (rw (lt-leb a (length (e .bytes)) l)) ∙ into cs k
   where
     into : (cs : List Cell) → length (e .bytes) + leadOf (blocksIn cs) < a → growInto (resized a e) (a - length (e .bytes)) cs ≡ none
     into [] k = refl
-    into (gapCell n ∷ cs) k = rw (lt-leb (a - length (e .bytes)) n (omega arith))
+    into (free n ∷ cs) k = rw (lt-leb (a - length (e .bytes)) n (omega arith))
     into (held x ∷ cs) k = refl
 
 nothing : (o : Option (List Cell)) → over blocksIn o ≡ none → o ≡ none
@@ -69,19 +70,19 @@ module _ (h a : ℕ) (bs : List Block) (p : Spot) (bay : List Cell) (w : Owns h 
   rest = blocksIn (st .rest)
 
   lead-is : leadAfter h bs ≡ leadOf rest
-  lead-is = ap (leadAfter h) (w .parts) ∙ lead-at h pre (st .item .bytes) (rest ++ p .after) (w .none) ∙ lead-join rest (p .after) (w .edges .right)
+  lead-is = ap (leadAfter h) (w .parts) ∙ lead-at h pre (st .mine .bytes) (rest ++ p .after) (w .none) ∙ lead-join rest (p .after) (w .edges .right)
 
-  data-is : dataOf h bs ≡ st .item .bytes
-  data-is = ap (dataOf h) (w .parts) ∙ data-at h pre (st .item .bytes) (rest ++ p .after) (w .none)
+  data-is : dataOf h bs ≡ st .mine .bytes
+  data-is = ap (dataOf h) (w .parts) ∙ data-at h pre (st .mine .bytes) (rest ++ p .after) (w .none)
 
-  data-bay : dataOf h (blocksIn bay) ≡ st .item .bytes
+  data-bay : dataOf h (blocksIn bay) ≡ st .mine .bytes
   data-bay =
-      ap (dataOf h) (st .parts ∙ ap (λ (k : ℕ). st .pre ++ (reloc k (st .item .bytes) ∷ rest)) (sym (st .its))) ∙ data-at h (st .pre) (st .item .bytes) rest (st .first)
+      ap (dataOf h) (st .parts ∙ ap (λ (k : ℕ). st .pre ++ (cell (held (item k (st .mine .bytes))) ∷ rest)) (sym (st .its))) ∙ data-at h (st .pre) (st .mine .bytes) rest (st .first)
 
   grows-none : growHere h a bay ≡ none
   grows-none =
       nothing (growHere h a bay)
-      (st .grows ∙ ap (over (λ (ds : List Cell). st .pre ++ blocksIn ds)) (not-here (st .item) a (st .rest) (omega (arith, l, ap length data-is)) (omega (arith, l, ap length data-is, lead-is))))
+      (st .grows ∙ ap (over (λ (ds : List Cell). st .pre ++ blocksIn ds)) (not-here (st .mine) a (st .rest) (omega (arith, l, ap length data-is)) (omega (arith, l, ap length data-is, lead-is))))
 
   small : length (d h a (blocksIn bay) (w .once)) ≤ a
   small = omega (arith, l, ap length data-is, ap length (used-data h (blocksIn bay) ∙ data-bay))
@@ -93,12 +94,12 @@ module _ (h a : ℕ) (bs : List Block) (p : Spot) (bay : List Cell) (w : Owns h 
       let D = d h a k o in
       ap (λ (x : Option (List Cell)). blocksIn (Option·getD x (packed (map (alter h (sized a)) (items bay)) (gap (baySize bay - total (map (alter h (sized a)) (items bay))) [])))) grows-none
       ∙ laid-out h a bay (u h a k o) (v h a k o) D (m h a k o .parts) (m h a k o .none) (after-none h a k o) small
-      ∙ ap (λ (n : ℕ). u h a k o ++ (reloc h (D ++ replicate (a - length D) 0) ∷ (v h a k o ++ gapOf (n - (a - length D))))) (sym (sum-flat bay))
+      ∙ ap (λ (n : ℕ). u h a k o ++ (cell (held (item h (D ++ replicate (a - length D) 0))) ∷ (v h a k o ++ gapOf (n - (a - length D))))) (sym (sum-flat bay))
       ∙ sym (layout-is h a k o small)
 
 -- ---- the call
 
-module _ (s : List ℕ) (h c : ℕ) (y : Bytes s) (wf : wellFormed s ≡ true) (ne : placeIn (zoneOf s) h ≡ 0 → ⊥) (few : c ≤ 32760) where
+module _ (s : List ℕ) (h c : ℕ) (y : Bytes s) (wf : wellFormed s ≡ true) (ne : placeIn (zoneOf s) h ≡ 0 → ⊥) (few : c ≤ relocLimit) where
   abbrev t : Structure
   t = decode s
 

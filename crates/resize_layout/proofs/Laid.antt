@@ -7,10 +7,13 @@ use native.Mathlib.Omega.{arith}
 use borrow.Author.Tests.{ne-eqb}
 use lib.ListN.{length, drop, replicate, length-replicate, length-append}
 use lib.Seq.{drop-at, take-all}
+use Rattle.format.specs.Occurs.{occurs}
+use Rattle.block_type.specs.Limits.{longestZone, relocHeader, zoneHeader}
 use Rattle.bigendian.specs.BigEndian.{fromBE, slice, overwrite}
-use Rattle.format.proofs.Count.{occurs, one-same}
+use Rattle.format.proofs.Count.{one-same}
 use Rattle.format.proofs.Masters.{Master}
-use Rattle.structure.specs.Structure.{Block, free, reloc, Structure, sizes, encodeBlock, count, start, placeOf, join, encode, decodeZone}
+use Rattle.structure.specs.Structure.{Block, Structure, sizes, encodeBlock, count, start, placeOf, join, encode, decodeZone, cell}
+use Rattle.bay.specs.Bay.{free, held}
 use Rattle.structure.specs.Valid.{handlesOf, Valid}
 use Rattle.structure.proofs.Table.{Whole, encode-zone}
 use Rattle.structure.proofs.Sound.{valid-zone}
@@ -20,7 +23,7 @@ use Rattle.access.proofs.Zone.{whole-of}
 use Rattle.row.specs.Row.{bytesOf, blocksOf, Sound, Row, row}
 use Rattle.row.proofs.Laws.{bytes-append, bytes-long, sound-left, sound-right, sound-append, tiles-join}
 use Rattle.find_bay.specs.Spots.{freeTotal, Spot, put, Choice, none, some, used, gapOf, squeeze}
-use Rattle.find_bay.proofs.Numbers.{sizes-append}
+use Rattle.structure.proofs.Append.{sizes-append}
 use Rattle.compact_bay.specs.Tidy.{IsLow, is-low, Low, setAll, tidied}
 use Rattle.compact_bay.proofs.Squeeze.{used-sizes, free-four, gap-sizes, gap-sound, squeeze-sizes, squeeze-sound}
 use Rattle.grow_bay.specs.Grow.{Room, grownBytes}
@@ -31,6 +34,7 @@ use Rattle.surgery.proofs.Replace.{sizes-parts}
 use Rattle.surgery.proofs.Carved.{part-bytes}
 use Rattle.surgery.proofs.Plain.{grown}
 use Rattle.surgery.proofs.Spots.{IsBay, bay-tidied, bay-valid, bay-start}
+use Rattle.kinds.specs.Kinds.{item}
 use Rattle.calls.specs.State.{sized}
 use Rattle.bay_changes.proofs.Own.{ownBlocks}
 use Rattle.bay_changes.proofs.Edges.{low-bay}
@@ -67,29 +71,29 @@ module _ (h a : ℕ) (mid : List Block) (once : occurs h (handlesOf mid) ≡ 1) 
   f = freeTotal mid
 
   abbrev pub new : List Block
-  new = u ++ (reloc h (d ++ replicate n 0) ∷ (v ++ gapOf (f - n)))
+  new = u ++ (cell (held (item h (d ++ replicate n 0))) ∷ (v ++ gapOf (f - n)))
 
   abbrev pub old : List Block
-  old = u ++ (reloc h d ∷ (v ++ gapOf f))
+  old = u ++ (cell (held (item h d)) ∷ (v ++ gapOf f))
 
   pub after-none : occurs h (handlesOf v) ≡ 0
   unfolding occurs handlesOf
   after-none =
-      omega (arith, in-used, ap (λ (x : List Block). occurs h (handlesOf x)) (m .parts), occurs-two h u (reloc h d ∷ v), one-same h h refl)
+      omega (arith, in-used, ap (λ (x : List Block). occurs h (handlesOf x)) (m .parts), occurs-two h u (cell (held (item h d)) ∷ v), one-same h h refl)
 
   squeezed : squeeze mid ≡ old
   unfolding squeeze
-  squeezed = ap (_++ gapOf f) (m .parts) ∙ append-assoc u (reloc h d ∷ v) (gapOf f)
+  squeezed = ap (_++ gapOf f) (m .parts) ∙ append-assoc u (cell (held (item h d)) ∷ v) (gapOf f)
 
   pub layout-is : length d ≤ a → layout h a mid ≡ new
   unfolding layout
   layout-is l =
-      ap₂ (λ (x : List Block) (y : List ℕ). x ++ gapOf (f - (a - length y))) (ap (sizeOnly h a) (m .parts) ∙ only-at h a u d v (m .none) ∙ ap (λ (x : List ℕ). u ++ (reloc h x ∷ v)) (larger a d l)) (sym (used-data h mid))
-      ∙ append-assoc u (reloc h (d ++ replicate n 0) ∷ v) (gapOf (f - n))
+      ap₂ (λ (x : List Block) (y : List ℕ). x ++ gapOf (f - (a - length y))) (ap (sizeOnly h a) (m .parts) ∙ only-at h a u d v (m .none) ∙ ap (λ (x : List ℕ). u ++ (cell (held (item h x)) ∷ v)) (larger a d l)) (sym (used-data h mid))
+      ∙ append-assoc u (cell (held (item h (d ++ replicate n 0))) ∷ v) (gapOf (f - n))
 
-  size-used : sizes (used mid) ≡ sizes u + (4 + length d + sizes v)
+  size-used : sizes (used mid) ≡ sizes u + (relocHeader + length d + sizes v)
   unfolding sizes
-  size-used = ap sizes (m .parts) ∙ sizes-append u (reloc h d ∷ v)
+  size-used = ap sizes (m .parts) ∙ sizes-append u (cell (held (item h d)) ∷ v)
 
 -- ---- in a structure
 
@@ -145,14 +149,14 @@ module _ (s : Structure) (val : Valid s) (h from end sum b a : ℕ) (x : Own s h
   sound-mid : Sound mid
   sound-mid = sound-left mid (p .after) (sound-right (p .before) (mid ++ p .after) (subst Sound (edges .parts) (valid-sound s val)))
 
-  short-mid : from + sizes mid ≤ 1048576
+  short-mid : from + sizes mid ≤ longestZone
   short-mid = omega (arith, val .short, x .is-from, ap sizes (edges .parts), sizes-parts (p .before) mid (p .after))
 
   sound-old : Sound olds
   sound-old = subst Sound (squeezed h a mid once) (squeeze-sound mid sound-mid (omega (arith, short-mid)))
 
-  sound-block : Sound (reloc h dat ∷ (post ++ gapOf spare))
-  sound-block = sound-right ante (reloc h dat ∷ (post ++ gapOf spare)) sound-old
+  sound-block : Sound (cell (held (item h dat)) ∷ (post ++ gapOf spare))
+  sound-block = sound-right ante (cell (held (item h dat)) ∷ (post ++ gapOf spare)) sound-old
 
   long-new : length (dat ++ replicate gain 0) ≡ a
   long-new = omega (arith, length-append dat (replicate gain 0), length-replicate {A = ℕ} gain 0, x .grows, b-is)
@@ -163,12 +167,12 @@ module _ (s : Structure) (val : Valid s) (h from end sum b a : ℕ) (x : Own s h
   four-n : gain % 4 ≡ 0
   four-n = omega (arith, x .four, sound-block .0 .0)
 
-  f-short : spare ≤ 1048576
+  f-short : spare ≤ longestZone
   f-short = omega (arith, short-mid, used-sizes mid)
 
   sound-new : Sound news
   sound-new =
-      sound-append ante (reloc h (dat ++ replicate gain 0) ∷ (post ++ gapOf (spare - gain))) (sound-left ante (reloc h dat ∷ (post ++ gapOf spare)) sound-old) (
+      sound-append ante (cell (held (item h (dat ++ replicate gain 0))) ∷ (post ++ gapOf (spare - gain))) (sound-left ante (cell (held (item h dat)) ∷ (post ++ gapOf spare)) sound-old) (
         (omega (arith, long-new, x .four), omega (arith, long-new, x .high), sound-block .0 .2),
         sound-append post (gapOf (spare - gain)) (sound-left post (gapOf spare) (sound-block .1)) (gap-sound (spare - gain) (omega (arith, four-f, four-n)) (omega (arith, f-short))),
       )
@@ -194,10 +198,10 @@ module _ (s : Structure) (val : Valid s) (h from end sum b a : ℕ) (x : Own s h
       ∙ ap (λ (bs : List Block). bytesOf bs) (squeezed h a mid once)
 
   -- the numbers of the bay
-  span : end ≡ from + (sizes ante + (4 + length dat + sizes post) + spare)
+  span : end ≡ from + (sizes ante + (relocHeader + length dat + sizes post) + spare)
   span = omega (arith, x .is-end, used-sizes mid, size-used h a mid once)
 
-  blocks₁ : s₁ .blocks ≡ (p .before ++ ante) ++ (reloc h dat ∷ ((post ++ gapOf spare) ++ p .after))
+  blocks₁ : s₁ .blocks ≡ (p .before ++ ante) ++ (cell (held (item h dat)) ∷ ((post ++ gapOf spare) ++ p .after))
   blocks₁ = ap (put p) (squeezed h a mid once) ∙ (simp append-assoc)
 
   occ-all : occurs h (handlesOf (p .before)) + 1 ≤ occurs h (handlesOf (s .blocks))
@@ -208,7 +212,7 @@ module _ (s : Structure) (val : Valid s) (h from end sum b a : ℕ) (x : Own s h
 
   master : Master (start s) h
   master =
-      let r = offset-is h 16 (count s) (handle-in s val h (omega (arith, occ-all))) in
+      let r = offset-is h zoneHeader (count s) (handle-in s val h (omega (arith, occ-all))) in
       record { low = r .0; fits = r .1; four = r .2 }
 
   at-is : fromBE (slice (encode s₁) h 4) ≡ from + sizes ante + 4
@@ -234,20 +238,20 @@ module _ (s : Structure) (val : Valid s) (h from end sum b a : ℕ) (x : Own s h
   bay-low = rw (bay-bytes, tiles-join mid sound-mid) (is-low (lows s val mid (edges .parts) (x .is-from)))
 
   -- what growing asks
-  long-old : length (bytesOf olds) ≡ sizes ante + (4 + length dat + sizes post) + spare
+  long-old : length (bytesOf olds) ≡ sizes ante + (relocHeader + length dat + sizes post) + spare
   unfolding sizes
-  long-old = bytes-long olds sound-old ∙ omega (arith, sizes-append ante (reloc h dat ∷ (post ++ gapOf spare)), sizes-append post (gapOf spare), gap-sizes spare)
+  long-old = bytes-long olds sound-old ∙ omega (arith, sizes-append ante (cell (held (item h dat)) ∷ (post ++ gapOf spare)), sizes-append post (gapOf spare), gap-sizes spare)
 
-  tail-bytes : (k : ℕ) → k ≡ sizes ante + (4 + length dat) + sizes post → drop k (bytesOf olds) ≡ encodeBlock (free spare)
+  tail-bytes : (k : ℕ) → k ≡ sizes ante + (relocHeader + length dat) + sizes post → drop k (bytesOf olds) ≡ encodeBlock (cell (free spare))
   unfolding sizes join
   tail-bytes k e =
-      let l : length (bytesOf (ante ++ (reloc h dat ∷ post))) ≡ k =
-      bytes-long (ante ++ (reloc h dat ∷ post)) (sound-left (ante ++ (reloc h dat ∷ post)) (gapOf spare) (subst Sound (sym (append-assoc ante (reloc h dat ∷ post) (gapOf spare))) sound-old)) ∙ omega (arith, sizes-append ante (reloc h dat ∷ post)) in
-      let g : bytesOf (gapOf spare) ≡ encodeBlock (free spare) = rw (ne-eqb spare 0 (λ q. omega (arith, room-is, x .grows, b-is))) (append-nil (encodeBlock (free spare))) in
-      ap (λ (bs : List Block). drop k (bytesOf bs)) (sym (append-assoc ante (reloc h dat ∷ post) (gapOf spare)))
-      ∙ ap (drop k) (bytes-append (ante ++ (reloc h dat ∷ post)) (gapOf spare)) ∙ drop-at (bytesOf (ante ++ (reloc h dat ∷ post))) (bytesOf (gapOf spare)) k l ∙ g
+      let l : length (bytesOf (ante ++ (cell (held (item h dat)) ∷ post))) ≡ k =
+      bytes-long (ante ++ (cell (held (item h dat)) ∷ post)) (sound-left (ante ++ (cell (held (item h dat)) ∷ post)) (gapOf spare) (subst Sound (sym (append-assoc ante (cell (held (item h dat)) ∷ post) (gapOf spare))) sound-old)) ∙ omega (arith, sizes-append ante (cell (held (item h dat)) ∷ post)) in
+      let g : bytesOf (gapOf spare) ≡ encodeBlock (cell (free spare)) = rw (ne-eqb spare 0 (λ q. omega (arith, room-is, x .grows, b-is))) (append-nil (encodeBlock (cell (free spare)))) in
+      ap (λ (bs : List Block). drop k (bytesOf bs)) (sym (append-assoc ante (cell (held (item h dat)) ∷ post) (gapOf spare)))
+      ∙ ap (drop k) (bytes-append (ante ++ (cell (held (item h dat)) ∷ post)) (gapOf spare)) ∙ drop-at (bytesOf (ante ++ (cell (held (item h dat)) ∷ post))) (bytesOf (gapOf spare)) k l ∙ g
 
-  module _ (low high run : ℕ) (el : low ≡ sizes ante) (eh : high ≡ low + 4 + length dat) (er : run ≡ sizes post) where
+  module _ (low high run : ℕ) (el : low ≡ sizes ante) (eh : high ≡ low + relocHeader + length dat) (er : run ≡ sizes post) where
     room : Room (bytesOf olds) low high run gain
     room =
         let k : length (bytesOf olds) - (high + run) ≡ spare = omega (arith, long-old) in
@@ -307,7 +311,7 @@ module _ (z : List ℕ) (h from end sum b a : ℕ) (x : OwnIn z h from end sum b
   pub ask-end : end ≤ length z
   ask-end = subst (λ (y : List ℕ). end ≤ length y) is-z (end-in st vz h from end sum b a here)
 
-  pub ask-limit : length z ≤ 1048576
+  pub ask-limit : length z ≤ longestZone
   ask-limit = omega (arith, w .limit, w .all)
 
   pub ask-row : Row (slice z from (end - from))
@@ -343,10 +347,10 @@ module _ (z : List ℕ) (h from end sum b a : ℕ) (x : OwnIn z h from end sum b
     pub tidy-end : end ≤ length z₁
     tidy-end = omega (arith, long₁, ask-end)
 
-    pub tidy-limit : length z₁ ≤ 1048576
+    pub tidy-limit : length z₁ ≤ longestZone
     tidy-limit = omega (arith, long₁, ask-limit)
 
-    pub tidy-short : end ≤ 1048576
+    pub tidy-short : end ≤ longestZone
     tidy-short = omega (arith, tidy-end, tidy-limit)
 
     pub tidy-master : h + 4 ≤ length z₁
@@ -366,7 +370,7 @@ module _ (z : List ℕ) (h from end sum b a : ℕ) (x : OwnIn z h from end sum b
         l₁ : low ≡ sizes (ante st vz h from end sum b a here)
         l₁ = omega (arith, at₁)
 
-        h₁ : high ≡ low + 4 + length (dat st vz h from end sum b a here)
+        h₁ : high ≡ low + relocHeader + length (dat st vz h from end sum b a here)
         h₁ = omega (arith, at₁, b-is st vz h from end sum b a here)
 
         r₁ : run ≡ sizes (post st vz h from end sum b a here)

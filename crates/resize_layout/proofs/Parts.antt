@@ -7,13 +7,17 @@ use native.Mathlib.Omega.{arith}
 use lib.ListN.{length}
 use lib.Dec.{eqb, leb}
 use borrow.Author.Tests.{eq-eqb, ne-eqb, leb-true}
-use Rattle.format.proofs.Count.{one, occurs, one-same, occurs-append}
-use Rattle.structure.specs.Structure.{Block, free, fixed, reloc, sizes, placeOf}
+use Rattle.structure.proofs.Append.{handles-append}
+use Rattle.format.specs.Occurs.{occurs}
+use Rattle.block_type.specs.Limits.{fixedHeader, relocHeader}
+use Rattle.format.proofs.Count.{one, one-same, occurs-append}
+use Rattle.structure.specs.Structure.{Block, fixed, sizes, placeOf, cell}
+use Rattle.bay.specs.Bay.{free, held}
 use Rattle.structure.specs.Valid.{handlesOf}
 use Rattle.access.specs.Edit.{dataOf}
 use Rattle.find_bay.specs.Spots.{freeTotal, used, gapOf}
 use Rattle.compact_bay.specs.Tidy.{Low}
-use Rattle.compact_bay.proofs.Squeeze.{handles-append}
+use Rattle.kinds.specs.Kinds.{item}
 use Rattle.calls.specs.State.{sized}
 use Rattle.bay_changes.proofs.Own.{ownBlocks}
 use Rattle.resize_layout.specs.Layout.{sizeOnly}
@@ -24,16 +28,16 @@ occurs-two h a b = ap (occurs h) (handles-append a b) ∙ occurs-append h (handl
 pub used-handles : (bs : List Block) → handlesOf (used bs) ≡ handlesOf bs
 unfolding used handlesOf
 used-handles [] = refl
-used-handles (free n ∷ bs) = used-handles bs
+used-handles (cell (free n) ∷ bs) = used-handles bs
 used-handles (fixed d ∷ bs) = used-handles bs
-used-handles (reloc h d ∷ bs) = ap (h ∷_) (used-handles bs)
+used-handles (cell (held it) ∷ bs) = ap ((it .handle) ∷_) (used-handles bs)
 
 pub used-data : (h : ℕ) (bs : List Block) → dataOf h (used bs) ≡ dataOf h bs
 unfolding used dataOf
 used-data h [] = refl
-used-data h (free n ∷ bs) = used-data h bs
+used-data h (cell (free n) ∷ bs) = used-data h bs
 used-data h (fixed d ∷ bs) = used-data h bs
-used-data h (reloc k d ∷ bs) = ap (cond (eqb h k) d) (used-data h bs)
+used-data h (cell (held it) ∷ bs) = ap (cond (eqb h (it .handle)) (it .bytes)) (used-data h bs)
 
 other : (h k : ℕ) (n : ℕ) → one h k + n ≡ 0 → h ≡ k → ⊥
 other h k n e q = omega (arith, one-same h k q)
@@ -41,19 +45,19 @@ other h k n e q = omega (arith, one-same h k q)
 rest : (h k : ℕ) (n : ℕ) → one h k + n ≡ 0 → n ≡ 0
 rest h k n e = omega arith
 
-pub only-at : (h a : ℕ) (pre : List Block) (d : List ℕ) (post : List Block) → occurs h (handlesOf pre) ≡ 0 → sizeOnly h a (pre ++ reloc h d ∷ post) ≡ pre ++ (reloc h (sized a d) ∷ post)
+pub only-at : (h a : ℕ) (pre : List Block) (d : List ℕ) (post : List Block) → occurs h (handlesOf pre) ≡ 0 → sizeOnly h a (pre ++ cell (held (item h d)) ∷ post) ≡ pre ++ (cell (held (item h (sized a d))) ∷ post)
 unfolding sizeOnly handlesOf occurs
 only-at h a [] d post e = rw (eq-eqb h h refl)
-only-at h a (free n ∷ pre) d post e = ap (free n ∷_) (only-at h a pre d post e)
+only-at h a (cell (free n) ∷ pre) d post e = ap (cell (free n) ∷_) (only-at h a pre d post e)
 only-at h a (fixed x ∷ pre) d post e = ap (fixed x ∷_) (only-at h a pre d post e)
-only-at h a (reloc k x ∷ pre) d post e = rw (ne-eqb h k (other h k _ e)) (ap (reloc k x ∷_) (only-at h a pre d post (rest h k _ e)))
+only-at h a (cell (held it) ∷ pre) d post e = rw (ne-eqb h (it .handle) (other h (it .handle) _ e)) (ap (cell (held it) ∷_) (only-at h a pre d post (rest h (it .handle) _ e)))
 
-pub place-at : (h at : ℕ) (pre : List Block) (d : List ℕ) (post : List Block) → occurs h (handlesOf pre) ≡ 0 → placeOf h at (pre ++ reloc h d ∷ post) ≡ at + sizes pre + 4
+pub place-at : (h at : ℕ) (pre : List Block) (d : List ℕ) (post : List Block) → occurs h (handlesOf pre) ≡ 0 → placeOf h at (pre ++ cell (held (item h d)) ∷ post) ≡ at + sizes pre + 4
 unfolding placeOf handlesOf occurs sizes
 place-at h at [] d post e = rw (eq-eqb h h refl) (omega arith)
-place-at h at (free n ∷ pre) d post e = omega (arith, place-at h (at + n) pre d post e)
-place-at h at (fixed x ∷ pre) d post e = omega (arith, place-at h (at + (2 + length x)) pre d post e)
-place-at h at (reloc k x ∷ pre) d post e = rw (ne-eqb h k (other h k _ e)) (omega (arith, place-at h (at + (4 + length x)) pre d post (rest h k _ e)))
+place-at h at (cell (free n) ∷ pre) d post e = omega (arith, place-at h (at + n) pre d post e)
+place-at h at (fixed x ∷ pre) d post e = omega (arith, place-at h (at + (fixedHeader + length x)) pre d post e)
+place-at h at (cell (held it) ∷ pre) d post e = rw (ne-eqb h (it .handle) (other h (it .handle) _ e)) (omega (arith, place-at h (at + (relocHeader + length (it .bytes))) pre d post (rest h (it .handle) _ e)))
 
 -- ---- what the test of the own bay says
 
@@ -69,22 +73,22 @@ module _ (h a : ℕ) (bs : List Block) (t : ownBlocks h a bs ≡ true) where
 
 pub low-more : (k lim : ℕ) (bs : List Block) → k ≤ lim → Low k bs → Low lim bs
 low-more k lim [] l y = tt
-low-more k lim (free m ∷ bs) l y = low-more k lim bs l y
+low-more k lim (cell (free m) ∷ bs) l y = low-more k lim bs l y
 low-more k lim (fixed d ∷ bs) l y = low-more k lim bs l y
-low-more k lim (reloc g d ∷ bs) l y = (omega (arith, y .0), y .1, low-more k lim bs l (y .2))
+low-more k lim (cell (held it) ∷ bs) l y = (omega (arith, y .0), y .1, low-more k lim bs l (y .2))
 
 pub low-tail : (lim n k : ℕ) (v : List Block) → Low lim (v ++ gapOf n) → Low lim (v ++ gapOf k)
 low-tail lim n k [] y = go (eqb k 0)
   where
-    go : (t : Bool) → Low lim (cond t [] (free k ∷ []))
+    go : (t : Bool) → Low lim (cond t [] (cell (free k) ∷ []))
     go true = tt
     go false = tt
-low-tail lim n k (free m ∷ v) y = low-tail lim n k v y
+low-tail lim n k (cell (free m) ∷ v) y = low-tail lim n k v y
 low-tail lim n k (fixed d ∷ v) y = low-tail lim n k v y
-low-tail lim n k (reloc g d ∷ v) y = (y .0, y .1, low-tail lim n k v (y .2))
+low-tail lim n k (cell (held it) ∷ v) y = (y .0, y .1, low-tail lim n k v (y .2))
 
-pub low-data : (lim h : ℕ) (d d′ : List ℕ) (u a b : List Block) → (Low lim a → Low lim b) → Low lim (u ++ (reloc h d ∷ a)) → Low lim (u ++ (reloc h d′ ∷ b))
+pub low-data : (lim h : ℕ) (d d′ : List ℕ) (u a b : List Block) → (Low lim a → Low lim b) → Low lim (u ++ (cell (held (item h d)) ∷ a)) → Low lim (u ++ (cell (held (item h d′)) ∷ b))
 low-data lim h d d′ [] a b f y = (y .0, y .1, f (y .2))
-low-data lim h d d′ (free m ∷ u) a b f y = low-data lim h d d′ u a b f y
+low-data lim h d d′ (cell (free m) ∷ u) a b f y = low-data lim h d d′ u a b f y
 low-data lim h d d′ (fixed x ∷ u) a b f y = low-data lim h d d′ u a b f y
-low-data lim h d d′ (reloc g x ∷ u) a b f y = (y .0, y .1, low-data lim h d d′ u a b f (y .2))
+low-data lim h d d′ (cell (held it) ∷ u) a b f y = (y .0, y .1, low-data lim h d d′ u a b f (y .2))

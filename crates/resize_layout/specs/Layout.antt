@@ -5,13 +5,16 @@ use mathlib.Core.Bool.{cond}
 use Prim.Native.Nat.{ℕ, _+_, _-_, _%_, _<_, _≤_}
 use lib.ListN.{length}
 use lib.Dec.{eqb}
-use Rattle.structure.specs.Structure.{Block, free, fixed, reloc, Structure, sizes, start, decodeZone}
+use Rattle.block_type.specs.Limits.{relocLimit}
+use Rattle.structure.specs.Structure.{Block, fixed, Structure, sizes, start, decodeZone, cell}
+use Rattle.bay.specs.Bay.{free, held}
 use Rattle.access.specs.Edit.{IsZone, dataOf}
 use Rattle.find_bay.specs.Spots.{freeTotal, Spot, put, bays, Choice, none, some, used, gapOf}
 use Rattle.bigendian.specs.BigEndian.{slice, overwrite}
 use Rattle.row.specs.Row.{Sound, blocksOf, bytesOf}
 use Rattle.compact_bay.specs.Tidy.{Low, setAll}
 use Rattle.grow_bay.specs.Grow.{grownBytes}
+use Rattle.kinds.specs.Kinds.{item}
 use Rattle.calls.specs.State.{sized}
 use Rattle.bay_spots.specs.Choose.{firstBy}
 use Rattle.bay_changes.specs.OwnBay.{ownBlocks}
@@ -19,9 +22,9 @@ use Rattle.bay_changes.specs.OwnBay.{ownBlocks}
 -- the block of handle h has a data bytes, and the blocks behind it follow
 unfoldable pub sizeOnly : ℕ → ℕ → List Block → List Block
 sizeOnly h a [] = []
-sizeOnly h a (free n ∷ bs) = free n ∷ sizeOnly h a bs
+sizeOnly h a (cell (free n) ∷ bs) = cell (free n) ∷ sizeOnly h a bs
 sizeOnly h a (fixed d ∷ bs) = fixed d ∷ sizeOnly h a bs
-sizeOnly h a (reloc k d ∷ bs) = cond (eqb h k) (reloc k (sized a d) ∷ bs) (reloc k d ∷ sizeOnly h a bs)
+sizeOnly h a (cell (held it) ∷ bs) = cond (eqb h (it .handle)) (cell (held (item (it .handle) (sized a (it .bytes)))) ∷ bs) (cell (held it) ∷ sizeOnly h a bs)
 
 unfoldable pub layout : ℕ → ℕ → List Block → List Block
 layout h a bs = sizeOnly h a (used bs) ++ gapOf (freeTotal bs - (a - length (dataOf h bs)))
@@ -43,7 +46,7 @@ pub record Own (s : Structure) (h from end sum b a : ℕ) : Type 0 where
   pub is-b : b ≡ length (dataOf h (bay .inside))
   pub grows : b < a
   pub four : a % 4 ≡ 0
-  pub high : a ≤ 32760
+  pub high : a ≤ relocLimit
 
 pub data OwnIn (z : List ℕ) (h from end sum b a : ℕ) : Type 0 where
   own-in : IsZone z → Own (decodeZone z) h from end sum b a → OwnIn z h from end sum b a

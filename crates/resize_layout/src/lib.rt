@@ -1,6 +1,7 @@
 // A block grows in its own bay: the bay is laid out as compacted with this block at its new size.
 ghost use mathlib.Core.Path.{_≡_};
 ghost use Prim.Native.Nat.{_+_, _-_, _≤_};
+ghost use Rattle.block_type.specs.Limits.{longestZone};
 ghost use Rattle.structure.specs.Structure.{encode, decodeZone};
 ghost use Rattle.resize_layout.specs.Layout.{laidOut, OwnIn, GrowsTo, grownZone};
 ghost use lib.ListN.{length};
@@ -17,7 +18,7 @@ pub struct Place {
 // Where the block with its b data bytes at `at` lies in its compacted bay, which ends with sum free bytes, and how many bytes of
 // other blocks follow it; offsets in the bay.
 fn place_in_bay(at: usize, b: usize, from: usize, end: usize, sum: usize) -> Place
-    requires { ⌜ (from + 4 ≤ at) × (at + b + sum ≤ end) × (end ≤ 1048576) ⌝ }
+    requires { ⌜ (from + 4 ≤ at) × (at + b + sum ≤ end) × (end ≤ longestZone) ⌝ }
     ensures { λ r. ⌜ (r .at ≡ at - 4 - from) × (r .end ≡ at + b - from) × (r .run ≡ end - sum - (at + b)) ⌝ }
 {
     Place {
@@ -38,7 +39,7 @@ fn grow_block(
     run: usize,
     more: usize,
 )
-    requires { ⌜ (from ≤ end) × (end ≤ length (now z)) × (length (now z) ≤ 1048576) × Room (slice (now z) from (end - from)) low high run more × GrowsTo (now z) from end low high run more ⌝ }
+    requires { ⌜ (from ≤ end) × (end ≤ length (now z)) × (length (now z) ≤ longestZone) × Room (slice (now z) from (end - from)) low high run more × GrowsTo (now z) from end low high run more ⌝ }
     ensures { λ _. ⌜ now (z .exit) ≡ grownZone (now (z .entry)) from end low high run more ⌝ }
 {
     grow_bay::grow_part(&mut z[from..end], low, high, run, more);

@@ -7,21 +7,26 @@ use native.Mathlib.Omega.{arith}
 use native.Mathlib.Decide.{ℕ-discrete}
 use lib.ListN.{length, replicate, length-replicate, length-append}
 use borrow.Author.Tests.{eq-eqb, ne-eqb}
+use Rattle.format.specs.Occurs.{occurs}
+use Rattle.format.specs.WellFormed.{offsets}
+use Rattle.block_type.specs.Limits.{longestZone, masterSize, relocHeader, zoneHeader}
 use Rattle.bigendian.specs.BigEndian.{toBE, overwrite}
-use Rattle.format.proofs.Count.{one, occurs, offsets, one-same}
-use Rattle.structure.specs.Structure.{Block, free, Structure, sizes, relocCount, encodeBlock, count, start, len, headOf, placeOf, value, encode}
+use Rattle.bigendian.proofs.Overwrite.{write-length}
+use Rattle.format.proofs.Count.{one, one-same}
+use Rattle.structure.specs.Structure.{Block, Structure, sizes, relocCount, encodeBlock, count, start, len, headOf, placeOf, value, encode, cell}
+use Rattle.bay.specs.Bay.{free}
 use Rattle.structure.specs.Valid.{handlesOf, Valid}
 use Rattle.structure.proofs.Round.{offset-is}
 use Rattle.access.specs.Edit.{dataOf}
-use Rattle.access.proofs.Store.{write-length, store-bytes}
+use Rattle.access.proofs.Store.{store-bytes}
 use Rattle.row.specs.Row.{bytesOf, Sound}
 use Rattle.row.proofs.Laws.{bytes-long, sound-right}
 use Rattle.find_bay.specs.Spots.{gapOf}
-use Rattle.find_bay.proofs.Numbers.{sizes-append}
+use Rattle.structure.proofs.Append.{sizes-append, count-handles, handles-append}
 use Rattle.compact_bay.proofs.Part.{length-free}
-use Rattle.compact_bay.proofs.Squeeze.{handles-append, gap-sizes, gap-sound, gap-handles}
+use Rattle.compact_bay.proofs.Squeeze.{gap-sizes, gap-sound, gap-handles}
 use Rattle.release.specs.Release.{release, freed, Span}
-use Rattle.release.proofs.Freed.{count-handles, four-mid, free-bytes, free-valid}
+use Rattle.release.proofs.Freed.{four-mid, free-bytes, free-valid}
 use Rattle.surgery.proofs.Image.{img, encode-img, upd, img-chain, img-master, img-rest, img-same}
 use Rattle.surgery.proofs.Sound.{handle-in, handle-once, valid-sound}
 use Rattle.surgery.proofs.Replace.{sizes-parts}
@@ -53,7 +58,7 @@ module _ (s : Structure) (v : Valid s) (h from to at n need : ℕ) (d : List ℕ
 
   -- ---- the handles
 
-  after-is : release h (s .blocks) ≡ sp .pre ++ free (sizes (sp .mid)) ∷ sp .post
+  after-is : release h (s .blocks) ≡ sp .pre ++ cell (free (sizes (sp .mid))) ∷ sp .post
   after-is = sp .result
 
   occ : (g : ℕ) → occurs g (handlesOf (s .blocks)) ≡ one g h + occurs g (handlesOf (release h (s .blocks)))
@@ -66,7 +71,7 @@ module _ (s : Structure) (v : Valid s) (h from to at n need : ℕ) (d : List ℕ
         occurs-two g (sp .mid) (sp .post),
         ap (occurs g) (sp .only),
         ap (λ (b : List Block). occurs g (handlesOf b)) after-is,
-        occurs-two g (sp .pre) (free (sizes (sp .mid)) ∷ sp .post),
+        occurs-two g (sp .pre) (cell (free (sizes (sp .mid))) ∷ sp .post),
       )
 
   gone : occurs h (handlesOf (release h (s .blocks))) ≡ 0
@@ -75,11 +80,11 @@ module _ (s : Structure) (v : Valid s) (h from to at n need : ℕ) (d : List ℕ
   live : 0 < occurs h (handlesOf (s .blocks))
   live = omega (arith, occ h, one-same h h refl)
 
-  is-master : 0 < occurs h (offsets 16 (count s))
+  is-master : 0 < occurs h (offsets zoneHeader (count s))
   is-master = handle-in s v h live
 
   none-pre : occurs h (handlesOf pre) ≡ 0
-  none-pre = omega (arith, gone, ap (λ (b : List Block). occurs h (handlesOf b)) (x .hole), occurs-two h pre ((free n ∷ []) ++ post))
+  none-pre = omega (arith, gone, ap (λ (b : List Block). occurs h (handlesOf b)) (x .hole), occurs-two h pre ((cell (free n) ∷ []) ++ post))
 
   -- ---- the counts
 
@@ -98,7 +103,7 @@ module _ (s : Structure) (v : Valid s) (h from to at n need : ℕ) (d : List ℕ
         long-two (sp .mid) (sp .post),
         ap length (sp .only),
         ap (λ (b : List Block). length (handlesOf b)) after-is,
-        long-two (sp .pre) (free (sizes (sp .mid)) ∷ sp .post),
+        long-two (sp .pre) (cell (free (sizes (sp .mid))) ∷ sp .post),
       )
 
   start-f : start (record { chain = h ∷ s .chain; blocks = release h (s .blocks) }) ≡ start s
@@ -122,7 +127,7 @@ module _ (s : Structure) (v : Valid s) (h from to at n need : ℕ) (d : List ℕ
         ap length (gap-handles (n - need)),
         count-handles (release h (s .blocks)),
         ap (λ (b : List Block). length (handlesOf b)) (x .hole),
-        long-two pre ((free n ∷ []) ++ post),
+        long-two pre ((cell (free n) ∷ []) ++ post),
       )
 
   start₂ : start (record { chain = s .chain; blocks = pre ++ (carvedFrom need h n ++ post) }) ≡ start s
@@ -140,7 +145,7 @@ module _ (s : Structure) (v : Valid s) (h from to at n need : ℕ) (d : List ℕ
   -- ---- the writes one after the other, as the calls do them
 
   abbrev B : List ℕ
-  B = encodeBlock (free (sizes (sp .mid)))
+  B = encodeBlock (cell (free (sizes (sp .mid))))
 
   abbrev C : List ℕ
   C = bytesOf (carvedFrom need h n)
@@ -175,13 +180,13 @@ module _ (s : Structure) (v : Valid s) (h from to at n need : ℕ) (d : List ℕ
   abbrev image : (ℕ → ℕ) → List ℕ → List ℕ
   image g y = img (len s) (start s) (count s) k g y
 
-  from-is : from ≡ 16 + 4 * count s + pf
+  from-is : from ≡ zoneHeader + masterSize * count s + pf
   from-is = sp .is-from
 
-  at-is : at ≡ 16 + 4 * count s + pa
+  at-is : at ≡ zoneHeader + masterSize * count s + pa
   at-is = x .is-at
 
-  at4-is : at + 4 ≡ 16 + 4 * count s + (pa + 4)
+  at4-is : at + 4 ≡ zoneHeader + masterSize * count s + (pa + 4)
   at4-is = omega (arith, x .is-at)
 
   turn-image : overwrite (carvedBytes (overwrite (overwrite (overwrite (encode s) 12 (toBE 2 h)) h (toBE 4 k)) from B) need h k at n) (at + 4) d
@@ -230,21 +235,21 @@ module _ (s : Structure) (v : Valid s) (h from to at n need : ℕ) (d : List ℕ
   sizes-hole : sizes (s .blocks) ≡ pa + (n + sizes post)
   unfolding sizes
   sizes-hole =
-      omega (arith, sizes-old, ap sizes after-is, sizes-append (sp .pre) (free (sizes (sp .mid)) ∷ sp .post), ap sizes (x .hole), sizes-append pre ((free n ∷ []) ++ post))
+      omega (arith, sizes-old, ap sizes after-is, sizes-append (sp .pre) (cell (free (sizes (sp .mid))) ∷ sp .post), ap sizes (x .hole), sizes-append pre ((cell (free n) ∷ []) ++ post))
 
   long-b : length B ≡ sizes (sp .mid)
   long-b = length-free (sizes (sp .mid)) (four-mid h s v from to sp)
 
-  four-n : (n % 4 ≡ 0) × (n ≤ 1048576)
+  four-n : (n % 4 ≡ 0) × (n ≤ longestZone)
   four-n =
-      let so : Sound (pre ++ ((free n ∷ []) ++ post)) = subst Sound (x .hole) (valid-sound fs vf) in
-      let t = sound-right pre ((free n ∷ []) ++ post) so in
+      let so : Sound (pre ++ ((cell (free n) ∷ []) ++ post)) = subst Sound (x .hole) (valid-sound fs vf) in
+      let t = sound-right pre ((cell (free n) ∷ []) ++ post) so in
       (t .0 .1, t .0 .2)
 
   sound-new : Sound (carvedFrom need h n)
   sound-new =
       let l = length-replicate {A = ℕ} (need - 4) 0 in
-      let q = offset-is h 16 (count s) is-master in
+      let q = offset-is h zoneHeader (count s) is-master in
       ((omega (arith, x .four, x .low), omega (arith, x .high), omega (arith, q .1, v .few)), gap-sound (n - need) (omega (arith, four-n .0, x .four, x .fits)) (omega (arith, four-n .1)))
 
   long-c : length C ≡ n
@@ -254,7 +259,7 @@ module _ (s : Structure) (v : Valid s) (h from to at n need : ℕ) (d : List ℕ
   long-rc : length (overwrite r pa C) ≡ length r
   long-rc = write-length r C pa (omega (arith, long-c, long-r, sizes-hole))
 
-  d-in : 4 + length d ≤ n
+  d-in : relocHeader + length d ≤ n
   d-in = omega (arith, x .short, x .fits)
 
   commute : overwrite (overwrite (overwrite r pf B) pa C) (pa + 4) d ≡ overwrite (overwrite (overwrite r pa C) (pa + 4) d) pf B
@@ -274,7 +279,7 @@ module _ (s : Structure) (v : Valid s) (h from to at n need : ℕ) (d : List ℕ
   pub moved-bytes : movedBytes (encode s) h from to at n need d ≡ encode (movedTo h need n d pre post s)
   moved-bytes =
       let e : to - from ≡ sizes (sp .mid) = omega (arith, sp .is-to) in
-      ap (λ (i : ℕ). overwrite (overwrite (overwrite (overwrite (encode s) at C) (at + 4) d) h (toBE 4 (at + 4))) from (encodeBlock (free i))) e
+      ap (λ (i : ℕ). overwrite (overwrite (overwrite (overwrite (encode s) at C) (at + 4) d) h (toBE 4 (at + 4))) from (encodeBlock (cell (free i)))) e
       ∙ code-image
       ∙ img-same (len s) (start s) (count s) k (upd (value s) h (at + 4)) (upd (upd (value s) h k) h (at + 4)) _ (λ j l. upd-twice (value s) k (at + 4) j)
       ∙ ap (image (upd (upd (value s) h k) h (at + 4))) (sym commute)

@@ -6,17 +6,18 @@ use mathlib.Core.Option.{Option, none as absent, some as present}
 use Prim.Native.Nat.{ℕ, _+_, _≤_}
 use native.Mathlib.Omega.{arith}
 use borrow.Author.Tests.{ne-eqb, ltb-true, ltb-false}
-use Rattle.format.proofs.Count.{occurs}
-use Rattle.structure.specs.Structure.{Block, free, fixed, reloc}
+use Rattle.format.specs.Occurs.{occurs}
+use Rattle.structure.specs.Structure.{Block, fixed, cell}
 use Rattle.structure.specs.Valid.{handlesOf}
 use Rattle.find_bay.specs.Spots.{Spot, baysFrom, bays, Choice, none, some}
 use Rattle.calls.specs.Bays.{Bays}
 use Rattle.zone.specs.PickBays.{onLow, AllS}
-use Rattle.zone.specs.Bay.{Cell}
+use Rattle.bay.specs.Bay.{Cell, free, held}
+use Rattle.kinds.specs.Kinds.{item}
 use Rattle.calls.specs.State.{Fixed}
 use Rattle.zone.specs.Search.{own}
 use Rattle.zone.specs.Group.{flatten}
-use Rattle.zone.proofs.Sound.{Sound}
+use Rattle.bay.proofs.Sound.{Sound}
 use Rattle.bay_spots.proofs.Spots.{firstBy, Paired, neither, both}
 use Rattle.bay_spots.proofs.Low.{BayAt, low-spot}
 use Rattle.bay_changes.proofs.Own.{ownBlocks, own-flat}
@@ -31,9 +32,9 @@ inSpots h (p ∷ ps) = occurs h (handlesOf (p .inside)) + inSpots h ps
 in-bays : (h : ℕ) (pre mid bs : List Block) → inSpots h (baysFrom pre mid bs) ≡ occurs h (handlesOf mid) + occurs h (handlesOf bs)
 unfolding baysFrom handlesOf occurs
 in-bays h pre mid [] = refl
-in-bays h pre mid (free n ∷ bs) = in-bays h pre (mid ++ free n ∷ []) bs ∙ omega (arith, occurs-two h mid (free n ∷ []))
+in-bays h pre mid (cell (free n) ∷ bs) = in-bays h pre (mid ++ cell (free n) ∷ []) bs ∙ omega (arith, occurs-two h mid (cell (free n) ∷ []))
 in-bays h pre mid (fixed d ∷ bs) = omega (arith, in-bays h (pre ++ (mid ++ fixed d ∷ [])) [] bs)
-in-bays h pre mid (reloc k d ∷ bs) = in-bays h pre (mid ++ reloc k d ∷ []) bs ∙ omega (arith, occurs-two h mid (reloc k d ∷ []))
+in-bays h pre mid (cell (held e) ∷ bs) = in-bays h pre (mid ++ cell (held e) ∷ []) bs ∙ omega (arith, occurs-two h mid (cell (held e) ∷ []))
 
 none-own : (h a : ℕ) (ps : List Spot) → inSpots h ps ≡ 0 → firstBy (ownBlocks h a) ps ≡ none
 none-own h a [] e = refl

@@ -6,7 +6,7 @@ use native.Mathlib.Omega.{arith}
 use lib.ListN.{length, take, drop, length-append, length-take, length-drop, take-append-drop}
 use lib.Seq.{drop-drop}
 use Rattle.bigendian.specs.BigEndian.{slice, overwrite}
-use Rattle.release.proofs.ZoneLayout.{write-mid}
+use Rattle.structure.proofs.ZoneLayout.{write-mid}
 
 module _ (a x x′ m y y′ r : List ℕ) (p q : ℕ) (ea : length a ≡ p) (ex : length x ≡ length x′) (em : length a + length x + length m ≡ q) (ey : length y ≡ length y′) where
   behind : (w : List ℕ) → length w ≡ length x → (t : List ℕ) → overwrite (a ++ (w ++ (m ++ (y ++ t)))) q y′ ≡ a ++ (w ++ (m ++ (y′ ++ t)))

@@ -1,16 +1,20 @@
 -- The laws that the code cites.
 use mathlib.Core.Path.{_≡_, sym, ap, ap₂, _∙_}
-use mathlib.Core.List.{List, _++_}
+use mathlib.Core.List.{List, [], _∷_, _++_}
 use Prim.Native.Nat.{ℕ, _+_, _-_, _≤_}
 use native.Mathlib.Omega.{arith}
 use lib.ListN.{length, take, drop, length-append}
 use lib.Seq.{take-take, take-append-le, length-take-le}
 use Rattle.bigendian.specs.BigEndian.{toBE, slice, overwrite}
+use Rattle.bigendian.proofs.Overwrite.{drop-write}
 use Rattle.format.proofs.Walk.{drop-take}
-use Rattle.structure.specs.Structure.{free, encodeBlock}
+use Rattle.structure.specs.Structure.{encodeBlock, cell}
+use Rattle.bay.specs.Bay.{free, held, gap}
+use Rattle.bay.specs.Sound as Bay
 use Rattle.row.specs.Row.{bytesOf}
-use Rattle.compact_bay.proofs.Part.{drop-write}
 use Rattle.surgery.proofs.Carved.{carvedFrom}
+use Rattle.place.specs.Fit.{blank}
+use Rattle.resize_move.proofs.Flat.{carved-bytes}
 use Rattle.resize_move.specs.Move.{Apart, below, above, MoveAt, movedBytes}
 
 -- a stretch apart from a write stays
@@ -27,7 +31,10 @@ slice-low s x p o n l k =
 slice-high : (s x : List ℕ) (p o n : ℕ) → p + length x ≤ o → o ≤ length s → slice (overwrite s p x) o n ≡ slice s o n
 slice-high s x p o n l k = ap (take n) (drop-write s p o x l k)
 
-module _ (z : List ℕ) (h old b at n need from to : ℕ) (x : MoveAt z h old b at n need from to) (z₁ : List ℕ) (e₁ : z₁ ≡ overwrite z at (bytesOf (carvedFrom need h n))) where
+module _ (z : List ℕ) (h old b at n need from to : ℕ) (x : MoveAt z h old b at n need from to) (z₁ : List ℕ) (e₀ : z₁ ≡ overwrite z at (Bay.bytesOf (held (blank need h) ∷ gap (n - need) []))) where
+  e₁ : z₁ ≡ overwrite z at (bytesOf (carvedFrom need h n))
+  e₁ = e₀ ∙ ap (overwrite z at) (carved-bytes need h n)
+
   stays : slice z₁ old b ≡ slice z old b
   stays = ap (λ (y : List ℕ). slice y old b) e₁ ∙ go (x .apart)
     where
@@ -35,8 +42,8 @@ module _ (z : List ℕ) (h old b at n need from to : ℕ) (x : MoveAt z h old b 
       go (below l) = slice-low z (bytesOf (carvedFrom need h n)) at old b l (omega (arith, x .fit .inside))
       go (above l) = slice-high z (bytesOf (carvedFrom need h n)) at old b (omega (arith, x .long)) (omega (arith, x .data-in))
 
-  pub move-done : (z₂ z₃ z₄ : List ℕ) → z₂ ≡ overwrite z₁ (at + 4) (slice z₁ old b) → z₃ ≡ overwrite z₂ h (toBE 4 (at + 4)) → z₄ ≡ overwrite z₃ from (encodeBlock (free (to - from)))
+  pub move-done : (z₂ z₃ z₄ : List ℕ) → z₂ ≡ overwrite z₁ (at + 4) (slice z₁ old b) → z₃ ≡ overwrite z₂ h (toBE 4 (at + 4)) → z₄ ≡ overwrite z₃ from (encodeBlock (cell (free (to - from))))
       → z₄ ≡ movedBytes z h from to at n need (slice z old b)
   move-done z₂ z₃ z₄ e₂ e₃ e₄ =
       let q₂ : z₂ ≡ overwrite (overwrite z at (bytesOf (carvedFrom need h n))) (at + 4) (slice z old b) = e₂ ∙ ap₂ (λ (y w : List ℕ). overwrite y (at + 4) w) e₁ stays in
-      e₄ ∙ ap (λ (y : List ℕ). overwrite y from (encodeBlock (free (to - from)))) (e₃ ∙ ap (λ (y : List ℕ). overwrite y h (toBE 4 (at + 4))) q₂)
+      e₄ ∙ ap (λ (y : List ℕ). overwrite y from (encodeBlock (cell (free (to - from))))) (e₃ ∙ ap (λ (y : List ℕ). overwrite y h (toBE 4 (at + 4))) q₂)

@@ -3,13 +3,15 @@ use mathlib.Core.Path.{_≡_}
 use mathlib.Core.List.{List, [], _∷_, _++_}
 use Prim.Native.Nat.{ℕ, _+_, _-_, _%_, _≤_}
 use lib.ListN.{length}
+use Rattle.block_type.specs.Limits.{largestBlock}
 use Rattle.bigendian.specs.BigEndian.{toBE, overwrite}
-use Rattle.structure.specs.Structure.{Block, free, Structure, sizes, start, encodeBlock}
+use Rattle.structure.specs.Structure.{Block, Structure, sizes, start, encodeBlock, cell}
+use Rattle.bay.specs.Bay.{free}
 use Rattle.access.specs.Edit.{store}
 use Rattle.row.specs.Row.{bytesOf}
 use Rattle.release.specs.Release.{release, Span}
 use Rattle.surgery.specs.Carved.{carvedFrom}
-use Rattle.allocate_relocatable.specs.Site.{Fit}
+use Rattle.place.specs.Fit.{Fit}
 
 -- two stretches apart: the one from `from` up to `to`, the other of n bytes at `at`
 pub data Apart (from to at n : ℕ) : Type 0 where
@@ -21,13 +23,13 @@ pub record Move (s : Structure) (h from to at n need : ℕ) (d : List ℕ) : Typ
   pub pre : List Block
   pub post : List Block
   pub old : Span h (start s) (s .blocks) from to
-  pub hole : release h (s .blocks) ≡ pre ++ ((free n ∷ []) ++ post)
+  pub hole : release h (s .blocks) ≡ pre ++ ((cell (free n) ∷ []) ++ post)
   pub is-at : at ≡ start s + sizes pre
   pub apart : Apart from to at n
   pub low : 4 ≤ need
   pub fits : need ≤ n
   pub four : need % 4 ≡ 0
-  pub high : need ≤ 32764
+  pub high : need ≤ largestBlock
   pub short : length d + 4 ≤ need
 
 -- the structure after it: the new block is zero behind d
@@ -37,7 +39,7 @@ movedTo h need n d pre post s = store h 0 d (record { chain = s .chain; blocks =
 -- the writes: the new block, its data, the master, the old place
 abbrev pub movedBytes : List ℕ → ℕ → ℕ → ℕ → ℕ → ℕ → ℕ → List ℕ → List ℕ
 movedBytes z h from to at n need d =
-    overwrite (overwrite (overwrite (overwrite z at (bytesOf (carvedFrom need h n))) (at + 4) d) h (toBE 4 (at + 4))) from (encodeBlock (free (to - from)))
+    overwrite (overwrite (overwrite (overwrite z at (bytesOf (carvedFrom need h n))) (at + 4) d) h (toBE 4 (at + 4))) from (encodeBlock (cell (free (to - from))))
 
 -- what the code asks: a free block of n bytes at `at` has room for need, the b data bytes at old lie apart from it, and the old place
 -- is from `from` up to `to`

@@ -34,8 +34,8 @@ pub fn move_block(
     requires { ⌜ MoveAt (now z) h old b at n need from to ⌝ }
     ensures { λ _. ⌜ now (z .exit) ≡ movedBytes (now (z .entry)) h from to at n need (slice (now (z .entry)) old b) ⌝ }
 {
-    allocate_relocatable::cut_block(z, at, n, need, h);
+    place::cut_block(z, at, n, need, h);
     slide(z, at + BlockType::RELOCATABLE_HEADER, old, b);
     bigendian::put4(z, h, (at + BlockType::RELOCATABLE_HEADER) as u32);
-    release::blank(z, from, to);
+    blank::blank(z, from, to);
 }

@@ -5,17 +5,21 @@ use Prim.Native.Nat.{ℕ, _+_, _-_, _*_, _/_, _<_, _≤_}
 use native.Mathlib.Omega.{arith}
 use lib.ListN.{length, take, drop, length-append}
 use lib.Seq.{drop-drop, drop-at}
+use Rattle.format.specs.Occurs.{occurs}
+use Rattle.block_type.specs.Limits.{relocHeader, typeUnit}
 use Rattle.bigendian.specs.BigEndian.{toBE, slice}
 use Rattle.bigendian.proofs.Laws.{length-toBE}
 use Rattle.format.proofs.Walk.{drop-take}
-use Rattle.format.proofs.Count.{occurs, one-same}
-use Rattle.structure.specs.Structure.{Block, reloc, Structure, sizes, encodeBlock, start, placeOf, join, encode, decodeZone}
+use Rattle.format.proofs.Count.{one-same}
+use Rattle.structure.specs.Structure.{Block, Structure, sizes, encodeBlock, start, placeOf, join, encode, decodeZone, cell}
+use Rattle.kinds.specs.Kinds.{item}
+use Rattle.bay.specs.Bay.{held}
 use Rattle.structure.specs.Valid.{handlesOf, Valid}
 use Rattle.structure.proofs.Table.{Whole, encode-zone}
 use Rattle.structure.proofs.Sound.{valid-zone}
 use Rattle.access.specs.Edit.{IsZone, placeIn, dataIn, dataOf}
 use Rattle.access.proofs.Zone.{whole-of}
-use Rattle.find_bay.proofs.Numbers.{sizes-append}
+use Rattle.structure.proofs.Append.{sizes-append}
 use Rattle.release.specs.Release.{Span, SpanIn, span-of}
 use Rattle.release.proofs.Find.{mid-of}
 use Rattle.release.proofs.Act.{act-low, act-high}
@@ -35,14 +39,14 @@ data-slice s v h l =
     let m = mid-of h (start s) (s .blocks) l in
     let d = dataOf h (s .blocks) in
     let o = start s + sizes (m .pre) in
-    let x = 2 * 16384 + (4 + length d) / 2 in
-    let q : 4 + length d + 0 - 4 ≡ length d = omega arith in
-    let part : slice (encode s) o (4 + length d + 0) ≡ (toBE 2 x ++ (toBE 2 h ++ d)) ++ [] = part-bytes s v (m .pre) (reloc h d ∷ []) (m .post) (m .parts) in
+    let x = 2 * typeUnit + (relocHeader + length d) / 2 in
+    let q : relocHeader + length d + 0 - 4 ≡ length d = omega arith in
+    let part : slice (encode s) o (relocHeader + length d + 0) ≡ (toBE 2 x ++ (toBE 2 h ++ d)) ++ [] = part-bytes s v (m .pre) (cell (held (item h d)) ∷ []) (m .post) (m .parts) in
     let two : (toBE 2 x ++ (toBE 2 h ++ d)) ++ [] ≡ (toBE 2 x ++ toBE 2 h) ++ d = simp (append-assoc, append-nil) in
     ap (λ (i : ℕ). slice (encode s) i (length d)) (m .place)
     ∙ ap (take (length d)) (sym (drop-drop 4 o (encode s)))
     ∙ ap (λ (k : ℕ). take k (drop 4 (drop o (encode s)))) (sym q)
-    ∙ sym (drop-take 4 (4 + length d + 0) (drop o (encode s)))
+    ∙ sym (drop-take 4 (relocHeader + length d + 0) (drop o (encode s)))
     ∙ ap (drop 4) (part ∙ two)
     ∙ drop-at (toBE 2 x ++ toBE 2 h) d 4 (omega (arith, length-append (toBE 2 x) (toBE 2 h), length-toBE 2 x, length-toBE 2 h))
 
@@ -55,12 +59,12 @@ span-data s v h from to sp =
     let m = mid-of h 0 (sp .mid) (omega (arith, place-low h 0 (sp .mid) (omega (arith, one)))) in
     let d = dataOf h (sp .mid) in
     let pre = sp .pre ++ m .pre in
-    let all : s .blocks ≡ (sp .pre ++ m .pre) ++ (reloc h d ∷ (m .post ++ sp .post)) = sp .parts ∙ ap (λ (y : List Block). sp .pre ++ (y ++ sp .post)) (m .parts) ∙ (simp append-assoc) in
+    let all : s .blocks ≡ (sp .pre ++ m .pre) ++ (cell (held (item h d)) ∷ (m .post ++ sp .post)) = sp .parts ∙ ap (λ (y : List Block). sp .pre ++ (y ++ sp .post)) (m .parts) ∙ (simp append-assoc) in
     let none : occurs h (handlesOf (sp .pre)) ≡ 0 = omega (arith, handle-once s v h, ap (λ (y : List Block). occurs h (handlesOf y)) (sp .parts), occurs-two h (sp .pre) (sp .mid ++ sp .post), occurs-two h (sp .mid) (sp .post), one) in
     let no-pre : occurs h (handlesOf (sp .pre ++ m .pre)) ≡ 0 = omega (arith, occurs-two h (sp .pre) (m .pre), m .none) in
     let place = ap (placeOf h (start s)) all ∙ place-at h (start s) (sp .pre ++ m .pre) d (m .post ++ sp .post) no-pre in
     let dat = ap (dataOf h) all ∙ data-at h (sp .pre ++ m .pre) d (m .post ++ sp .post) no-pre in
-    let n = ap sizes (m .parts) ∙ sizes-append (m .pre) (reloc h d ∷ m .post) in (
+    let n = ap sizes (m .parts) ∙ sizes-append (m .pre) (cell (held (item h d)) ∷ m .post) in (
       omega (arith, place, sizes-append (sp .pre) (m .pre), sp .is-from),
       omega (arith, place, ap length dat, sizes-append (sp .pre) (m .pre), sp .is-from, sp .is-to, n),
     )

@@ -9,25 +9,28 @@ use lib.ListN.{length, length-replicate}
 use lib.Seq.{take-all}
 use lib.Dec.{eqb}
 use borrow.Author.Tests.{ne-eqb}
+use Rattle.format.specs.Occurs.{occurs}
+use Rattle.block_type.specs.Limits.{largestBlock, masterSize, zoneHeader}
 use Rattle.bigendian.specs.BigEndian.{slice, Bytes}
 use Rattle.format.specs.WellFormed.{wellFormed, zoneOf, lengthField}
-use Rattle.format.proofs.Count.{occurs, one-same}
-use Rattle.structure.specs.Structure.{Block, free, fixed, reloc, Structure, sizes, encodeBlock, count, start, placeOf, join, encode, decode, decodeZone}
+use Rattle.format.proofs.Count.{one-same}
+use Rattle.structure.specs.Structure.{Block, fixed, Structure, sizes, encodeBlock, count, start, placeOf, join, encode, decode, decodeZone, cell}
+use Rattle.bay.specs.Bay.{free, held}
 use Rattle.structure.specs.Valid.{handlesOf, Valid}
 use Rattle.structure.proofs.Round.{length-is, offset-is, heads-self, well-formed, decode-encode}
 use Rattle.access.specs.Edit.{IsZone, is-zone, placeIn, dataIn, dataOf, store}
 use Rattle.row.specs.Row.{bytesOf, Sound}
 use Rattle.row.proofs.Laws.{bytes-long, sound-right}
 use Rattle.find_bay.specs.Spots.{Spot, put, Choice, firstFit, bays, settle, settleIn}
-use Rattle.find_bay.proofs.Numbers.{sizes-append}
+use Rattle.structure.proofs.Append.{sizes-append}
 use Rattle.compact_bay.proofs.Squeeze.{gap-sizes, gap-sound}
 use Rattle.release.specs.Release.{release, Span, SpanIn, span-of}
 use Rattle.surgery.proofs.Sound.{handle-in, valid-sound}
 use Rattle.surgery.proofs.Replace.{sizes-parts}
 use Rattle.surgery.proofs.Carved.{carvedFrom, part-bytes}
 use Rattle.own_bay.proofs.Numbers.{place-low}
-use Rattle.allocate_relocatable.specs.Site.{Fit}
-use Rattle.allocate_relocatable.proofs.Placed.{regroup}
+use Rattle.place.specs.Fit.{Fit}
+use Rattle.resize_move.proofs.Flat.{regroup}
 use Rattle.resize_move.specs.Move.{Apart, below, above, Move, movedBytes}
 use Rattle.resize_move.specs.Relocated.{relocated, OtherBay}
 use Rattle.resize_move.proofs.Moved.{moved-bytes}
@@ -56,16 +59,16 @@ none-rest h k n e = omega arith
 data-none : (h : ℕ) (x b : List Block) → occurs h (handlesOf x) ≡ 0 → dataOf h (x ++ b) ≡ dataOf h b
 unfolding dataOf handlesOf occurs
 data-none h [] b e = refl
-data-none h (free n ∷ x) b e = data-none h x b e
+data-none h (cell (free n) ∷ x) b e = data-none h x b e
 data-none h (fixed d ∷ x) b e = data-none h x b e
-data-none h (reloc k d ∷ x) b e = rw (ne-eqb h k (none-first h k _ e)) (data-none h x b (none-rest h k _ e))
+data-none h (cell (held it) ∷ x) b e = rw (ne-eqb h (it .handle) (none-first h (it .handle) _ e)) (data-none h x b (none-rest h (it .handle) _ e))
 
 data-behind : (h : ℕ) (a x y : List Block) → dataOf h x ≡ dataOf h y → dataOf h (a ++ x) ≡ dataOf h (a ++ y)
 unfolding dataOf
 data-behind h [] x y e = e
-data-behind h (free n ∷ a) x y e = data-behind h a x y e
+data-behind h (cell (free n) ∷ a) x y e = data-behind h a x y e
 data-behind h (fixed d ∷ a) x y e = data-behind h a x y e
-data-behind h (reloc k d ∷ a) x y e = ap (cond (eqb h k) d) (data-behind h a x y e)
+data-behind h (cell (held it) ∷ a) x y e = ap (cond (eqb h (it .handle)) (it .bytes)) (data-behind h a x y e)
 
 pub data-other : (h : ℕ) (p : Spot) (x y : List Block) → occurs h (handlesOf x) ≡ 0 → occurs h (handlesOf y) ≡ 0 → dataOf h (put p x) ≡ dataOf h (put p y)
 data-other h p x y ex ey = data-behind h (p .before) (x ++ p .after) (y ++ p .after) (data-none h x (p .after) ex ∙ sym (data-none h y (p .after) ey))
@@ -73,11 +76,11 @@ data-other h p x y ex ey = data-behind h (p .before) (x ++ p .after) (y ++ p .af
 data-first : (h : ℕ) (x b : List Block) → 0 < occurs h (handlesOf x) → dataOf h (x ++ b) ≡ dataOf h x
 unfolding dataOf handlesOf occurs
 data-first h [] b l = let x : ⊥ = omega arith in absurd x
-data-first h (free n ∷ x) b l = data-first h x b l
+data-first h (cell (free n) ∷ x) b l = data-first h x b l
 data-first h (fixed d ∷ x) b l = data-first h x b l
-data-first h (reloc k d ∷ x) b l = go (eqb h k) l (data-first h x b)
+data-first h (cell (held it) ∷ x) b l = go (eqb h (it .handle)) l (data-first h x b)
   where
-    go : (t : Bool) → 0 < cond t 1 0 + occurs h (handlesOf x) → (0 < occurs h (handlesOf x) → dataOf h (x ++ b) ≡ dataOf h x) → cond t d (dataOf h (x ++ b)) ≡ cond t d (dataOf h x)
+    go : (t : Bool) → 0 < cond t 1 0 + occurs h (handlesOf x) → (0 < occurs h (handlesOf x) → dataOf h (x ++ b) ≡ dataOf h x) → cond t (it .bytes) (dataOf h (x ++ b)) ≡ cond t (it .bytes) (dataOf h x)
     go true l f = refl
     go false l f = f (omega arith)
 
@@ -88,49 +91,47 @@ data-inside h p x e l = data-none h (p .before) (x ++ p .after) e ∙ data-first
 -- ---- the move into the free block of n bytes in the bay p, which has the blocks mid and then r around the hole
 
 module _ (s : Structure) (p q r : Spot) (h b need at n : ℕ) (mid : List Block) (o : OtherBay h need (s .blocks) p q)
-    (v : Valid (record { chain = s .chain; blocks = put p mid })) (none : occurs h (handlesOf mid) ≡ 0) (sz : sizes mid ≡ sizes (p .inside)) (hole : mid ≡ put r (free n ∷ []))
-    (ea : at ≡ start (record { chain = s .chain; blocks = put p mid }) + sizes (p .before) + sizes (r .before)) (fits : need ≤ n) (low : 4 ≤ need) (high : need ≤ 32764) (four : need % 4 ≡ 0)
+    (v : Valid (record { chain = s .chain; blocks = put p mid })) (none : occurs h (handlesOf mid) ≡ 0) (sz : sizes mid ≡ sizes (p .inside)) (hole : mid ≡ put r (cell (free n) ∷ []))
+    (ea : at ≡ start (record { chain = s .chain; blocks = put p mid }) + sizes (p .before) + sizes (r .before)) (fits : need ≤ n) (low : 4 ≤ need) (high : need ≤ largestBlock) (four : need % 4 ≡ 0)
     (live : 0 < occurs h (handlesOf (put p mid))) (eb : b ≡ length (dataOf h (put p mid))) (small : b + 4 ≤ need) (set : settle need h (p .inside) ≡ put r (carvedFrom need h n)) where
   abbrev s₁ : Structure
   s₁ = record { chain = s .chain; blocks = put p mid }
 
-  parts : put p mid ≡ (p .before ++ r .before) ++ ((free n ∷ []) ++ (r .after ++ p .after))
-  parts = ap (put p) hole ∙ regroup (p .before) (r .before) (free n ∷ []) (r .after) (p .after)
+  parts : put p mid ≡ (p .before ++ r .before) ++ ((cell (free n) ∷ []) ++ (r .after ++ p .after))
+  parts = ap (put p) hole ∙ regroup (p .before) (r .before) (cell (free n) ∷ []) (r .after) (p .after)
 
-  sound : Sound ((free n ∷ []) ++ (r .after ++ p .after))
-  sound = sound-right (p .before ++ r .before) ((free n ∷ []) ++ (r .after ++ p .after)) (subst Sound parts (valid-sound s₁ v))
+  sound : Sound ((cell (free n) ∷ []) ++ (r .after ++ p .after))
+  sound = sound-right (p .before ++ r .before) ((cell (free n) ∷ []) ++ (r .after ++ p .after)) (subst Sound parts (valid-sound s₁ v))
 
-  is-master : (16 ≤ h) × (h + 4 ≤ 16 + 4 * count s₁) × (h % 4 ≡ 16 % 4)
-  is-master = offset-is h 16 (count s₁) (handle-in s₁ v h live)
+  is-master : (zoneHeader ≤ h) × (h + 4 ≤ zoneHeader + masterSize * count s₁) × (h % 4 ≡ 16 % 4)
+  is-master = offset-is h zoneHeader (count s₁) (handle-in s₁ v h live)
 
-  one-size : sizes (free n ∷ []) ≡ n
+  one-size : sizes (cell (free n) ∷ []) ≡ n
   unfolding sizes
   one-size = add-zero n
 
-  one-bytes : bytesOf (free n ∷ []) ≡ encodeBlock (free n)
+  one-bytes : bytesOf (cell (free n) ∷ []) ≡ encodeBlock (cell (free n))
   unfolding join
-  one-bytes = append-nil (encodeBlock (free n))
+  one-bytes = append-nil (encodeBlock (cell (free n)))
 
   at-is : at ≡ start s₁ + sizes (p .before ++ r .before)
   at-is = omega (arith, ea, sizes-append (p .before) (r .before))
 
   mid-sizes : sizes (p .inside) ≡ sizes (r .before) + (n + sizes (r .after))
-  mid-sizes = sym sz ∙ ap sizes hole ∙ sizes-parts (r .before) (free n ∷ []) (r .after) ∙ ap (λ (k : ℕ). sizes (r .before) + (k + sizes (r .after))) one-size
+  mid-sizes = sym sz ∙ ap sizes hole ∙ sizes-parts (r .before) (cell (free n) ∷ []) (r .after) ∙ ap (λ (k : ℕ). sizes (r .before) + (k + sizes (r .after))) one-size
 
   fit : Fit (encode s₁) at n need h
+  unfolding encodeBlock
   fit = record {
-    inside = omega (arith, length-is s₁ v, at-is, ap sizes parts, sizes-parts (p .before ++ r .before) (free n ∷ []) (r .after ++ p .after), one-size);
+    inside = omega (arith, length-is s₁ v, at-is, ap sizes parts, sizes-parts (p .before ++ r .before) (cell (free n) ∷ []) (r .after ++ p .after), one-size);
     short = omega (arith, length-is s₁ v, v .short);
-    head = omega (arith, length-is s₁ v);
     below = omega (arith, is-master .1, at-is);
-    low = low;
+    size = record { low = low; high = high; four = four };
     fits = fits;
-    high = high;
-    four = four;
     four-n = sound .0 .1;
     bytes =
-        subst (λ (k : ℕ). slice (encode s₁) at k ≡ encodeBlock (free n)) one-size
-        (ap (λ (i : ℕ). slice (encode s₁) i (sizes (free n ∷ []))) at-is ∙ part-bytes s₁ v (p .before ++ r .before) (free n ∷ []) (r .after ++ p .after) parts ∙ one-bytes);
+        subst (λ (k : ℕ). slice (encode s₁) at k ≡ encodeBlock (cell (free n))) one-size
+        (ap (λ (i : ℕ). slice (encode s₁) i (sizes (cell (free n) ∷ []))) at-is ∙ part-bytes s₁ v (p .before ++ r .before) (cell (free n) ∷ []) (r .after ++ p .after) parts ∙ one-bytes);
   }
 
   long : length (bytesOf (carvedFrom need h n)) ≡ n
@@ -172,7 +173,7 @@ module _ (s : Structure) (p q r : Spot) (h b need at n : ℕ) (mid : List Block)
     pre = q .before ++ r .before;
     post = r .after ++ q .after;
     old = sp;
-    hole = o .swap mid none (v .tiled) ∙ ap (put q) hole ∙ regroup (q .before) (r .before) (free n ∷ []) (r .after) (q .after);
+    hole = o .swap mid none (v .tiled) ∙ ap (put q) hole ∙ regroup (q .before) (r .before) (cell (free n) ∷ []) (r .after) (q .after);
     is-at = omega (arith, ea, sizes-append (q .before) (r .before), o .before);
     apart = away from to sp;
     low = low;

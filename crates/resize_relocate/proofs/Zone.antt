@@ -7,10 +7,12 @@ use native.Mathlib.Omega.{arith}
 use lib.ListN.{length, getD}
 use mir.Val.{Fits}
 use mir.Syntax.{w8}
+use Rattle.format.specs.Occurs.{occurs}
+use Rattle.block_type.specs.Limits.{longestZone}
 use Rattle.bigendian.specs.BigEndian.{slice, Bytes}
 use Rattle.format.proofs.Bool.{not-both}
-use Rattle.format.proofs.Count.{occurs}
-use Rattle.structure.specs.Structure.{Block, free, Structure, sizes, start, encode, decodeZone}
+use Rattle.structure.specs.Structure.{Block, Structure, sizes, start, encode, decodeZone, cell}
+use Rattle.bay.specs.Bay.{free}
 use Rattle.structure.specs.Valid.{handlesOf, Valid}
 use Rattle.structure.proofs.Table.{Whole, encode-zone}
 use Rattle.structure.proofs.Sound.{valid-zone}
@@ -26,9 +28,9 @@ use Rattle.surgery.proofs.Sound.{valid-sound, valid-low, low-append, low-left}
 use Rattle.surgery.proofs.Replace.{sizes-parts}
 use Rattle.surgery.proofs.Carved.{carvedFrom, part-bytes}
 use Rattle.surgery.proofs.Spots.{IsBay, bay-is, hole-is, bay-tidied, bay-valid, bay-start}
-use Rattle.call_laws.proofs.Plan.{bytes-of}
-use Rattle.allocate_relocatable.specs.Site.{HoleOf, there, made}
-use Rattle.allocate_relocatable.proofs.Placed.{gap-some, settle-there, settle-made}
+use Rattle.access.proofs.Checked.{bytes-of}
+use Rattle.resize_move.specs.Hole.{HoleOf, there, made}
+use Rattle.resize_move.proofs.Flat.{gap-some, settle-there, settle-made}
 use Rattle.resize_layout.proofs.Parts.{occurs-two, low-more}
 use Rattle.resize_move.specs.Relocated.{relocated, OtherBay}
 use Rattle.resize_relocate.specs.Carry.{CarryIn, Carried, carried, Relocate, RelocateIn, relocate-in}
@@ -64,8 +66,8 @@ module _ (s : Structure) (v : Valid s) (h b need a e at n : ℕ) (t : Bool) (x :
     v₀ : Valid s₀
     v₀ = subst Valid same v
 
-    hole₀ : mid ≡ put r (free n ∷ [])
-    hole₀ = let k = hole-is need mid r er .0 in k .parts ∙ ap (put r) (k .one ∙ ap (λ (i : ℕ). free i ∷ []) (sym en))
+    hole₀ : mid ≡ put r (cell (free n) ∷ [])
+    hole₀ = let k = hole-is need mid r er .0 in k .parts ∙ ap (put r) (k .one ∙ ap (λ (i : ℕ). cell (free i) ∷ []) (sym en))
 
     at₀ : at ≡ start s₀ + sizes (p .before) + sizes (r .before)
     at₀ = omega (arith, ea, x .is-start, ap (λ (u : Structure). start u) same)
@@ -98,7 +100,7 @@ module _ (s : Structure) (v : Valid s) (h b need a e at n : ℕ) (t : Bool) (x :
   -- after compacting
   module _ (er : firstFit need (holes mid) ≡ none) (en : n ≡ freeTotal mid) (ea : at + n ≡ a + sizes mid) where
     abbrev r₁ : Spot
-    r₁ = spot (used mid) (free n ∷ []) []
+    r₁ = spot (used mid) (cell (free n) ∷ []) []
 
     abbrev s₁ : Structure
     s₁ = record { chain = s .chain; blocks = put p (squeeze mid) }
@@ -109,7 +111,7 @@ module _ (s : Structure) (v : Valid s) (h b need a e at n : ℕ) (t : Bool) (x :
     fits₁ : need ≤ n
     fits₁ = omega (arith, enough)
 
-    hole₁ : squeeze mid ≡ put r₁ (free n ∷ [])
+    hole₁ : squeeze mid ≡ put r₁ (cell (free n) ∷ [])
     unfolding squeeze
     hole₁ = ap (λ (k : List Block). used mid ++ k) (ap gapOf (sym en) ∙ gap-some n (omega (arith, fits₁, x .low)))
 
@@ -212,7 +214,7 @@ module _ (z : List ℕ) (h b need a e at n : ℕ) (t : Bool) (x : RelocateIn z h
   pub ask-end : e ≤ length z
   ask-end = subst (λ (y : List ℕ). e ≤ length y) is-z (end-in u vu h b need a e at n t here)
 
-  pub ask-limit : length z ≤ 1048576
+  pub ask-limit : length z ≤ longestZone
   ask-limit = omega (arith, w .limit, w .all)
 
   pub ask-row : Row (slice z a (e - a))

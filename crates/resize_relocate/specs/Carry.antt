@@ -4,6 +4,7 @@ use mathlib.Core.List.{List}
 use mathlib.Core.Bool.{Bool}
 use Prim.Native.Nat.{ℕ, _+_, _%_, _<_, _≤_}
 use lib.ListN.{length}
+use Rattle.block_type.specs.Limits.{largestBlock}
 use Rattle.format.specs.Occurs.{occurs}
 use Rattle.structure.specs.Structure.{Structure, sizes, start, decodeZone}
 use Rattle.structure.specs.Valid.{handlesOf}
@@ -12,7 +13,8 @@ use Rattle.row.specs.Row.{bytesOf}
 use Rattle.find_bay.specs.Spots.{Spot, some, bays, firstFit}
 use Rattle.release.specs.Release.{SpanIn}
 use Rattle.surgery.specs.Carved.{carvedFrom}
-use Rattle.allocate_relocatable.specs.Site.{Fit, HoleOf}
+use Rattle.place.specs.Fit.{Fit}
+use Rattle.resize_move.specs.Hole.{HoleOf}
 use Rattle.resize_move.specs.Move.{Apart, movedBytes}
 use Rattle.resize_move.specs.Relocated.{OtherBay}
 
@@ -42,7 +44,7 @@ pub record Relocate (s : Structure) (h b need a e at n : ℕ) (tidy : Bool) : Ty
   pub is-end : e ≡ a + sizes (bay .inside)
   pub hole : HoleOf (bay .inside) need a at n tidy
   pub low : 4 ≤ need
-  pub high : need ≤ 32764
+  pub high : need ≤ largestBlock
   pub four : need % 4 ≡ 0
   pub live : 0 < occurs h (handlesOf (s .blocks))
   pub is-b : b ≡ length (dataOf h (s .blocks))

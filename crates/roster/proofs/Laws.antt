@@ -11,6 +11,7 @@ use lib.ListN.{length, getD, take, drop, length-append}
 use lib.Seq.{drop-at}
 use mir.Val.{Fits}
 use mir.Syntax.{w8, w32}
+use Rattle.block_type.specs.Limits.{masterSize, zoneHeader}
 use Rattle.bigendian.specs.BigEndian.{fromBE, toBE, slice, overwrite, Bytes}
 use Rattle.bigendian.proofs.Laws.{length-toBE, be-toBE}
 use Rattle.memory.proofs.Writes.{write-none}
@@ -21,15 +22,15 @@ use Rattle.access.specs.Edit.{placeIn, dataIn, IsZone, is-zone}
 use Rattle.access.proofs.Zone.{whole-of}
 use Rattle.access.proofs.PutLaws.{data-fits}
 use Rattle.access.proofs.Size.{size-none}
-use Rattle.release.proofs.Act.{len-write, write-write}
+use Rattle.bigendian.proofs.Overwrite.{len-write, write-write}
 use Rattle.calls.specs.Calls.{Card, Answer, roster, shows, lists}
 use Rattle.zone.specs.Call.{call}
 use Rattle.calls.specs.Bays.{Bays}
-use Rattle.zone.specs.Bay.{Cell}
+use Rattle.bay.specs.Bay.{Cell}
 use Rattle.calls.specs.State.{Fixed}
 use Rattle.zone.specs.Group.{group}
 use Rattle.zone.specs.Roster.{cardBytes, cardsIn}
-use Rattle.tell.proofs.Opened.{well, fields-of}
+use Rattle.access.proofs.Checked.{is-well, fields-of}
 use Rattle.tell.proofs.CheckLaws.{count-live, count-blocks, count-few}
 use Rattle.roster.specs.Listed.{Rostered, cardOf, cardsOf, allCards, Entered, Planned, refused, ready}
 use Rattle.roster.proofs.Order.{length-cards, bayCards, cards-are, all-order}
@@ -109,7 +110,7 @@ module _ (z : List ℕ) (h p : ℕ) (e : p ≡ placeIn z h) where
 
 -- ---- all records
 
-offsets-next : (h left : ℕ) → 0 < left → offsets h left ≡ h ∷ offsets (h + 4) (left - 1)
+offsets-next : (h left : ℕ) → 0 < left → offsets h left ≡ h ∷ offsets (h + masterSize) (left - 1)
 unfolding offsets
 offsets-next h zero l = let x : ⊥ = omega arith in absurd x
 offsets-next h (suc n) l = let e : suc n - 1 ≡ n = omega arith in rw e
@@ -124,17 +125,17 @@ cards-more z hs h = go (eqb (placeIn z h) 0)
 
 module _ (z : List ℕ) (at h left n : ℕ) where
   pub fill-first : 0 < left → at + 8 * length (cardsOf z (offsets h left)) ≤ n → at + 8 * length (cardsOf z (h ∷ [])) ≤ n
-  fill-first l m = omega (arith, rw (offsets-next h left l) at m, cards-more z (offsets (h + 4) (left - 1)) h)
+  fill-first l m = omega (arith, rw (offsets-next h left l) at m, cards-more z (offsets (h + masterSize) (left - 1)) h)
 
 module _ (z s y : List ℕ) (at h left r : ℕ) (t : Entered z s at h y r) (l : 0 < left) (m : at + 8 * length (cardsOf z (offsets h left)) ≤ length s) where
-  m′ : at + 8 * length (cardsOf z (h ∷ offsets (h + 4) (left - 1))) ≤ length s
+  m′ : at + 8 * length (cardsOf z (h ∷ offsets (h + masterSize) (left - 1))) ≤ length s
   m′ = rw (offsets-next h left l) at m
 
-  pub fill-room : r + 8 * length (cardsOf z (offsets (h + 4) (left - 1))) ≤ length y
-  fill-room = omega (arith, m′, t .long, t .left (offsets (h + 4) (left - 1)))
+  pub fill-room : r + 8 * length (cardsOf z (offsets (h + masterSize) (left - 1))) ≤ length y
+  fill-room = omega (arith, m′, t .long, t .left (offsets (h + masterSize) (left - 1)))
 
-  pub fill-step : (w : List ℕ) → overwrite s at (cardBytes (cardsOf z (offsets h left))) ≡ w → overwrite y r (cardBytes (cardsOf z (offsets (h + 4) (left - 1)))) ≡ w
-  fill-step w inv = t .same (offsets (h + 4) (left - 1)) m′ ∙ (rw (offsets-next h left l) at inv)
+  pub fill-step : (w : List ℕ) → overwrite s at (cardBytes (cardsOf z (offsets h left))) ≡ w → overwrite y r (cardBytes (cardsOf z (offsets (h + masterSize) (left - 1)))) ≡ w
+  fill-step w inv = t .same (offsets (h + masterSize) (left - 1)) m′ ∙ (rw (offsets-next h left l) at inv)
 
 pub fill-done : (z s : List ℕ) (at h left : ℕ) (w : List ℕ) → left ≤ 0 → overwrite s at (cardBytes (cardsOf z (offsets h left))) ≡ w → s ≡ w
 unfolding offsets cardsOf
@@ -142,15 +143,15 @@ fill-done z s at h zero w l inv = sym (write-none s at) ∙ inv
 fill-done z s at h (suc n) w l inv = let x : ⊥ = omega arith in absurd x
 
 module _ (z : List ℕ) (left : ℕ) (e : left ≡ fromBE (slice z 8 4)) where
-  pub start-bytes : (s : List ℕ) → overwrite s 0 (cardBytes (cardsOf z (offsets 16 left))) ≡ overwrite s 0 (cardBytes (allCards z))
+  pub start-bytes : (s : List ℕ) → overwrite s 0 (cardBytes (cardsOf z (offsets zoneHeader left))) ≡ overwrite s 0 (cardBytes (allCards z))
   unfolding allCards
   start-bytes s = rw e
 
-  pub start-room : (n : ℕ) → 8 * length (allCards z) ≤ n → 0 + 8 * length (cardsOf z (offsets 16 left)) ≤ n
+  pub start-room : (n : ℕ) → 8 * length (allCards z) ≤ n → 0 + 8 * length (cardsOf z (offsets zoneHeader left)) ≤ n
   unfolding allCards
   start-room n l = rw e (omega arith)
 
-  pub start-masters : IsZone z → 16 + 4 * left ≤ 32768
+  pub start-masters : IsZone z → zoneHeader + masterSize * left ≤ 32768
   start-masters i = omega (arith, whole-of z i .few)
 
 pub get-masters : (z : List ℕ) → IsZone z → 8 + 4 ≤ length z
@@ -175,13 +176,13 @@ plan-1 s have ok e q = refused (λ x. omega arith) (λ entry l. rw (← e, not-t
 
 module _ (s : List ℕ) (have n : ℕ) (ok : Bool) (e : ok ≡ wellFormed s) (q : not ok ≡ false) (y : (i : ℕ) → Fits w8 (getD s i 0)) (en : n ≡ countOf s) where
   pub plan-10 : have / 8 < n → Planned s have 10 0 0
-  plan-10 l = refused (λ x. omega arith) (λ entry k. sym (too-short s (λ j. y j .fits) (well s ok e q) entry (omega arith)))
+  plan-10 l = refused (λ x. omega arith) (λ entry k. sym (too-short s (λ j. y j .fits) (is-well s ok e q) entry (omega arith)))
 
   pub count-word : Fits w32 n
-  count-word = record { fits = omega (arith, count-few s (λ j. y j .fits) (well s ok e q)) }
+  count-word = record { fits = omega (arith, count-few s (λ j. y j .fits) (is-well s ok e q)) }
 
   pub plan-0 : (l : ℕ) → n ≤ have / 8 → l ≡ fromBE (slice s 0 4) → Planned s have 0 n l
-  plan-0 l k el = ready refl (well s ok e q) (λ j. y j .fits) el en (omega arith)
+  plan-0 l k el = ready refl (is-well s ok e q) (λ j. y j .fits) el en (omega arith)
 
 -- ---- the call
 
@@ -230,18 +231,18 @@ cards-back (c ∷ cs) t m =
     (ap₂ (λ (h n : ℕ). record { handle = h; amount = n }) (be-toBE 4 (c .handle) (m .0)) (be-toBE 4 (c .amount) (m .1)))
     (cards-back cs t (m .2))
 
-cards-small : (z : List ℕ) → IsZone z → (k n : ℕ) → k + 4 * n ≤ 4294967296 → Small (cardsOf z (offsets k n))
+cards-small : (z : List ℕ) → IsZone z → (k n : ℕ) → k + masterSize * n ≤ 4294967296 → Small (cardsOf z (offsets k n))
 unfolding cardsOf offsets
 cards-small z i k zero l = tt
-cards-small z i k (suc n) l = go (eqb (placeIn z k) 0) (cards-small z i (k + 4) n (omega arith))
+cards-small z i k (suc n) l = go (eqb (placeIn z k) 0) (cards-small z i (k + masterSize) n (omega arith))
   where
-    go : (t : Bool) → Small (cardsOf z (offsets (k + 4) n)) → Small (cond t (cardsOf z (offsets (k + 4) n)) (cardOf k (dataIn z k) ∷ cardsOf z (offsets (k + 4) n)))
+    go : (t : Bool) → Small (cardsOf z (offsets (k + masterSize) n)) → Small (cond t (cardsOf z (offsets (k + masterSize) n)) (cardOf k (dataIn z k) ∷ cardsOf z (offsets (k + masterSize) n)))
     go true m = m
     go false m = (omega arith, data-small z k i, m)
 
 all-small : (z : List ℕ) → IsZone z → Small (allCards z)
 unfolding allCards
-all-small z i = cards-small z i 16 (mastersField z) (omega (arith, whole-of z i .few))
+all-small z i = cards-small z i zoneHeader (mastersField z) (omega (arith, whole-of z i .few))
 
 from-start : (s b : List ℕ) → overwrite s 0 b ≡ b ++ drop (length b) s
 from-start s b = rw zero-add

@@ -8,9 +8,11 @@ use native.Mathlib.Decide.{ℕ-discrete}
 use lib.Dec.{eqb}
 use borrow.Author.Tests.{eq-eqb, ne-eqb}
 use lib.ListN.{length}
+use Rattle.format.specs.Occurs.{occurs}
+use Rattle.block_type.specs.Limits.{fixedHeader, relocHeader, zoneHeader}
 use Rattle.format.specs.WellFormed.{mastersField, offsets}
-use Rattle.format.proofs.Count.{occurs, one-same, one-other}
-use Rattle.structure.specs.Structure.{Block, free, fixed, reloc, start, placeOf, relocCount, decodeZone}
+use Rattle.format.proofs.Count.{one-same, one-other}
+use Rattle.structure.specs.Structure.{Block, fixed, start, placeOf, relocCount, decodeZone, cell}
 use Rattle.structure.specs.Valid.{handlesOf, Valid}
 use Rattle.structure.proofs.Round.{place-none, offset-le}
 use Rattle.structure.proofs.Sound.{valid-zone}
@@ -19,8 +21,9 @@ use Rattle.access.specs.Edit.{dataOf, placeIn, dataIn, IsZone}
 use Rattle.access.proofs.Zone.{whole-of}
 use Rattle.calls.specs.Calls.{Card}
 use Rattle.calls.specs.Bays.{Bays, last, more, concatS}
-use Rattle.calls.specs.State.{Item, Fixed, card}
-use Rattle.zone.specs.Bay.{Cell, free as gapCell, held, items}
+use Rattle.kinds.specs.Kinds.{Item, item}
+use Rattle.calls.specs.State.{Fixed, card}
+use Rattle.bay.specs.Bay.{Cell, free, held, items}
 use Rattle.zone.specs.Group.{inFront, group}
 use Rattle.roster.specs.Listed.{cardOf, cardsOf, allCards}
 
@@ -28,22 +31,22 @@ use Rattle.roster.specs.Listed.{cardOf, cardsOf, allCards}
 
 unfoldable pub blockCards : List Block → List Card
 blockCards [] = []
-blockCards (free n ∷ bs) = blockCards bs
+blockCards (cell (free n) ∷ bs) = blockCards bs
 blockCards (fixed d ∷ bs) = blockCards bs
-blockCards (reloc h d ∷ bs) = cardOf h d ∷ blockCards bs
+blockCards (cell (held it) ∷ bs) = cardOf (it .handle) (it .bytes) ∷ blockCards bs
 
 pub length-cards : (bs : List Block) → length (blockCards bs) ≡ relocCount bs
 unfolding blockCards relocCount
 length-cards [] = refl
-length-cards (free n ∷ bs) = length-cards bs
+length-cards (cell (free n) ∷ bs) = length-cards bs
 length-cards (fixed d ∷ bs) = length-cards bs
-length-cards (reloc h d ∷ bs) = ap suc (length-cards bs)
+length-cards (cell (held it) ∷ bs) = ap suc (length-cards bs)
 
 -- the records of the bays
 abbrev pub bayCards : Bays (List Cell) Fixed → List Card
 bayCards s = concatS (λ (b : List Cell). map card (items b)) s
 
-cards-gap : (n : ℕ) (s : Bays (List Cell) Fixed) → bayCards (inFront (gapCell n) s) ≡ bayCards s
+cards-gap : (n : ℕ) (s : Bays (List Cell) Fixed) → bayCards (inFront (free n) s) ≡ bayCards s
 cards-gap n (last b) = refl
 cards-gap n (more b x s) = refl
 
@@ -54,9 +57,9 @@ cards-held e (more b x s) = refl
 pub cards-are : (p : ℕ) (bs : List Block) → blockCards bs ≡ bayCards (group p bs)
 unfolding blockCards
 cards-are p [] = refl
-cards-are p (free n ∷ bs) = cards-are (p + n) bs ∙ sym (cards-gap n (group (p + n) bs))
-cards-are p (fixed d ∷ bs) = cards-are (p + (2 + length d)) bs
-cards-are p (reloc h d ∷ bs) = ap (cardOf h d ∷_) (cards-are (p + (4 + length d)) bs) ∙ sym (cards-held (record { handle = h; bytes = d }) (group (p + (4 + length d)) bs))
+cards-are p (cell (free n) ∷ bs) = cards-are (p + n) bs ∙ sym (cards-gap n (group (p + n) bs))
+cards-are p (fixed d ∷ bs) = cards-are (p + (fixedHeader + length d)) bs
+cards-are p (cell (held it) ∷ bs) = ap (cardOf (it .handle) (it .bytes) ∷_) (cards-are (p + (relocHeader + length (it .bytes))) bs) ∙ sym (cards-held (record { handle = (it .handle); bytes = (it .bytes) }) (group (p + (relocHeader + length (it .bytes))) bs))
 
 -- ---- in the order of some handles
 
@@ -69,56 +72,56 @@ unfolding cardsAt placeOf
 none-at [] at = refl
 none-at (h ∷ hs) at = none-at hs at
 
-free-at : (hs : List ℕ) (n at : ℕ) (bs : List Block) → cardsAt hs at (free n ∷ bs) ≡ cardsAt hs (at + n) bs
+free-at : (hs : List ℕ) (n at : ℕ) (bs : List Block) → cardsAt hs at (cell (free n) ∷ bs) ≡ cardsAt hs (at + n) bs
 unfolding cardsAt placeOf dataOf
 free-at [] n at bs = refl
 free-at (h ∷ hs) n at bs = rw (free-at hs n at bs)
 
-fixed-at : (hs d : List ℕ) (at : ℕ) (bs : List Block) → cardsAt hs at (fixed d ∷ bs) ≡ cardsAt hs (at + (2 + length d)) bs
+fixed-at : (hs d : List ℕ) (at : ℕ) (bs : List Block) → cardsAt hs at (fixed d ∷ bs) ≡ cardsAt hs (at + (fixedHeader + length d)) bs
 unfolding cardsAt placeOf dataOf
 fixed-at [] d at bs = refl
 fixed-at (h ∷ hs) d at bs = rw (fixed-at hs d at bs)
 
 module _ (k : ℕ) (d : List ℕ) (at : ℕ) (bs : List Block) where
   -- a block of another handle
-  other-at : (hs : List ℕ) → occurs k hs ≡ 0 → cardsAt hs at (reloc k d ∷ bs) ≡ cardsAt hs (at + (4 + length d)) bs
+  other-at : (hs : List ℕ) → occurs k hs ≡ 0 → cardsAt hs at (cell (held (item k d)) ∷ bs) ≡ cardsAt hs (at + (relocHeader + length d)) bs
   unfolding cardsAt placeOf dataOf occurs
   other-at [] e = refl
   other-at (h ∷ hs) e =
       rw (ne-eqb h k (λ q. omega (arith, one-same k h (sym q))), other-at hs (omega arith))
 
   -- a block of one of the handles
-  reloc-at : (hs : List ℕ) → occurs k hs ≡ 1 → placeOf k (at + (4 + length d)) bs ≡ 0 → List·Permᴰ (cardsAt hs at (reloc k d ∷ bs)) (cardOf k d ∷ cardsAt hs (at + (4 + length d)) bs)
+  reloc-at : (hs : List ℕ) → occurs k hs ≡ 1 → placeOf k (at + (relocHeader + length d)) bs ≡ 0 → List·Permᴰ (cardsAt hs at (cell (held (item k d)) ∷ bs)) (cardOf k d ∷ cardsAt hs (at + (relocHeader + length d)) bs)
   unfolding cardsAt placeOf dataOf occurs
   reloc-at [] e z = let x : ⊥ = omega arith in absurd x
   reloc-at (h ∷ hs) e z = go (ℕ-discrete h k) (reloc-at hs)
     where
-      swapped : (t : Bool) → List·Permᴰ (cardsAt hs at (reloc k d ∷ bs)) (cardOf k d ∷ cardsAt hs (at + (4 + length d)) bs)
-          → List·Permᴰ (cond t (cardsAt hs at (reloc k d ∷ bs)) (cardOf h (dataOf h bs) ∷ cardsAt hs at (reloc k d ∷ bs)))
-          (cardOf k d ∷ cond t (cardsAt hs (at + (4 + length d)) bs) (cardOf h (dataOf h bs) ∷ cardsAt hs (at + (4 + length d)) bs))
+      swapped : (t : Bool) → List·Permᴰ (cardsAt hs at (cell (held (item k d)) ∷ bs)) (cardOf k d ∷ cardsAt hs (at + (relocHeader + length d)) bs)
+          → List·Permᴰ (cond t (cardsAt hs at (cell (held (item k d)) ∷ bs)) (cardOf h (dataOf h bs) ∷ cardsAt hs at (cell (held (item k d)) ∷ bs)))
+          (cardOf k d ∷ cond t (cardsAt hs (at + (relocHeader + length d)) bs) (cardOf h (dataOf h bs) ∷ cardsAt hs (at + (relocHeader + length d)) bs))
       swapped true r = r
       swapped false r = List·Permᴰ·trans (List·Permᴰ·cons refl r) (List·Permᴰ·swap refl refl)
 
-      go : Dec (h ≡ k) → (occurs k hs ≡ 1 → placeOf k (at + (4 + length d)) bs ≡ 0 → List·Permᴰ (cardsAt hs at (reloc k d ∷ bs)) (cardOf k d ∷ cardsAt hs (at + (4 + length d)) bs))
-          → List·Permᴰ (cardsAt (h ∷ hs) at (reloc k d ∷ bs)) (cardOf k d ∷ cardsAt (h ∷ hs) (at + (4 + length d)) bs)
+      go : Dec (h ≡ k) → (occurs k hs ≡ 1 → placeOf k (at + (relocHeader + length d)) bs ≡ 0 → List·Permᴰ (cardsAt hs at (cell (held (item k d)) ∷ bs)) (cardOf k d ∷ cardsAt hs (at + (relocHeader + length d)) bs))
+          → List·Permᴰ (cardsAt (h ∷ hs) at (cell (held (item k d)) ∷ bs)) (cardOf k d ∷ cardsAt (h ∷ hs) (at + (relocHeader + length d)) bs)
       go (yes q) r =
-          let z′ : placeOf h (at + (4 + length d)) bs ≡ 0 = rw q z in
-          rw (eq-eqb h k q, ne-eqb (at + 4) 0 (λ x. omega arith), z′, other-at hs (omega (arith, one-same k h (sym q)))) (List·Permᴰ·cons (ap (λ (x : ℕ). cardOf x d) q) (Permᴰ·refl _))
-      go (no q) r = rw (ne-eqb h k q) (swapped (eqb (placeOf h (at + (4 + length d)) bs) 0) (r (omega (arith, one-other k h (λ p. q (sym p)))) z))
+          let z′ : placeOf h (at + (relocHeader + length d)) bs ≡ 0 = rw q z in
+          rw (eq-eqb h k q, ne-eqb (at + relocHeader) 0 (λ x. omega arith), z′, other-at hs (omega (arith, one-same k h (sym q)))) (List·Permᴰ·cons (ap (λ (x : ℕ). cardOf x d) q) (Permᴰ·refl _))
+      go (no q) r = rw (ne-eqb h k q) (swapped (eqb (placeOf h (at + (relocHeader + length d)) bs) 0) (r (omega (arith, one-other k h (λ p. q (sym p)))) z))
 
 -- each block's handle is one of the handles, which are all different
 in-order : (hs : List ℕ) → ((h : ℕ) → occurs h hs ≤ 1) → (at : ℕ) (bs : List Block) → ((h : ℕ) → occurs h (handlesOf bs) ≤ occurs h hs) → List·Permᴰ (cardsAt hs at bs) (blockCards bs)
 unfolding blockCards handlesOf occurs
 in-order hs f at [] g = rw none-at List·Permᴰ·nil
-in-order hs f at (free n ∷ bs) g = rw (free-at hs n at bs) (in-order hs f (at + n) bs g)
-in-order hs f at (fixed d ∷ bs) g = rw (fixed-at hs d at bs) (in-order hs f (at + (2 + length d)) bs g)
-in-order hs f at (reloc k d ∷ bs) g =
-    let a = g k in
-    let b = f k in
-    let s = one-same k k refl in
+in-order hs f at (cell (free n) ∷ bs) g = rw (free-at hs n at bs) (in-order hs f (at + n) bs g)
+in-order hs f at (fixed d ∷ bs) g = rw (fixed-at hs d at bs) (in-order hs f (at + (fixedHeader + length d)) bs g)
+in-order hs f at (cell (held it) ∷ bs) g =
+    let a = g (it .handle) in
+    let b = f (it .handle) in
+    let s = one-same (it .handle) (it .handle) refl in
     List·Permᴰ·trans
-    (reloc-at k d at bs hs (omega arith) (place-none k (at + (4 + length d)) bs (omega arith)))
-    (List·Permᴰ·cons refl (in-order hs f (at + (4 + length d)) bs (λ h. omega (arith, g h))))
+    (reloc-at (it .handle) (it .bytes) at bs hs (omega arith) (place-none (it .handle) (at + (relocHeader + length (it .bytes))) bs (omega arith)))
+    (List·Permᴰ·cons refl (in-order hs f (at + (relocHeader + length (it .bytes))) bs (λ h. omega (arith, g h))))
 
 -- ---- of a zone
 
@@ -133,5 +136,5 @@ module _ (z : List ℕ) (i : IsZone z) where
   all-order =
       let v : Valid (decodeZone z) = valid-zone z (whole-of z i) in
       rw at-zone
-      (in-order (offsets 16 (mastersField z)) (λ h. offset-le h 16 (mastersField z)) (start (decodeZone z)) (decodeZone z .blocks)
-      (λ h. omega (arith, v .owned h, ap (λ (n : ℕ). occurs h (offsets 16 n)) (count-is z (whole-of z i)))))
+      (in-order (offsets zoneHeader (mastersField z)) (λ h. offset-le h zoneHeader (mastersField z)) (start (decodeZone z)) (decodeZone z .blocks)
+      (λ h. omega (arith, v .owned h, ap (λ (n : ℕ). occurs h (offsets zoneHeader n)) (count-is z (whole-of z i)))))

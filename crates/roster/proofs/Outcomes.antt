@@ -6,11 +6,13 @@ use Prim.Native.Nat.{ℕ, _+_, _*_, _≤_}
 use native.Mathlib.Omega.{arith}
 use lib.Dec.{leb}
 use lib.ListN.{length}
+use Rattle.format.specs.Occurs.{occurs}
 use Rattle.bigendian.specs.BigEndian.{Bytes}
-use Rattle.block_type.specs.Limits.{recordSize}
+use Rattle.block_type.specs.Limits.{recordSize, zoneHeader}
 use Rattle.format.specs.WellFormed.{wellFormed}
-use Rattle.format.proofs.Count.{one, occurs}
-use Rattle.structure.specs.Structure.{Block, free, fixed, reloc, start, count, decode}
+use Rattle.format.proofs.Count.{one}
+use Rattle.structure.specs.Structure.{Block, fixed, start, count, decode, cell}
+use Rattle.bay.specs.Bay.{free, held}
 use Rattle.structure.specs.Valid.{handlesOf}
 use Rattle.structure.proofs.Sound.{valid}
 use Rattle.structure.proofs.Round.{offset-le}
@@ -39,9 +41,9 @@ entries-perm h (List·Permᴰ·trans p q) = entries-perm h p ∙ entries-perm h 
 entries-blocks : (h : ℕ) (bs : List Block) → entries h (blockCards bs) ≡ occurs h (handlesOf bs)
 unfolding entries blockCards occurs handlesOf
 entries-blocks h [] = refl
-entries-blocks h (free n ∷ bs) = entries-blocks h bs
+entries-blocks h (cell (free n) ∷ bs) = entries-blocks h bs
 entries-blocks h (fixed d ∷ bs) = entries-blocks h bs
-entries-blocks h (reloc k d ∷ bs) = ap (one h k +_) (entries-blocks h bs)
+entries-blocks h (cell (held it) ∷ bs) = ap (one h (it .handle) +_) (entries-blocks h bs)
 
 -- whether the second buffer has room for the records
 abbrev hasRoom : List ℕ → List ℕ → Bool
@@ -61,7 +63,7 @@ pub entries-are : (zone entry exit : List ℕ) (v : ℕ) → Bytes zone → well
     → (h : ℕ) → (entries h (cardsIn v exit) ≡ occurs h (handlesOf (decode zone .blocks))) × (entries h (cardsIn v exit) ≤ 1)
 entries-are zone entry exit v y w r h =
     let e = entries-perm h (r .records) ∙ ap (entries h) (records-are zone entry w (r .number)) ∙ entries-blocks h (decode zone .blocks) in
-    (e, omega (arith, e, valid zone y w .owned h, offset-le h 16 (count (decode zone))))
+    (e, omega (arith, e, valid zone y w .owned h, offset-le h zoneHeader (count (decode zone))))
 
 -- ---- the promise of a call
 

@@ -6,7 +6,7 @@ use Prim.Native.Nat.{ℕ, _+_, _*_, _≤_}
 use lib.ListN.{length, drop}
 use lib.Dec.{eqb}
 use Rattle.bigendian.specs.BigEndian.{overwrite, Bytes}
-use Rattle.block_type.specs.Limits.{recordSize}
+use Rattle.block_type.specs.Limits.{recordSize, zoneHeader}
 use Rattle.format.specs.WellFormed.{wellFormed, countOf, lengthField, mastersField, offsets}
 use Rattle.access.specs.Edit.{placeIn, dataIn}
 use Rattle.calls.specs.Calls.{Card, roster, shows}
@@ -32,7 +32,7 @@ cardsOf z [] = []
 cardsOf z (h ∷ hs) = cond (eqb (placeIn z h) 0) (cardsOf z hs) (cardOf h (dataIn z h) ∷ cardsOf z hs)
 
 unfoldable pub allCards : List ℕ → List Card
-allCards z = cardsOf z (offsets 16 (mastersField z))
+allCards z = cardsOf z (offsets zoneHeader (mastersField z))
 
 -- the buffer y, with the next record at r, is the buffer s after the record of handle h at `at`, if h is live
 pub record Entered (z s : List ℕ) (at h : ℕ) (y : List ℕ) (r : ℕ) : Type 0 where

@@ -1,35 +1,38 @@
 -- The laws of stretches.
 use mathlib.Core.Path.{_≡_, refl, sym, ap, ap₂, _∙_}
 use mathlib.Core.List.{List, [], _∷_, _++_, map, append-assoc}
-use Prim.Native.Nat.{ℕ, _+_, _-_, _%_, _<_, _≤_}
+use Prim.Native.Nat.{ℕ, _+_, _%_, _<_, _≤_}
 use native.Mathlib.Omega.{arith}
 use lib.ListN.{length, take, drop, length-append, length-drop, drop-of-length-le}
 use lib.Seq.{drop-drop, take-at, drop-at}
+use Rattle.block_type.specs.Limits.{relocHeader, smallestBlock}
 use Rattle.format.specs.WellFormed.{typeOf, sizeOf, handleOf}
 use Rattle.format.proofs.Walk.{blocks-cons, blocks-nil, kind-take, size-take, handle-take}
-use Rattle.structure.specs.Structure.{Block, free, fixed, reloc, size, sizes, encodeBlock, decodeBlock, join}
-use Rattle.structure.proofs.Back.{Enc, enc-free, enc-fixed, enc-reloc, kind-free, kind-fixed, kind-reloc}
+use Rattle.structure.specs.Structure.{Block, fixed, size, sizes, encodeBlock, decodeBlock, join, cell}
+use Rattle.kinds.specs.Kinds.{item}
+use Rattle.bay.specs.Bay.{free, held}
+use Rattle.structure.proofs.Back.{Enc, enc-cell, enc-fixed, kind-free, kind-fixed, kind-reloc}
 use Rattle.row.specs.Row.{blocksOf, bytesOf, kindB, Sound1, Sound, Row, row, blockAt, Stepped}
 
 pub enc-of : (b : Block) → Sound1 b → Enc b
-enc-of (free n) s = enc-free n (s .0) (s .1) (s .2)
+enc-of (cell (free n)) s = enc-cell (free n) s
 enc-of (fixed d) s = enc-fixed d (s .0) (s .1)
-enc-of (reloc h d) s = enc-reloc h d (s .0) (s .1) (s .2)
+enc-of (cell (held it)) s = enc-cell (held it) (omega (arith, s .0), omega (arith, s .1), s .2)
 
 kind-of : (b : Block) → Sound1 b → typeOf (encodeBlock b) ≡ kindB b
-kind-of (free n) s = kind-free n (s .2)
+kind-of (cell (free n)) s = kind-free n (s .2)
 kind-of (fixed d) s = kind-fixed d (s .1)
-kind-of (reloc h d) s = kind-reloc h d (s .1)
+kind-of (cell (held it)) s = kind-reloc (it .handle) (it .bytes) (s .1)
 
-pub low-of : (b : Block) → Sound1 b → (4 ≤ size b) × (size b % 4 ≡ 0)
-low-of (free n) s = (s .0, s .1)
+pub low-of : (b : Block) → Sound1 b → (smallestBlock ≤ size b) × (size b % 4 ≡ 0)
+low-of (cell (free n)) s = (s .0, s .1)
 low-of (fixed d) s = (omega (arith, s .0), s .0)
-low-of (reloc h d) s = (omega arith, omega (arith, s .0))
+low-of (cell (held it)) s = (omega arith, omega (arith, s .0))
 
 -- a block in front
 pub record Front (b : Block) (r t : List ℕ) : Type 0 where
   pub size-is : sizeOf r ≡ size b
-  pub low : 4 ≤ size b
+  pub low : smallestBlock ≤ size b
   pub four : size b % 4 ≡ 0
   pub image : take (size b) r ≡ encodeBlock b
   pub rest : drop (size b) r ≡ t
@@ -68,7 +71,7 @@ unfolding join
 tiles-join [] s = tiles-nil
 tiles-join (b ∷ bs) s = front b (encodeBlock b ++ join (map encodeBlock bs)) (join (map encodeBlock bs)) (s .0) refl .blocks ∙ ap (λ (t : List Block). b ∷ t) (tiles-join bs (s .1))
 
-pub row-fits : (s : List ℕ) (p : ℕ) → Row (drop p s) → p < length s → p + 4 ≤ length s
+pub row-fits : (s : List ℕ) (p : ℕ) → Row (drop p s) → p < length s → p + smallestBlock ≤ length s
 unfolding join
 row-fits s p (row [] sd e) l = let x : ⊥ = omega (arith, ap length e, length-drop p s) in absurd x
 row-fits s p (row (b ∷ bs) sd e) l = let f = front b (drop p s) (join (map encodeBlock bs)) (sd .0) e in omega (arith, f .long, f .low, length-drop p s)
@@ -129,6 +132,6 @@ sound-right (x ∷ a) b s = sound-right a b (s .1)
 
 -- a relocatable block, by its bytes
 pub reloc-at : (s : List ℕ) (p n : ℕ) → Stepped s p n → typeOf (drop p s) ≡ 2
-    → blockAt s p ≡ reloc (handleOf (drop p s)) (drop 4 (take n (drop p s)))
+    → blockAt s p ≡ cell (held (item (handleOf (drop p s)) (drop relocHeader (take n (drop p s)))))
 unfolding decodeBlock
 reloc-at s p n st k = rw (st .size-is, kind-take n (drop p s) (st .low), k, handle-take n (drop p s) (st .low))

@@ -5,9 +5,11 @@ use mathlib.Core.Bool.{Bool}
 use Prim.Native.Nat.{ℕ, _+_, _%_, _<_, _≤_}
 use lib.ListN.{length, take, drop}
 use lib.Dec.{eqb}
+use Rattle.block_type.specs.Limits.{fixedHeader, fixedLimit, longestZone, relocLimit, handleRange, smallestBlock}
 use Rattle.bigendian.specs.BigEndian.{slice}
 use Rattle.format.specs.WellFormed.{sizeOf, typeOf, splitBlocks}
-use Rattle.structure.specs.Structure.{Block, free, fixed, reloc, size, encodeBlock, decodeBlock, join}
+use Rattle.structure.specs.Structure.{Block, fixed, size, encodeBlock, decodeBlock, join, cell}
+use Rattle.bay.specs.Bay.{free, held}
 
 -- the blocks of a stretch
 unfoldable pub blocksOf : List ℕ → List Block
@@ -19,9 +21,9 @@ bytesOf bs = join (map encodeBlock bs)
 
 -- the type of a block
 abbrev pub kindB : Block → ℕ
-kindB (free n) = 0
+kindB (cell (free n)) = 0
 kindB (fixed d) = 1
-kindB (reloc h d) = 2
+kindB (cell (held it)) = 2
 
 abbrev pub freeB : Block → Bool
 freeB b = eqb (kindB b) 0
@@ -31,9 +33,9 @@ fixedB b = eqb (kindB b) 1
 
 -- the sizes that the format has
 abbrev pub Sound1 : Block → Type 0
-Sound1 (free n) = (4 ≤ n) × (n % 4 ≡ 0) × (n ≤ 1048576)
-Sound1 (fixed d) = ((2 + length d) % 4 ≡ 0) × (length d ≤ 32762)
-Sound1 (reloc h d) = (length d % 4 ≡ 0) × (length d ≤ 32760) × (h < 65536)
+Sound1 (cell (free n)) = (smallestBlock ≤ n) × (n % 4 ≡ 0) × (n ≤ longestZone)
+Sound1 (fixed d) = ((fixedHeader + length d) % 4 ≡ 0) × (length d ≤ fixedLimit)
+Sound1 (cell (held it)) = (length (it .bytes) % 4 ≡ 0) × (length (it .bytes) ≤ relocLimit) × ((it .handle) < handleRange)
 
 abbrev pub Sound : List Block → Type 0
 Sound [] = Unit {0}
@@ -48,7 +50,7 @@ blockAt s p = decodeBlock (take (sizeOf (drop p s)) (drop p s))
 -- a step over a block of n bytes
 pub record Stepped (s : List ℕ) (p n : ℕ) : Type 0 where
   pub size-is : sizeOf (drop p s) ≡ n
-  pub low : 4 ≤ n
+  pub low : smallestBlock ≤ n
   pub four : n % 4 ≡ 0
   pub fits : p + n ≤ length s
   pub next : Row (drop (p + n) s)

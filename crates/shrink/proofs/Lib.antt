@@ -1,7 +1,3 @@
-pub mod Bays
-pub mod Call
-pub mod Cut
-pub mod Last
-pub mod Outcome
 pub mod Placed
-pub mod Zone
+pub mod Call
+pub mod Outcome

@@ -5,16 +5,18 @@ use Prim.Native.Nat.{ℕ, zero, suc, _+_, _≤_}
 use native.Mathlib.Omega.{arith}
 use lib.Dec.{eqb·suc-zero}
 use Rattle.bigendian.specs.BigEndian.{Bytes}
+use Rattle.structure.specs.Structure.{decode}
 use Rattle.calls.specs.Calls.{Answer, Call, shrink, sums, length-of}
 use Rattle.calls.specs.Bays.{Bays, last, more, onLast, sumS, lastS}
 use Rattle.calls.specs.State.{total, Fixed}
-use Rattle.zone.specs.Bay.{Cell, baySum, takeHigh}
+use Rattle.bay.specs.Bay.{Cell, baySum, takeHigh}
 use Rattle.zone.specs.Work.{Zone, strip}
 use Rattle.zone.specs.Call.{zoneIn, call}
-use Rattle.zone.proofs.BayLaws.{cut-less, bsize-split}
+use Rattle.bay.proofs.Laws.{cut-less, bsize-split}
 use Rattle.call_laws.proofs.Outcome.{none-lent}
 use Rattle.call_laws.proofs.Accepted.{Accepted, accepted, answered, before, after}
-use Rattle.shrink.proofs.Bays.{n, small}
+use Rattle.shrink.specs.Stripped.{strips}
+use Rattle.shrink.proofs.Call.{small}
 
 -- the total falls by what is taken off the last bay
 bay-less : (k : ℕ) (b : List Cell) → k ≤ baySum b → baySum (takeHigh k b) + k ≡ baySum b
@@ -47,7 +49,7 @@ module _ (s : List ℕ) (k : ℕ) (y : Bytes s) (e : asked (shrink k) s .number 
 
   pub shrink-told : Shrunk k s
   shrink-told =
-      let l = less (n s k y (a .well)) (zoneIn s) (small s k y (a .well)) (omega arith) in
+      let l = less (strips (decode s) k) (zoneIn s) (small (decode s) k) (omega arith) in
       record {
         shorter = ap₂ _+_ (ap value (after a y none-lent length-of)) (ap value (answered a y)) ∙ l .0 ∙ sym (ap value (before a y length-of));
         fewer = ap₂ _+_ (ap value (after a y none-lent sums)) (ap value (answered a y)) ∙ l .1 ∙ sym (ap value (before a y sums));

@@ -1,107 +1,150 @@
--- The zone is shorter: the bytes are those of the structure without the last n bytes, and n zeros.
-use mathlib.Core.Path.{_≡_, sym, ap, ap₂, _∙_}
-use mathlib.Core.List.{List, [], _∷_, _++_}
+-- The zone is shorter: the bytes are those of the structure without the last n bytes of its last bay, and n zeros.
+use mathlib.Core.Path.{_≡_, sym, ap, ap₂, _∙_, subst}
+use mathlib.Core.List.{List, [], _++_, map, append-assoc, append-nil}
 use Prim.Native.Nat.{ℕ, _+_, _-_, _≤_}
 use native.Mathlib.Omega.{arith}
-use lib.ListN.{length, replicate}
+use lib.ListN.{length, replicate, length-replicate}
 use mir.Val.{Fits}
 use mir.Syntax.{w32}
+use Rattle.structure.proofs.Append.{sizes-append}
+use Rattle.block_type.specs.Limits.{longestZone}
 use Rattle.bigendian.specs.BigEndian.{toBE, overwrite}
-use Rattle.structure.specs.Structure.{Block, free, Structure, sizes, start, len, encode, decodeZone}
-use Rattle.structure.specs.Valid.{Valid}
-use Rattle.structure.proofs.Table.{Whole, encode-zone}
-use Rattle.structure.proofs.Sound.{valid-zone}
-use Rattle.access.specs.Edit.{IsZone}
-use Rattle.access.proofs.Zone.{whole-of}
-use Rattle.row.specs.Row.{bytesOf}
-use Rattle.find_bay.specs.Spots.{Spot, some, gapOf}
-use Rattle.find_bay.proofs.Numbers.{sizes-append}
-use Rattle.bay_changes.proofs.TakeHigh.{takeOff}
-use Rattle.take_high.specs.Taken.{takenBytes, Free, BayIn, bay-in}
-use Rattle.take_high.proofs.Taken.{Open, opened, free-in, taken-long}
-use Rattle.shrink.specs.Shrunk.{lastBay, stripped}
-use Rattle.shrink.specs.Site.{Site, SiteIn, site-in}
-use Rattle.shrink.proofs.Cut.{cut-end}
+use Rattle.kinds.specs.Kinds.{Item}
+use Rattle.bay.specs.Bay.{Cell, baySize, items, gap, packed, takeHigh}
+use Rattle.bay.proofs.Laws.{cut-less, items-append, items-gap}
+use Rattle.bay.proofs.BayBytes.{gap-none}
+use Rattle.structure.specs.Structure.{Block, cell, Structure, sizes, start, join, encode, decodeZone}
+use Rattle.structure.specs.Valid.{handlesOf, Valid}
+use Rattle.row.specs.Row as Row
+use Rattle.row.proofs.Laws.{sound-append, sound-left}
+use Rattle.calls.specs.Bays.{lastS}
+use Rattle.zone.proofs.GroupLaws.{flatten-group}
+use Rattle.bays.proofs.At.{at-old, at-new}
+use Rattle.slide.specs.ZoneBay.{bayCells, settled}
+use Rattle.slide.proofs.Change.{Kept}
+use Rattle.surgery.proofs.Sound.{valid-sound}
+use Rattle.surgery.proofs.Replace.{start-same}
+use Rattle.settle.proofs.Any.{settle}
+use Rattle.settle.proofs.Cells.{all-sizes, all-sound, handles-items}
+use Rattle.bay_end.specs.Taken.{beforeZeros, CanTake}
+use Rattle.bay_end.specs.Run.{Run}
+use Rattle.bay_end.proofs.Kept.{kept-free}
+use Rattle.bay_end.proofs.Taken.{trimmed-is}
+use Rattle.bay_end.proofs.Zone.{run-valid, run-take, run-end, run-kept, run-left, run-long}
+use Rattle.bay_end.proofs.End.{rest, rest-behind, rest-size, lens, end-changed}
+use Rattle.shrink.specs.Stripped.{baysOf, stripped, Site}
 
-pub stripped-is : (n : ℕ) (s : Structure) (p : Spot) → lastBay s ≡ some p → stripped n s ≡ record { chain = s .chain; blocks = p .before ++ takeOff n (p .inside) }
-unfolding stripped
-stripped-is n s p e = rw e
+module _ (z : List ℕ) (n a e sum tail : ℕ) (x : Site z n a e sum tail) where
+  abbrev s : Structure
+  s = decodeZone z
 
-one-size : (k : ℕ) → sizes (free k ∷ []) ≡ k
-unfolding sizes
-one-size k = omega arith
+  abbrev pre : List Block
+  pre = x .found .before
 
-module _ (s : Structure) (v : Valid s) (n a e sum tail : ℕ) (x : Site s n a e sum tail) where
-  abbrev p : Spot
-  p = x .spot
+  abbrev cs : List Cell
+  cs = lastS (baysOf s)
 
-  open₁ : Open s p n a e sum tail
-  open₁ = opened s v p n a e sum tail (x .bay)
+  abbrev run : Run z n a e sum tail
+  run = record {
+    zone = x .zone;
+    before = pre;
+    bay = cs;
+    after = [];
+    parts = sym (flatten-group (start s) (s .blocks)) ∙ at-old (x .found .at);
+    numbers = x .found .numbers;
+    low = x .low;
+    fits = x .fits;
+    four = x .four;
+  }
 
-  abbrev k : ℕ
-  k = open₁ .k
+  abbrev ds : List Cell
+  ds = takeHigh n cs
 
-  hole : Free (encode (open₁ .zone)) e k n
-  hole = free-in (open₁ .zone) (open₁ .valid) (open₁ .pre) (p .after) e k n (open₁ .parts) (open₁ .is-end) (open₁ .low) (open₁ .fits) (open₁ .four)
+  abbrev zs : List ℕ
+  zs = replicate n 0
 
-  whole : open₁ .zone .blocks ≡ open₁ .pre ++ free k ∷ []
-  whole = open₁ .parts ∙ ap (λ (b : List Block). open₁ .pre ++ (free k ∷ b)) (x .last)
+  v : Valid s
+  v = run-valid z n a e sum tail run
 
-  length-of : e - n + n ≡ len (open₁ .zone)
-  length-of = omega (arith, open₁ .is-end, hole .fits, ap sizes whole, sizes-append (open₁ .pre) (free k ∷ []), one-size k)
+  ends : (e - n ≡ a + baySize ds) × (n ≤ e) × (e ≤ length (encode s)) × (length (encode s) ≤ longestZone)
+  ends = run-end z n a e sum tail run
 
-  shorter : overwrite (takenBytes (encode s) n a e sum tail) 0 (toBE 4 (e - n)) ≡ encode (stripped n s) ++ replicate n 0
+  -- ---- the n bytes as a free block by themselves
+
+  abbrev s₁ : Structure
+  s₁ = record { chain = s .chain; blocks = pre ++ (map cell (ds ++ gap n []) ++ []) }
+
+  kept : Kept a (e - a) (ds ++ gap n [])
+  kept =
+      let m : e - a - n + n ≡ e - a = omega (arith, ends) in
+      subst (λ (k : ℕ). Kept a k (ds ++ gap n [])) m
+      (kept-free a n (x .four) (e - a - n) ds (omega (arith, run .numbers .start-is)) (omega (arith, ends)) (run-kept z n a e sum tail run))
+
+  same-handles : handlesOf (map cell (ds ++ gap n [])) ≡ handlesOf (map cell cs)
+  same-handles =
+      handles-items (ds ++ gap n [])
+      ∙ ap (λ (es : List Item). handlesOf (map cell (packed es []))) (items-append ds (gap n []) ∙ ap (items ds ++_) (items-gap n []) ∙ append-nil (items ds) ∙ cut-less n cs (x .fits) .same)
+      ∙ sym (handles-items cs)
+
+  size-is : baySize (ds ++ gap n []) ≡ baySize cs
+  size-is = omega (arith, kept .size, run .numbers .end-is)
+
+  apart : settled (encode s) a (ds ++ gap n []) ≡ encode s₁
+  apart = ap (λ (o : ℕ). settled (encode s) o (ds ++ gap n [])) (run .numbers .start-is) ∙ settle s v pre [] cs (ds ++ gap n []) (run .parts) (kept .sound) size-is same-handles
+
+  zeros : beforeZeros (encode s) a ds n ≡ overwrite (encode s₁) (e - n) zs
+  zeros =
+      let none : n - n ≡ 0 = omega arith in
+      ap (λ (c : List Cell). beforeZeros (encode s) a c n) (sym (ap (λ (k : ℕ). ds ++ gap k []) none ∙ append-nil ds))
+      ∙ sym (trimmed-is (encode s) (encode s₁) a e n n ds (omega (arith, ends)) (ends .2) (ends .3) kept (x .low) (omega arith) (x .four) (sym apart))
+      ∙ ap (λ (b : List ℕ). overwrite (encode s₁) (e - n) (b ++ zs)) (gap-none (n - n) none)
+
+  -- ---- and cut off
+
+  end-parts : s₁ .blocks ≡ (pre ++ map cell ds) ++ rest n
+  end-parts = rest-behind pre ds n
+
+  sound : Row.Sound (s₁ .blocks)
+  sound =
+      sound-append pre (map cell (ds ++ gap n []) ++ []) (sound-left pre (map cell cs ++ []) (subst Row.Sound (run .parts) (valid-sound s v)))
+      (sound-append (map cell (ds ++ gap n [])) [] (all-sound (ds ++ gap n []) (kept .sound)) tt)
+
+  first : start s₁ ≡ start s
+  first =
+      start-same s v pre (map cell cs) (map cell (ds ++ gap n [])) [] (s .chain) (run .parts) (sym (all-sizes (ds ++ gap n [])) ∙ size-is ∙ all-sizes cs) (all-sound (ds ++ gap n []) (kept .sound))
+      (rw same-handles)
+
+  shorter : overwrite (beforeZeros (encode s) a ds n) 0 (toBE 4 (e - n)) ≡ encode (record { chain = s .chain; blocks = pre ++ (map cell ds ++ []) }) ++ zs
+  unfolding join
   shorter =
-      let at : e - k ≡ start (open₁ .zone) + sizes (open₁ .pre) = omega (arith, open₁ .is-end) in
-      ap (λ (y : List ℕ). overwrite y 0 (toBE 4 (e - n))) (open₁ .bytes ∙ ap (λ (o : ℕ). overwrite (encode (open₁ .zone)) o (bytesOf (gapOf (k - n)) ++ replicate n 0)) at)
-      ∙ cut-end (open₁ .zone) (open₁ .valid) (open₁ .pre) k n whole (hole .low) (hole .fits) (hole .four) (hole .four-k) (omega (arith, hole .order, hole .inside, hole .short)) (e - n) length-of
-      ∙ ap (_++ replicate n 0)
-      (ap₂ (λ (ls : List ℕ) (bs : List Block). encode (record { chain = ls; blocks = bs })) (open₁ .same-chain) (open₁ .off)
-      ∙ ap encode (sym (stripped-is n s p (x .chosen))))
+      let there : e - n ≡ start s₁ + sizes (pre ++ map cell ds) = omega (arith, first, sizes-append pre (map cell ds), all-sizes ds, ends, run .numbers .start-is) in
+      let long : n + length {A = ℕ} [] ≡ 0 + length zs = omega (arith, length-replicate {A = ℕ} n 0) in
+      ap (λ (x : List ℕ). overwrite x 0 (toBE 4 (e - n)))
+      (zeros ∙ ap₂ (λ (x : List ℕ) (o : ℕ). overwrite x o zs) (sym (append-nil (encode s₁))) there)
+      ∙ end-changed s₁ (pre ++ map cell ds) n 0 [] zs end-parts sound tt long (e - n)
+      (omega (arith, there, lens s₁ (pre ++ map cell ds) n 0 [] zs end-parts sound tt long, ap sizes end-parts, sizes-append (pre ++ map cell ds) (rest n), rest-size n))
+      ∙ ap (λ (b : List Block). encode (record { chain = s .chain; blocks = b }) ++ zs) (append-assoc pre (map cell ds) [])
 
--- ---- the same in the bytes of a zone
+  -- ---- what the code asks
 
-module _ (z : List ℕ) (n a e sum tail : ℕ) (x : SiteIn z n a e sum tail) where
-  zone : IsZone z
-  zone = go x
-    where
-      go : SiteIn z n a e sum tail → IsZone z
-      go (site-in i y) = i
-
-  here : Site (decodeZone z) n a e sum tail
-  here = go x
-    where
-      go : SiteIn z n a e sum tail → Site (decodeZone z) n a e sum tail
-      go (site-in i y) = y
-
-  w : Whole z
-  w = whole-of z zone
-
-  v₀ : Valid (decodeZone z)
-  v₀ = valid-zone z w
-
-  is-z : encode (decodeZone z) ≡ z
-  is-z = encode-zone z w
-
-  pub ask-bay : BayIn z n a e sum tail
-  ask-bay = bay-in zone (here .spot) (here .bay)
-
-  hole₀ : Free (encode (open₁ (decodeZone z) v₀ n a e sum tail here .zone)) e (open₁ (decodeZone z) v₀ n a e sum tail here .k) n
-  hole₀ = hole (decodeZone z) v₀ n a e sum tail here
+  pub ask-take : CanTake z n a e sum tail
+  ask-take = run-take z n a e sum tail run
 
   pub ask-sub : n ≤ e
-  ask-sub = omega (arith, hole₀ .order, hole₀ .fits)
+  ask-sub = ends .1
 
-  pub ask-end : e ≤ 1048576
-  ask-end = omega (arith, hole₀ .inside, hole₀ .short)
+  pub ask-end : e ≤ longestZone
+  ask-end = omega (arith, ends)
 
   pub ask-word : Fits w32 (e - n)
   ask-word = record { fits = omega (arith, ask-end) }
 
-  pub ask-put : (y : List ℕ) → y ≡ takenBytes z n a e sum tail → 0 + 4 ≤ length y
-  ask-put y q = omega (arith, taken-long z y n a e sum tail ask-bay q, ask-sub, hole₀ .low)
+  module _ (y : List ℕ) (q : y ≡ beforeZeros z a (takeHigh n (bayCells z a e)) n) where
+    pub ask-put : 0 + 4 ≤ length y
+    ask-put = omega (arith, run-long z n a e sum tail run y q, ends, x .low)
 
-  pub strip-done : (y y₂ : List ℕ) → y ≡ takenBytes z n a e sum tail → y₂ ≡ overwrite y 0 (toBE 4 (e - n)) → y₂ ≡ encode (stripped n (decodeZone z)) ++ replicate n 0
-  strip-done y y₂ q q₂ =
-      q₂ ∙ ap (λ (u : List ℕ). overwrite u 0 (toBE 4 (e - n))) (q ∙ ap (λ (u : List ℕ). takenBytes u n a e sum tail) (sym is-z))
-      ∙ shorter (decodeZone z) v₀ n a e sum tail here
+    pub strip-done : (y₂ : List ℕ) → y₂ ≡ overwrite y 0 (toBE 4 (e - n)) → y₂ ≡ encode (stripped n s) ++ replicate n 0
+    strip-done y₂ q₂ =
+        q₂ ∙ ap (λ (u : List ℕ). overwrite u 0 (toBE 4 (e - n))) (run-left z n a e sum tail run y q)
+        ∙ shorter
+        ∙ ap (λ (b : List Block). encode (record { chain = s .chain; blocks = b }) ++ zs) (sym (at-new (x .found .at)))

@@ -1,2 +1,2 @@
-pub mod Shrunk
-pub mod Site
+pub mod Stripped
+pub mod Ready

@@ -2,21 +2,22 @@
 ghost use mathlib.Core.Path.{_≡_};
 ghost use mathlib.Core.List.{_++_};
 ghost use Prim.Native.Nat.{_+_, min};
-ghost use lib.ListN.{replicate};
+ghost use lib.ListN.{take, replicate};
 ghost use Rattle.structure.specs.Structure.{encode, decodeZone};
 ghost use Rattle.access.specs.Edit.{IsZone};
 ghost use Rattle.calls.specs.Calls.{told, shrink};
 ghost use Rattle.zone.specs.Call.{result, call};
-ghost use Rattle.shrink.specs.Shrunk.{stripped};
-ghost use Rattle.shrink.specs.Site.{SiteIn, PlannedIn, Planned};
+ghost use Rattle.call_laws.specs.Frame.{PlannedIn, Planned};
+ghost use Rattle.shrink.specs.Stripped.{stripped, Site};
+ghost use Rattle.shrink.specs.Ready.{Ready};
 use calls::Told;
 
 // Strips n bytes off the last bay, from a to e; they are zero then, and the length falls by n.
 fn strip(z: &mut [u8], n: usize, a: usize, e: usize, sum: usize, tail: usize)
-    requires { ⌜ SiteIn (now z) n a e sum tail ⌝ }
+    requires { ⌜ Site (now z) n a e sum tail ⌝ }
     ensures { λ _. ⌜ now (z .exit) ≡ encode (stripped n (decodeZone (now (z .entry)))) ++ replicate n 0 ⌝ }
 {
-    take_high::take_high(z, n, a, e, sum, tail);
+    bay_end::take_high(z, n, a, e, sum, tail);
     bigendian::put4(z, 0, (e - n) as u32);
 }
 
@@ -42,10 +43,10 @@ pub struct Plan {
 // The plan in a well-formed zone. Every bay's sum reaches 0, so the highest such bay is the last.
 fn plan_in(z: &[u8], k: u32) -> Plan
     requires { ⌜ IsZone (now z) ⌝ }
-    ensures { λ r. ⌜ PlannedIn (now (z .entry)) k (r .strip) (r .start) (r .end) (r .sum) (r .tail) ⌝ }
+    ensures { λ r. ⌜ PlannedIn (shrink k) (now (z .entry)) (r .number) (Ready (now (z .entry)) k r) ⌝ }
 {
     let first = bigendian::get4(z, 4) as usize;
-    let b = take_high::find_high(z, first, 0);
+    let b = bays::find_high(z, first, 0);
     let start = b.start;
     let end = b.end;
     let sum = b.sum;
@@ -64,7 +65,7 @@ fn plan_in(z: &[u8], k: u32) -> Plan
 
 // The plan: the refusal, 0 for none, and then how much is stripped.
 fn plan_zone(zone: &[u8], k: u32) -> Plan
-    ensures { λ r. ⌜ Planned (now (zone .entry)) k (r .number) (r .len) (r .strip) (r .start) (r .end) (r .sum) (r .tail) ⌝ }
+    ensures { λ r. ⌜ Planned (shrink k) (now (zone .entry)) (r .number) (r .len) (Ready (take (r .len) (now (zone .entry))) k r) ⌝ }
 {
     let c = zone_check::check(zone);
     let ok = c.ok;
@@ -81,13 +82,14 @@ fn plan_zone(zone: &[u8], k: u32) -> Plan
     }
     let l = bigendian::get4(zone, 0) as usize;
     let p = plan_in(&zone[..l], k);
+    let number = p.number;
     let strip = p.strip;
     let start = p.start;
     let end = p.end;
     let sum = p.sum;
     let tail = p.tail;
     Plan {
-        number: 0,
+        number,
         len: l,
         strip,
         start,
@@ -110,10 +112,16 @@ pub fn shrink(zone: &mut [u8], k: u32) -> Told
     let end = p.end;
     let sum = p.sum;
     let tail = p.tail;
-    if n == 0 {
-        return Told { number, value: 0 };
+    if number == 0 {
+        if n == 0 {
+            return Told {
+                number: 0,
+                value: 0,
+            };
+        }
+        strip(&mut zone[..l], n, start, end, sum, tail);
+        let value = n as u32;
+        return Told { number: 0, value };
     }
-    strip(&mut zone[..l], n, start, end, sum, tail);
-    let value = n as u32;
-    Told { number: 0, value }
+    Told { number, value: 0 }
 }

@@ -14,7 +14,7 @@ use Rattle.calls.specs.Calls.{Target, by-handle, by-pointer, size, read, view, 
 use Rattle.calls.specs.Bays.{over}
 use Rattle.calls.specs.State.{content}
 use Rattle.calls.specs.Table.{Facts, Cause, cause, below, isNone, notWellFormed, noBlock, holdsIn, first, order}
-use Rattle.zone.specs.Bay.{items}
+use Rattle.bay.specs.Bay.{items}
 use Rattle.zone.specs.Work.{facts}
 use Rattle.zone.specs.Call.{zoneIn, numberOf, callWith, call}
 use Rattle.locate.specs.Locate.{targetPlace, targetData, absentNumber, blockNumber}

@@ -9,6 +9,7 @@ use lib.ListN.{length, take, drop, length-take, length-drop}
 use mir.Val.{Fits}
 use mir.Syntax.{w32}
 use borrow.Author.Tests.{ne-eqb, le-leb, lt-leb}
+use Rattle.block_type.specs.Limits.{longestZone}
 use Rattle.bigendian.specs.BigEndian.{Bytes, overwrite}
 use Rattle.format.specs.WellFormed.{zoneOf}
 use Rattle.calls.specs.Calls as Calls
@@ -41,7 +42,7 @@ module _ (number at size i n have : ℕ) where
 
 -- ---- a stretch in a buffer
 
-pub block-small : (s : List ℕ) (t : Target) (number at k : ℕ) → Located s t number at k → at ≤ 1048576
+pub block-small : (s : List ℕ) (t : Target) (number at k : ℕ) → Located s t number at k → at ≤ longestZone
 block-small s t number at k l = located-small s t number at k l .0
 
 module _ (s : List ℕ) (t : Target) (number at size i n have r start end : ℕ) where

@@ -2,6 +2,7 @@
 ghost use mathlib.Core.Path.{_≡_};
 ghost use Prim.Native.Nat.{_+_, _≤_};
 ghost use lib.ListN.{length};
+ghost use Rattle.block_type.specs.Limits.{longestZone};
 ghost use Rattle.calls.specs.Calls.{size, read, view, told, shows};
 ghost use Rattle.zone.specs.Call.{call};
 ghost use Rattle.locate.specs.Named.{targetOf};
@@ -35,7 +36,7 @@ pub struct Part {
 
 // The stretch of a block whose refusal, data offset and data size are given, for a second buffer of `have` bytes.
 fn reach(number: u32, at: usize, size: usize, offset: u32, count: u32, have: usize) -> Part
-    requires { ⌜ at ≤ 1048576 ⌝ }
+    requires { ⌜ at ≤ longestZone ⌝ }
     ensures { λ r. ⌜ IsPart number at size offset count have (r .number) (r .start) (r .end) ⌝ }
 {
     if number != 0 {

@@ -7,8 +7,11 @@ use lib.ListN.{length}
 use lib.Seq.{take-length}
 use lib.Dec.{eqb}
 use borrow.Author.Tests.{eqb-true}
+use Rattle.block_type.specs.Limits.{fixedHeader}
 use Rattle.format.specs.WellFormed.{zoneOf}
-use Rattle.structure.specs.Structure.{Block, free, fixed, reloc, size, start, decodeZone}
+use Rattle.structure.specs.Structure.{Block, fixed, size, start, decodeZone, cell}
+use Rattle.kinds.specs.Kinds.{item}
+use Rattle.bay.specs.Bay.{free, held}
 use Rattle.calls.specs.Calls.{by-pointer}
 use Rattle.zone.specs.Call.{Result}
 use Rattle.zone.specs.Hardware.{HardwareWrites}
@@ -21,12 +24,12 @@ use Rattle.stretch_write.proofs.Laws.{write-is}
 pointer-is : (p at : ℕ) (bs : List Block) → (placeAmong (by-pointer p) at bs ≡ 0 → ⊥) → placeAmong (by-pointer p) at bs ≡ p
 unfolding placeAmong
 pointer-is p at [] l = absurd (l refl)
-pointer-is p at (free n ∷ bs) l = pointer-is p (at + size (free n)) bs l
-pointer-is p at (reloc h d ∷ bs) l = pointer-is p (at + size (reloc h d)) bs l
-pointer-is p at (fixed d ∷ bs) l = go (eqb p (at + 2)) refl l (pointer-is p (at + size (fixed d)) bs)
+pointer-is p at (cell (free n) ∷ bs) l = pointer-is p (at + size (cell (free n))) bs l
+pointer-is p at (cell (held it) ∷ bs) l = pointer-is p (at + size (cell (held it))) bs l
+pointer-is p at (fixed d ∷ bs) l = go (eqb p (at + fixedHeader)) refl l (pointer-is p (at + size (fixed d)) bs)
   where
-    go : {later : ℕ} (t : Bool) → eqb p (at + 2) ≡ t → (cond t (at + 2) later ≡ 0 → ⊥) → ((later ≡ 0 → ⊥) → later ≡ p) → cond t (at + 2) later ≡ p
-    go true e k i = sym (eqb-true p (at + 2) e)
+    go : {later : ℕ} (t : Bool) → eqb p (at + fixedHeader) ≡ t → (cond t (at + fixedHeader) later ≡ 0 → ⊥) → ((later ≡ 0 → ⊥) → later ≡ p) → cond t (at + fixedHeader) later ≡ p
+    go true e k i = sym (eqb-true p (at + fixedHeader) e)
     go false e k i = i k
 
 pub target-is : (p : ℕ) (z : List ℕ) → (targetPlace (by-pointer p) z ≡ 0 → ⊥) → targetPlace (by-pointer p) z ≡ p

@@ -10,21 +10,21 @@ use lib.Seq.{sets}
 use lib.Dec.{eqb}
 use borrow.Author.Tests.{ne-eqb}
 use Rattle.bigendian.specs.BigEndian.{Bytes, overwrite}
+use Rattle.bigendian.proofs.Overwrite.{write-left}
 use Rattle.format.specs.WellFormed.{wellFormed, zoneOf, lengthField}
 use Rattle.structure.specs.Structure.{Structure, start, encode, decode}
 use Rattle.structure.specs.Valid.{Valid}
 use Rattle.structure.proofs.Round.{length-is}
 use Rattle.structure.proofs.Sound.{valid}
-use Rattle.structure.proofs.Table.{whole, encode-decode}
-use Rattle.access.proofs.Store.{write-left}
+use Rattle.structure.proofs.Table.{encode-decode}
 use Rattle.row.specs.Row.{Sound}
+use Rattle.row.proofs.Zone.{valid-sound}
 use Rattle.calls.specs.Calls.{Target, write, shows}
 use Rattle.zone.specs.Work.{rewrite, Zone}
 use Rattle.calls.specs.State.{withBays}
 use Rattle.zone.specs.Call.{zoneIn, inLine, result, replacing, callWith, call}
 use Rattle.call_laws.proofs.Outcome.{same-length}
 use Rattle.locate.specs.Locate.{placeAmong, targetPlace, targetData}
-use Rattle.locate.proofs.Laws.{sound-zone}
 use Rattle.locate.proofs.Data.{among-fits, target-fits, target-room}
 use Rattle.stretch.specs.Stretch.{stretchNumber, Planned, refused, granted}
 use Rattle.stretch.proofs.Answers.{accepted, copy-number}
@@ -41,8 +41,7 @@ module _ (t : Target) (i : ℕ) (src s : List ℕ) (y : Bytes s) (wf : wellForme
   v = valid s y wf
 
   sound : Sound (d .blocks)
-  unfolding decode
-  sound = sound-zone (zoneOf s) (whole s y wf)
+  sound = valid-sound d v
 
   -- the bytes of the zone whose bays have the data changed are the old ones with src written over them
   pub written : (targetPlace t (zoneOf s) ≡ 0 → ⊥) → i + length src ≤ length (targetData t (zoneOf s))
@@ -74,9 +73,6 @@ module _ (t : Target) (i n : ℕ) (buf s : List ℕ) (y : Bytes s) where
       go (no k) = rw (ne-eqb number 0 k)
 
 -- ---- the functions
-
-pub take-len : (l : ℕ) (s : List ℕ) → l ≤ length s → l ≡ length (take l s)
-take-len l s h = omega (arith, length-take l s)
 
 module _ (s : List ℕ) (t : Target) (i n number start end : ℕ) (src : List ℕ) where
   pub write-long : Planned s t i n (length src) number start end → number ≡ 0 → n ≤ length src

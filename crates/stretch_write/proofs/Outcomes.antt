@@ -9,7 +9,8 @@ use lib.Seq.{sets, sets-eq, length-sets, take-at, drop-at, length-take-le}
 use borrow.Author.Tests.{ne-eqb, le-leb}
 use Rattle.bigendian.specs.BigEndian.{Bytes}
 use Rattle.format.specs.WellFormed.{wellFormed, zoneOf}
-use Rattle.structure.specs.Structure.{Block, free, fixed, reloc, Structure, size, start, decode}
+use Rattle.structure.specs.Structure.{Block, fixed, Structure, size, start, decode, cell}
+use Rattle.bay.specs.Bay.{free, held}
 use Rattle.calls.specs.Calls.{Target, by-handle, by-pointer, Call, read, write, shows}
 use Rattle.zone.specs.Call.{zoneIn, inLine, Result, call}
 use Rattle.zone.proofs.Run.{call-well}
@@ -25,23 +26,23 @@ use Rattle.stretch_write.proofs.Laws.{write-is}
 
 module _ (f : List ℕ → List ℕ) where
   names-refill : (t : Target) (at : ℕ) (b : Block) → names t at (refill f b) ≡ names t at b
-  names-refill (by-handle h) at (free n) = refl
+  names-refill (by-handle h) at (cell (free n)) = refl
   names-refill (by-handle h) at (fixed d) = refl
-  names-refill (by-handle h) at (reloc k d) = refl
-  names-refill (by-pointer p) at (free n) = refl
+  names-refill (by-handle h) at (cell (held it)) = refl
+  names-refill (by-pointer p) at (cell (free n)) = refl
   names-refill (by-pointer p) at (fixed d) = refl
-  names-refill (by-pointer p) at (reloc k d) = refl
+  names-refill (by-pointer p) at (cell (held it)) = refl
 
   header-refill : (b : Block) → headerOf (refill f b) ≡ headerOf b
-  header-refill (free n) = refl
+  header-refill (cell (free n)) = refl
   header-refill (fixed d) = refl
-  header-refill (reloc h d) = refl
+  header-refill (cell (held it)) = refl
 
   held-refill : (t : Target) (at : ℕ) (b : Block) → names t at b ≡ true → heldBy (refill f b) ≡ f (heldBy b)
-  held-refill (by-handle h) at (free n) e = absurd (false≢true e)
-  held-refill (by-pointer p) at (free n) e = absurd (false≢true e)
+  held-refill (by-handle h) at (cell (free n)) e = absurd (false≢true e)
+  held-refill (by-pointer p) at (cell (free n)) e = absurd (false≢true e)
   held-refill t at (fixed d) e = refl
-  held-refill t at (reloc k d) e = refl
+  held-refill t at (cell (held it)) e = refl
 
   module _ (t : Target) where
     place-after : (at : ℕ) (bs : List Block) → placeAmong t at (edited t f at bs) ≡ placeAmong t at bs

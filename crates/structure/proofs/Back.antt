@@ -7,24 +7,28 @@ use native.Mathlib.Nat.{zero-add}
 use native.Mathlib.Omega.{arith}
 use lib.Dec.{eqb}
 use borrow.Author.Tests.{eqb-true, eqb-false, eq-eqb, ne-eqb, le-leb}
-use lib.ListN.{length, take, drop, replicate, length-append, length-replicate}
-use lib.Seq.{take-at, drop-at, drop-drop}
+use lib.ListN.{length, drop, replicate, length-append}
+use lib.Seq.{drop-at}
+use Rattle.format.specs.Occurs.{occurs}
 use Rattle.bigendian.specs.BigEndian.{fromBE, toBE, slice}
-use Rattle.bigendian.proofs.Laws.{be-toBE, length-toBE}
+use Rattle.bigendian.proofs.Laws.{length-toBE, be-front}
+use Rattle.block_type.specs.Limits.{freeCode, fixedCode, fixedHeader, fixedLimit, longestZone, relocCode, relocHeader, relocLimit, typeUnit, zoneHeader, freeHeader, handleRange, masterSize, smallestBlock}
 use Rattle.memory.specs.Zeros.{allZero}
-use Rattle.format.specs.WellFormed.{typeOf, sizeOf, handleOf, isFree, isReloc, isMaster, masterAt, relocs}
+use Rattle.format.specs.WellFormed.{typeOf, sizeOf, handleOf, isFree, isReloc, isMaster, masterAt, relocs, offsets, chain}
 use Rattle.format.specs.OneWalk.{links, typeRule, freeRule, relocRule, blockOk, blocksOk}
+use Rattle.format.proofs.Walk.{size-used}
 use Rattle.format.proofs.Masters.{Master}
-use Rattle.format.proofs.Count.{occurs, offsets, one-same}
-use Rattle.format.proofs.Live.{chain}
-use Rattle.structure.specs.Structure.{Block, free, fixed, reloc, size, encodeBlock, decodeBlock, sizes, relocCount, headOf, placeOf, nextOf, words, join}
-use Rattle.structure.proofs.Codec.{size-free, size-used}
+use Rattle.format.proofs.Count.{one-same}
+use Rattle.structure.specs.Structure.{Block, fixed, size, encodeBlock, decodeBlock, byType, sizes, relocCount, headOf, placeOf, nextOf, words, join, cell}
+use Rattle.kinds.specs.Kinds.{item, itemIn}
+use Rattle.kinds.proofs.KindLaws.{facts}
+use Rattle.bay.specs.Bay.{Cell, free, held}
+use Rattle.bay.specs.Bytes.{encodeCell}
+use Rattle.bay.specs.Sound.{decodeCell, Sound1, typeCode}
+use Rattle.bay.proofs.CellBytes.{enc}
 use Rattle.structure.specs.Valid.{handlesOf, Tiled}
 
 -- ---- one block
-
-pub be-front : (n v : ℕ) (t : List ℕ) → v < 256 ^ n → fromBE (take n (toBE n v ++ t)) ≡ v
-be-front n v t l = rw (take-at (toBE n v) t n (length-toBE n v)) (be-toBE n v l)
 
 all-zeros : (n : ℕ) → allZero (replicate n 0) ≡ true
 unfolding allZero
@@ -37,103 +41,90 @@ pub record Enc (b : Block) : Type 0 where
   pub same : sizeOf (encodeBlock b) ≡ size b
   pub back : decodeBlock (encodeBlock b) ≡ b
 
-pub kind-free : (n : ℕ) → n ≤ 1048576 → typeOf (encodeBlock (free n)) ≡ 0
+pub kind-free : (n : ℕ) → n ≤ longestZone → typeOf (encodeBlock (cell (free n))) ≡ 0
 unfolding typeOf encodeBlock toBE
 kind-free n l = omega arith
 
-pub kind-fixed : (d : List ℕ) → length d ≤ 32762 → typeOf (encodeBlock (fixed d)) ≡ 1
+pub kind-fixed : (d : List ℕ) → length d ≤ fixedLimit → typeOf (encodeBlock (fixed d)) ≡ 1
 unfolding typeOf encodeBlock toBE
 kind-fixed d l = omega arith
 
-pub kind-reloc : (h : ℕ) (d : List ℕ) → length d ≤ 32760 → typeOf (encodeBlock (reloc h d)) ≡ 2
+pub kind-reloc : (h : ℕ) (d : List ℕ) → length d ≤ relocLimit → typeOf (encodeBlock (cell (held (item h d)))) ≡ 2
 unfolding typeOf encodeBlock toBE
 kind-reloc h d l = omega arith
 
-dec-free : (e : List ℕ) (n : ℕ) → typeOf e ≡ 0 → sizeOf e ≡ n → decodeBlock e ≡ free n
-unfolding decodeBlock
-dec-free e n k s = rw (k, s)
-
-dec-fixed : (e d : List ℕ) → typeOf e ≡ 1 → drop 2 e ≡ d → decodeBlock e ≡ fixed d
+dec-fixed : (e d : List ℕ) → typeOf e ≡ 1 → drop fixedHeader e ≡ d → decodeBlock e ≡ fixed d
 unfolding decodeBlock
 dec-fixed e d k s = rw (k, s)
 
-dec-reloc : (e d : List ℕ) (h : ℕ) → typeOf e ≡ 2 → handleOf e ≡ h → drop 4 e ≡ d → decodeBlock e ≡ reloc h d
-unfolding decodeBlock
-dec-reloc e d h k p s = rw (k, p, s)
+dec-cell : (b : List ℕ) → (typeOf b ≡ fixedCode → ⊥) → decodeBlock b ≡ cell (decodeCell b)
+unfolding decodeBlock decodeCell
+dec-cell b n = go (typeOf b) n
+  where
+    go : (k : ℕ) → (k ≡ fixedCode → ⊥) → byType k (cell (free (sizeOf b))) (fixed (drop fixedHeader b)) (cell (held (itemIn b))) ≡ cell (cond (eqb k freeCode) (free (sizeOf b)) (held (itemIn b)))
+    go zero q = refl
+    go (suc zero) q = absurd (q refl)
+    go (suc (suc k)) q = rw (ne-eqb (suc (suc k)) freeCode (λ x. omega arith))
 
-pub enc-free : (n : ℕ) → 4 ≤ n → n % 4 ≡ 0 → n ≤ 1048576 → Enc (free n)
+not-fixed : (c : Cell) → typeCode c ≡ fixedCode → ⊥
+not-fixed (free n) q = omega arith
+not-fixed (held e) q = facts e .movable q
+
+pub enc-cell : (c : Cell) → Sound1 c → Enc (cell c)
 unfolding encodeBlock
-enc-free n l q u =
-    let k = kind-free n u in
-    let s : sizeOf (encodeBlock (free n)) ≡ n = omega (arith, size-free (encodeBlock (free n)) k, be-front 4 (n / 2) (replicate (n - 4) 0) (omega arith)) in
-    record {
-      long = simp (length-append, length-toBE, length-replicate) (omega arith);
-      same = s;
-      back = dec-free (encodeBlock (free n)) n k s;
-    }
+enc-cell c s =
+    let x = enc c s in
+    record { long = x .long; same = x .same; back = dec-cell (encodeCell c) (λ q. not-fixed c (sym (x .code) ∙ q)) ∙ ap cell (x .back) }
 
-low₁ : (w : ℕ) → w < 16384 → (16384 + w) % 16384 ≡ w
+low₁ : (w : ℕ) → w < typeUnit → (fixedCode * typeUnit + w) % typeUnit ≡ w
 low₁ w l = omega arith
 
-low₂ : (w : ℕ) → w < 16384 → (32768 + w) % 16384 ≡ w
+low₂ : (w : ℕ) → w < typeUnit → (relocCode * typeUnit + w) % typeUnit ≡ w
 low₂ w l = omega arith
 
 half : (n : ℕ) → n % 4 ≡ 0 → n / 2 * 2 ≡ n
 half n q = omega arith
 
-pub enc-fixed : (d : List ℕ) → (2 + length d) % 4 ≡ 0 → length d ≤ 32762 → Enc (fixed d)
+pub enc-fixed : (d : List ℕ) → (fixedHeader + length d) % 4 ≡ 0 → length d ≤ fixedLimit → Enc (fixed d)
 unfolding encodeBlock
 enc-fixed d q u =
     let k = kind-fixed d u in
-    let v = 16384 + (2 + length d) / 2 in
+    let v = fixedCode * typeUnit + (fixedHeader + length d) / 2 in
     record {
       long = simp (length-append, length-toBE) (omega arith);
-      same = size-used (encodeBlock (fixed d)) 0 k ∙ (rw (be-front 2 v d (omega arith), low₁ ((2 + length d) / 2) (omega arith)) (half (2 + length d) q));
+      same = size-used (encodeBlock (fixed d)) 0 k ∙ (rw (be-front 2 v d (omega arith), low₁ ((fixedHeader + length d) / 2) (omega arith)) (half (fixedHeader + length d) q));
       back = dec-fixed (encodeBlock (fixed d)) d k (drop-at (toBE 2 v) d 2 (length-toBE 2 v));
     }
 
-handle-enc : (h : ℕ) (d : List ℕ) → h < 65536 → handleOf (encodeBlock (reloc h d)) ≡ h
+handle-enc : (h : ℕ) (d : List ℕ) → h < handleRange → handleOf (encodeBlock (cell (held (item h d)))) ≡ h
 unfolding encodeBlock handleOf
-handle-enc h d u = rw (drop-at (toBE 2 (32768 + (4 + length d) / 2)) (toBE 2 h ++ d) 2 (length-toBE 2 (32768 + (4 + length d) / 2))) (be-front 2 h d (omega arith))
+handle-enc h d u = rw (drop-at (toBE 2 (relocCode * typeUnit + (relocHeader + length d) / 2)) (toBE 2 h ++ d) 2 (length-toBE 2 (relocCode * typeUnit + (relocHeader + length d) / 2))) (be-front 2 h d (omega arith))
 
-pub size-reloc : (h : ℕ) (d : List ℕ) → length d % 4 ≡ 0 → length d ≤ 32760 → sizeOf (encodeBlock (reloc h d)) ≡ 4 + length d
+pub size-reloc : (h : ℕ) (d : List ℕ) → length d % 4 ≡ 0 → length d ≤ relocLimit → sizeOf (encodeBlock (cell (held (item h d)))) ≡ relocHeader + length d
 unfolding encodeBlock
 size-reloc h d q u =
-    size-used (encodeBlock (reloc h d)) 1 (kind-reloc h d u)
-    ∙ (rw (be-front 2 (32768 + (4 + length d) / 2) (toBE 2 h ++ d) (omega arith), low₂ ((4 + length d) / 2) (omega arith)) (half (4 + length d) (omega arith)))
-
-pub enc-reloc : (h : ℕ) (d : List ℕ) → length d % 4 ≡ 0 → length d ≤ 32760 → h < 65536 → Enc (reloc h d)
-unfolding encodeBlock
-enc-reloc h d q u hu =
-    let k = kind-reloc h d u in
-    let v = 32768 + (4 + length d) / 2 in
-    let e = encodeBlock (reloc h d) in
-    record {
-      long = simp (length-append, length-toBE) (omega arith);
-      same = size-reloc h d q u;
-      back = dec-reloc e d h k (handle-enc h d hu)
-          (sym (drop-drop 2 2 e) ∙ ap (drop 2) (drop-at (toBE 2 v) (toBE 2 h ++ d) 2 (length-toBE 2 v)) ∙ drop-at (toBE 2 h) d 2 (length-toBE 2 h));
-    }
+    size-used (encodeBlock (cell (held (item h d)))) 1 (kind-reloc h d u)
+    ∙ (rw (be-front 2 (relocCode * typeUnit + (relocHeader + length d) / 2) (toBE 2 h ++ d) (omega arith), low₂ ((relocHeader + length d) / 2) (omega arith)) (half (relocHeader + length d) (omega arith)))
 
 -- ---- the test of a block, from facts
 
-good-of : (z : List ℕ) (first : ℕ) (prev : Bool) (at : ℕ) (b : Block) → Enc b → 4 ≤ size b → size b % 4 ≡ 0
+good-of : (z : List ℕ) (first : ℕ) (prev : Bool) (at : ℕ) (b : Block) → Enc b → smallestBlock ≤ size b → size b % 4 ≡ 0
     → typeRule (typeOf (encodeBlock b)) (freeRule prev (encodeBlock b)) (relocRule z first at (handleOf (encodeBlock b))) ≡ true → blockOk z first prev at (encodeBlock b) ≡ true
 unfolding blockOk
 good-of z first prev at b e l q r =
-    rw (le-leb 4 (sizeOf (encodeBlock b)) (omega (arith, e .same)), eq-eqb (sizeOf (encodeBlock b) % 4) 0 (rw (e .same) q), eq-eqb (sizeOf (encodeBlock b)) (length (encodeBlock b)) (omega (arith, e .same, e .long))) r
+    rw (le-leb smallestBlock (sizeOf (encodeBlock b)) (omega (arith, e .same)), eq-eqb (sizeOf (encodeBlock b) % 4) 0 (rw (e .same) q), eq-eqb (sizeOf (encodeBlock b)) (length (encodeBlock b)) (omega (arith, e .same, e .long))) r
 
 pub master-of : (first h : ℕ) → Master first h → isMaster first h ≡ true
 unfolding isMaster
-master-of first h m = rw (le-leb 16 h (m .low), le-leb (h + 4) first (m .fits), eq-eqb (h % 4) 0 (m .four))
+master-of first h m = rw (le-leb zoneHeader h (m .low), le-leb (h + masterSize) first (m .fits), eq-eqb (h % 4) 0 (m .four))
 
-free-good : (n : ℕ) (prev : Bool) → prev ≡ false → freeRule prev (encodeBlock (free n)) ≡ true
+free-good : (n : ℕ) (prev : Bool) → prev ≡ false → freeRule prev (encodeBlock (cell (free n))) ≡ true
 unfolding encodeBlock freeRule
-free-good n prev e = rw (e, drop-at (toBE 4 (n / 2)) (replicate (n - 4) 0) 4 (length-toBE 4 (n / 2))) (all-zeros (n - 4))
+free-good n prev e = rw (e, drop-at (toBE 4 (n / 2)) (replicate (n - freeHeader) 0) 4 (length-toBE 4 (n / 2))) (all-zeros (n - freeHeader))
 
-reloc-good : (z : List ℕ) (first at h : ℕ) → Master first h → masterAt z h ≡ at + 4 → relocRule z first at h ≡ true
+reloc-good : (z : List ℕ) (first at h : ℕ) → Master first h → masterAt z h ≡ at + relocHeader → relocRule z first at h ≡ true
 unfolding relocRule
-reloc-good z first at h m e = rw (master-of first h m, eq-eqb (masterAt z h) (at + 4) e)
+reloc-good z first at h m e = rw (master-of first h m, eq-eqb (masterAt z h) (at + relocHeader) e)
 
 -- ---- all blocks; each handle's master holds its block's place
 
@@ -148,7 +139,7 @@ pub record Encs (z : List ℕ) (first : ℕ) (prev : Bool) (at : ℕ) (bs : List
   pub counts : relocs (map encodeBlock bs) ≡ relocCount bs
   pub sums : length (join (map encodeBlock bs)) ≡ sizes bs
 
-module _ (z : List ℕ) (first : ℕ) (small : first ≤ 65536) where
+module _ (z : List ℕ) (first : ℕ) (small : first ≤ handleRange) where
   cons : (prev next : Bool) (at : ℕ) (b : Block) (bs : List Block) → Enc b → blockOk z first prev at (encodeBlock b) ≡ true → isFree (encodeBlock b) ≡ next
       → cond (isReloc (encodeBlock b)) 1 0 + relocCount bs ≡ relocCount (b ∷ bs) → Encs z first next (at + size b) bs → Encs z first prev at (b ∷ bs)
   unfolding blocksOk relocs join sizes
@@ -162,26 +153,26 @@ module _ (z : List ℕ) (first : ℕ) (small : first ≤ 65536) where
   pub encs : (prev : Bool) (at : ℕ) (bs : List Block) → Tiled prev bs → Placed z first at bs → Encs z first prev at bs
   unfolding blocksOk relocs join sizes relocCount typeRule isFree isReloc handlesOf occurs placeOf
   encs prev at [] t p = record { walk = refl; back = refl; counts = refl; sums = refl }
-  encs prev at (free n ∷ bs) t p =
+  encs prev at (cell (free n) ∷ bs) t p =
       let k = kind-free n (t .3) in
-      let e = enc-free n (t .1) (t .2) (t .3) in
-      cons prev true at (free n) bs e (good-of z first prev at (free n) e (t .1) (t .2) (rw k (free-good n prev (t .0)))) (rw k) (rw k (zero-add _))
+      let e = enc-cell (free n) (t .1, t .2, t .3) in
+      cons prev true at (cell (free n)) bs e (good-of z first prev at (cell (free n)) e (t .1) (t .2) (rw k (free-good n prev (t .0)))) (rw k) (rw k (zero-add _))
       (encs true (at + n) bs (t .4) (record { holds = p .holds; single = p .single }))
   encs prev at (fixed d ∷ bs) t p =
       let k = kind-fixed d (t .1) in
       let e = enc-fixed d (t .0) (t .1) in
       cons prev false at (fixed d) bs e (good-of z first prev at (fixed d) e (omega (arith, t .0)) (t .0) (rw k)) (rw k) (rw k (zero-add _))
-      (encs false (at + (2 + length d)) bs (t .3) (record { holds = p .holds; single = p .single }))
-  encs prev at (reloc h d ∷ bs) t p =
-      let q = p .holds h (omega (arith, one-same h h refl)) in
-      let k = kind-reloc h d (t .1) in
-      let e = enc-reloc h d (t .0) (t .1) (omega (arith, q .0 .fits)) in
-      cons prev false at (reloc h d) bs e (good-of z first prev at (reloc h d) e (omega arith) (omega (arith, t .0))
-      (rw (k, handle-enc h d (omega (arith, q .0 .fits))) (reloc-good z first at h (q .0) (rw (eq-eqb h h refl) at (q .1))))) (rw k) (rw k (omega arith))
-      (encs false (at + (4 + length d)) bs (t .3) (record {
+      (encs false (at + (fixedHeader + length d)) bs (t .3) (record { holds = p .holds; single = p .single }))
+  encs prev at (cell (held it) ∷ bs) t p =
+      let q = p .holds (it .handle) (omega (arith, one-same (it .handle) (it .handle) refl)) in
+      let k = kind-reloc (it .handle) (it .bytes) (t .1) in
+      let e = enc-cell (held it) (omega (arith, t .0), omega (arith, t .1), omega (arith, q .0 .fits)) in
+      cons prev false at (cell (held it)) bs e (good-of z first prev at (cell (held it)) e (omega arith) (omega (arith, t .0))
+      (rw (k, handle-enc (it .handle) (it .bytes) (omega (arith, q .0 .fits))) (reloc-good z first at (it .handle) (q .0) (rw (eq-eqb (it .handle) (it .handle) refl) at (q .1))))) (rw k) (rw k (omega arith))
+      (encs false (at + (relocHeader + length (it .bytes))) bs (t .3) (record {
         holds = λ g l. let r = p .holds g (omega arith) in
-            let other : (g ≡ h → ⊥) = λ x. omega (arith, one-same g h x, p .single g) in
-            (r .0, (rw (ne-eqb g h other) at (r .1)));
+            let other : (g ≡ (it .handle) → ⊥) = λ x. omega (arith, one-same g (it .handle) x, p .single g) in
+            (r .0, (rw (ne-eqb g (it .handle) other) at (r .1)));
         single = λ g. omega (arith, p .single g);
       }))
 
@@ -231,15 +222,15 @@ length-words f [] = refl
 length-words f (h ∷ hs) = simp (length-append, length-toBE) (omega (arith, length-words f hs))
 
 -- a master's word
-pub words-at : (a t : List ℕ) (f : ℕ → ℕ) (k n h : ℕ) → length a ≡ k → k ≤ h → h < k + 4 * n → h % 4 ≡ k % 4 → f h < 4294967296
+pub words-at : (a t : List ℕ) (f : ℕ → ℕ) (k n h : ℕ) → length a ≡ k → k ≤ h → h < k + masterSize * n → h % 4 ≡ k % 4 → f h < 4294967296
     → fromBE (slice (a ++ (words f (offsets k n) ++ t)) h 4) ≡ f h
 unfolding words offsets
 words-at a t f k zero h e l u q v = let x : ⊥ = omega arith in absurd x
 words-at a t f k (suc n) h e l u q v =
-    rw (append-assoc (toBE 4 (f k)) (words f (offsets (k + 4) n)) t)
-    (go (eqb h k) refl (λ ne. words-at (a ++ toBE 4 (f k)) t f (k + 4) n h (simp (length-append, length-toBE) (omega arith)) (omega arith) (omega arith) (omega arith) v))
+    rw (append-assoc (toBE 4 (f k)) (words f (offsets (k + masterSize) n)) t)
+    (go (eqb h k) refl (λ ne. words-at (a ++ toBE 4 (f k)) t f (k + masterSize) n h (simp (length-append, length-toBE) (omega arith)) (omega arith) (omega arith) (omega arith) v))
   where
-    go : (b : Bool) → eqb h k ≡ b → ((h ≡ k → ⊥) → fromBE (slice ((a ++ toBE 4 (f k)) ++ (words f (offsets (k + 4) n) ++ t)) h 4) ≡ f h)
-        → fromBE (slice (a ++ (toBE 4 (f k) ++ (words f (offsets (k + 4) n) ++ t))) h 4) ≡ f h
-    go true y r = let hk = eqb-true h k y in rw hk (at-seam a (words f (offsets (k + 4) n) ++ t) 4 (f k) k e (subst (λ (x : ℕ). f x < 4294967296) hk v))
-    go false y r = rw (← append-assoc a (toBE 4 (f k)) (words f (offsets (k + 4) n) ++ t)) (r (eqb-false h k y))
+    go : (b : Bool) → eqb h k ≡ b → ((h ≡ k → ⊥) → fromBE (slice ((a ++ toBE 4 (f k)) ++ (words f (offsets (k + masterSize) n) ++ t)) h 4) ≡ f h)
+        → fromBE (slice (a ++ (toBE 4 (f k) ++ (words f (offsets (k + masterSize) n) ++ t))) h 4) ≡ f h
+    go true y r = let hk = eqb-true h k y in rw hk (at-seam a (words f (offsets (k + masterSize) n) ++ t) 4 (f k) k e (subst (λ (x : ℕ). f x < 4294967296) hk v))
+    go false y r = rw (← append-assoc a (toBE 4 (f k)) (words f (offsets (k + masterSize) n) ++ t)) (r (eqb-false h k y))

@@ -5,17 +5,20 @@ use mathlib.Core.Bool.{Bool, true, false, not, _&&_}
 use Prim.Native.Nat.{ℕ, zero, suc, _+_, _*_, _-_, _/_, _%_, _<_, _≤_}
 use native.Mathlib.Omega.{arith}
 use lib.Dec.{eqb}
-use borrow.Author.Tests.{eqb-true, ne-eqb}
+use borrow.Author.Tests.{eqb-true}
 use lib.ListN.{length, take, drop, replicate, length-append, length-take, length-drop, take-append-drop}
 use lib.Seq.{getD-drop, drop-drop, take-append-seam, drop-append-seam, length-take-le}
+use Rattle.block_type.specs.Limits.{fixedHeader, relocHeader, typeUnit, fixedCode, freeHeader, relocCode, smallestBlock}
 use Rattle.bigendian.specs.BigEndian.{fromBE, toBE, Bytes}
 use Rattle.bigendian.proofs.Laws.{toBE-be, be2-at}
 use Rattle.memory.specs.Zeros.{allZero}
 use Rattle.format.proofs.Bool.{and-left, and-right}
 use Rattle.format.specs.WellFormed.{typeOf, sizeOf, handleOf, isFree, splitBlocks, splitFrom}
 use Rattle.format.specs.OneWalk.{typeRule, freeRule, relocRule, blockOk, blocksOk}
-use Rattle.format.proofs.Walk.{is-good, size-take, blocks-cons, blocks-nil}
-use Rattle.structure.specs.Structure.{free, fixed, reloc, encodeBlock, decodeBlock, byType, join}
+use Rattle.format.proofs.Walk.{is-good, size-free, size-used, size-take, blocks-cons, blocks-nil}
+use Rattle.structure.specs.Structure.{fixed, encodeBlock, decodeBlock, byType, join, cell}
+use Rattle.kinds.specs.Kinds.{item, itemIn}
+use Rattle.bay.specs.Bay.{free, held}
 
 -- ---- joining blocks
 
@@ -77,35 +80,27 @@ all-zero-is (zero ∷ xs) h = ap (λ (t : List ℕ). 0 ∷ t) (all-zero-is xs h)
 all-zero-is (suc x ∷ xs) h = let e = eqb-true (suc x) 0 (zero-left (eqb (suc x) 0) (allZero xs) h) in let q : ⊥ = omega arith in absurd q
 
 -- the first two bytes are the type and the size
-head-word : (b : List ℕ) (k : ℕ) → typeOf b ≡ k → 2 ≤ length b → Bytes b → fromBE (take 2 b) ≡ k * 16384 + fromBE (take 2 b) % 16384
+head-word : (b : List ℕ) (k : ℕ) → typeOf b ≡ k → 2 ≤ length b → Bytes b → fromBE (take 2 b) ≡ k * typeUnit + fromBE (take 2 b) % typeUnit
 unfolding typeOf
 head-word b k e l y = omega (arith, be2-at b 0 l, y 0, y 1)
 
-pub size-free : (b : List ℕ) → typeOf b ≡ 0 → sizeOf b ≡ fromBE (take 4 b) * 2
-unfolding sizeOf
-size-free b e = rw e
-
-pub size-used : (b : List ℕ) (k : ℕ) → typeOf b ≡ suc k → sizeOf b ≡ fromBE (take 2 b) % 16384 * 2
-unfolding sizeOf
-size-used b k e = rw (e, ne-eqb (suc k) 0 (λ q. omega arith))
-
-enc-free : (b : List ℕ) → typeOf b ≡ 0 → 4 ≤ sizeOf b → sizeOf b ≡ length b → allZero (drop 4 b) ≡ true → Bytes b → encodeBlock (free (sizeOf b)) ≡ b
+enc-free : (b : List ℕ) → typeOf b ≡ 0 → smallestBlock ≤ sizeOf b → sizeOf b ≡ length b → allZero (drop 4 b) ≡ true → Bytes b → encodeBlock (cell (free (sizeOf b))) ≡ b
 unfolding encodeBlock
 enc-free b e l w zs y =
     let e₁ : sizeOf b / 2 ≡ fromBE (take 4 b) = omega (arith, size-free b e) in
-    let e₂ : replicate (sizeOf b - 4) 0 ≡ drop 4 b = rw (w, ← length-drop 4 b) (sym (all-zero-is (drop 4 b) zs)) in
+    let e₂ : replicate (sizeOf b - freeHeader) 0 ≡ drop 4 b = rw (w, ← length-drop 4 b) (sym (all-zero-is (drop 4 b) zs)) in
     rw (e₁, part-bytes 4 b y (omega arith), e₂) (take-append-drop 4 b)
 
-enc-fixed : (b : List ℕ) → typeOf b ≡ 1 → 4 ≤ sizeOf b → sizeOf b ≡ length b → Bytes b → encodeBlock (fixed (drop 2 b)) ≡ b
+enc-fixed : (b : List ℕ) → typeOf b ≡ 1 → smallestBlock ≤ sizeOf b → sizeOf b ≡ length b → Bytes b → encodeBlock (fixed (drop fixedHeader b)) ≡ b
 unfolding encodeBlock
 enc-fixed b e l w y =
-    let e₁ : 16384 + (2 + length (drop 2 b)) / 2 ≡ fromBE (take 2 b) = omega (arith, size-used b 0 e, head-word b 1 e (omega arith) y, length-drop 2 b) in
+    let e₁ : fixedCode * typeUnit + (fixedHeader + length (drop 2 b)) / 2 ≡ fromBE (take 2 b) = omega (arith, size-used b 0 e, head-word b 1 e (omega arith) y, length-drop 2 b) in
     rw (e₁, part-bytes 2 b y (omega arith)) (take-append-drop 2 b)
 
-enc-reloc : (b : List ℕ) → typeOf b ≡ 2 → 4 ≤ sizeOf b → sizeOf b ≡ length b → Bytes b → encodeBlock (reloc (handleOf b) (drop 4 b)) ≡ b
+enc-reloc : (b : List ℕ) → typeOf b ≡ 2 → smallestBlock ≤ sizeOf b → sizeOf b ≡ length b → Bytes b → encodeBlock (cell (held (itemIn b))) ≡ b
 unfolding encodeBlock handleOf
 enc-reloc b e l w y =
-    let e₁ : 32768 + (4 + length (drop 4 b)) / 2 ≡ fromBE (take 2 b) = omega (arith, size-used b 1 e, head-word b 2 e (omega arith) y, length-drop 4 b) in
+    let e₁ : relocCode * typeUnit + (relocHeader + length (drop 4 b)) / 2 ≡ fromBE (take 2 b) = omega (arith, size-used b 1 e, head-word b 2 e (omega arith) y, length-drop 4 b) in
     rw (e₁, part-bytes 2 b y (omega arith), part-bytes 2 (drop 2 b) (bytes-drop 2 b y) (omega (arith, length-drop 2 b)))
     (tail (drop-drop 2 2 b))
   where
@@ -118,8 +113,8 @@ enc-dec z first prev at b g y =
     let gb = is-good z first prev at b g in
     go (typeOf b) refl (gb .low) (gb .whole) (gb .rule)
   where
-    go : (k : ℕ) → typeOf b ≡ k → 4 ≤ sizeOf b → sizeOf b ≡ length b → typeRule k (freeRule prev b) (relocRule z first at (handleOf b)) ≡ true
-        → encodeBlock (byType k (free (sizeOf b)) (fixed (drop 2 b)) (reloc (handleOf b) (drop 4 b))) ≡ b
+    go : (k : ℕ) → typeOf b ≡ k → smallestBlock ≤ sizeOf b → sizeOf b ≡ length b → typeRule k (freeRule prev b) (relocRule z first at (handleOf b)) ≡ true
+        → encodeBlock (byType k (cell (free (sizeOf b))) (fixed (drop fixedHeader b)) (cell (held (itemIn b)))) ≡ b
     go zero e l w r = enc-free b e l w (and-right (not prev) _ r) y
     go (suc zero) e l w r = enc-fixed b e l w y
     go (suc (suc zero)) e l w r = enc-reloc b e l w y

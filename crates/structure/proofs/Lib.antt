@@ -3,3 +3,5 @@ pub mod Codec
 pub mod Round
 pub mod Sound
 pub mod Table
+pub mod Append
+pub mod ZoneLayout

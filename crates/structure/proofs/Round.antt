@@ -8,14 +8,17 @@ use lib.Dec.{eqb}
 use borrow.Author.Tests.{eqb-true, eqb-false, eq-eqb, ne-eqb, le-leb}
 use lib.ListN.{length, getD, drop, length-append}
 use lib.Seq.{take-at, drop-at, drop-drop}
+use Rattle.format.specs.Occurs.{occurs}
+use Rattle.block_type.specs.Limits.{fixedHeader, longestZone, masterSize, mostMasters, relocHeader, zoneHeader, handleRange}
 use Rattle.bigendian.specs.BigEndian.{toBE}
 use Rattle.bigendian.proofs.Laws.{be-toBE, length-toBE}
-use Rattle.format.specs.WellFormed.{headerOk, lengthField, firstField, mastersField, chainField, splitBlocks, masterAt, relocs, zoneOf, wellFormed}
+use Rattle.format.specs.WellFormed.{headerOk, lengthField, firstField, mastersField, chainField, splitBlocks, masterAt, relocs, zoneOf, wellFormed, offsets}
 use Rattle.format.proofs.OneWalk.{one-walk}
 use Rattle.format.specs.OneWalk.{links, bodyOk}
 use Rattle.format.proofs.Masters.{Master}
-use Rattle.format.proofs.Count.{occurs, All, offsets, one-same, one-other, occurs-offset, length-offsets}
-use Rattle.structure.specs.Structure.{Block, free, fixed, reloc, Structure, encodeBlock, sizes, relocCount, count, start, len, headOf, placeOf, nextOf, value, words, join, header, encode, decodeZone, decode}
+use Rattle.format.proofs.Count.{All, one-same, one-other, occurs-offset, length-offsets}
+use Rattle.structure.specs.Structure.{Block, fixed, Structure, encodeBlock, sizes, relocCount, count, start, len, headOf, placeOf, nextOf, value, words, join, header, encode, decodeZone, decode, cell}
+use Rattle.bay.specs.Bay.{free, held}
 use Rattle.structure.proofs.Codec.{blocks-join}
 use Rattle.structure.specs.Valid.{handlesOf, Tiled, Valid}
 use Rattle.structure.proofs.Back.{Placed, Encs, encs, Linked, chain-links, chain-back, length-words, words-at}
@@ -29,10 +32,10 @@ pub record Head (e : List ℕ) (l f m c : ℕ) (t : List ℕ) : Type 0 where
   pub is-chain : chainField e ≡ c
   pub zero14 : getD e 14 0 ≡ 0
   pub zero15 : getD e 15 0 ≡ 0
-  pub rest : drop 16 e ≡ t
-  pub long : length e ≡ 16 + length t
+  pub rest : drop zoneHeader e ≡ t
+  pub long : length e ≡ zoneHeader + length t
 
-pub head-of : (l f m c : ℕ) (t : List ℕ) → l < 4294967296 → f < 4294967296 → m < 4294967296 → c < 65536
+pub head-of : (l f m c : ℕ) (t : List ℕ) → l < 4294967296 → f < 4294967296 → m < 4294967296 → c < handleRange
     → Head ((toBE 4 l ++ (toBE 4 f ++ (toBE 4 m ++ (toBE 2 c ++ 0 ∷ 0 ∷ [])))) ++ t) l f m c t
 unfolding toBE
 head-of l f m c t hl hf hm hc = record {
@@ -46,11 +49,11 @@ head-of l f m c t hl hf hm hc = record {
   long = omega arith;
 }
 
-pub header-of : (e : List ℕ) (l f m c : ℕ) (t : List ℕ) → Head e l f m c t → l % 4 ≡ 0 → l ≤ length e → l ≤ 1048576 → m ≤ 8188 → f ≡ 16 + 4 * m → f ≤ l → headerOk e ≡ true
+pub header-of : (e : List ℕ) (l f m c : ℕ) (t : List ℕ) → Head e l f m c t → l % 4 ≡ 0 → l ≤ length e → l ≤ longestZone → m ≤ mostMasters → f ≡ zoneHeader + masterSize * m → f ≤ l → headerOk e ≡ true
 unfolding headerOk
 header-of e l f m c t h q r u few st w =
     rw (
-      le-leb 16 (length e) (omega arith),
+      le-leb zoneHeader (length e) (omega arith),
       h .zero14,
       h .zero15,
       h .is-len,
@@ -58,9 +61,9 @@ header-of e l f m c t h q r u few st w =
       h .is-masters,
       eq-eqb (l % 4) 0 q,
       le-leb l (length e) r,
-      le-leb l 1048576 u,
-      le-leb m 8188 few,
-      eq-eqb f (16 + 4 * m) st,
+      le-leb l longestZone u,
+      le-leb m mostMasters few,
+      eq-eqb f (zoneHeader + masterSize * m) st,
       le-leb f l w,
     )
 
@@ -71,13 +74,13 @@ unfolding occurs
 all-of P [] f = tt
 all-of P (x ∷ xs) f = (f x (omega (arith, one-same x x refl)), all-of P xs (λ h l. f h (omega arith)))
 
-pub offset-is : (h k n : ℕ) → 0 < occurs h (offsets k n) → (k ≤ h) × (h + 4 ≤ k + 4 * n) × (h % 4 ≡ k % 4)
+pub offset-is : (h k n : ℕ) → 0 < occurs h (offsets k n) → (k ≤ h) × (h + masterSize ≤ k + masterSize * n) × (h % 4 ≡ k % 4)
 unfolding occurs offsets
 offset-is h k zero l = let x : ⊥ = omega arith in absurd x
-offset-is h k (suc n) l = go (eqb h k) refl (offset-is h (k + 4) n)
+offset-is h k (suc n) l = go (eqb h k) refl (offset-is h (k + masterSize) n)
   where
-    go : (t : Bool) → eqb h k ≡ t → (0 < occurs h (offsets (k + 4) n) → (k + 4 ≤ h) × (h + 4 ≤ k + 4 + 4 * n) × (h % 4 ≡ (k + 4) % 4))
-        → (k ≤ h) × (h + 4 ≤ k + 4 * suc n) × (h % 4 ≡ k % 4)
+    go : (t : Bool) → eqb h k ≡ t → (0 < occurs h (offsets (k + masterSize) n) → (k + masterSize ≤ h) × (h + masterSize ≤ k + masterSize + masterSize * n) × (h % 4 ≡ (k + masterSize) % 4))
+        → (k ≤ h) × (h + masterSize ≤ k + masterSize * suc n) × (h % 4 ≡ k % 4)
     go true e f = let q = eqb-true h k e in (omega arith, omega arith, ap (λ (x : ℕ). x % 4) q)
     go false e f = let r = f (omega (arith, one-other h k (eqb-false h k e))) in (omega (arith, r .0), omega (arith, r .1), omega (arith, r .2))
 
@@ -96,18 +99,18 @@ next-none h (k ∷ ks) e = rw (ne-eqb h k (λ x. omega (arith, one-same h k x)))
 pub place-none : (h at : ℕ) (bs : List Block) → occurs h (handlesOf bs) ≡ 0 → placeOf h at bs ≡ 0
 unfolding occurs placeOf handlesOf
 place-none h at [] e = refl
-place-none h at (free n ∷ bs) e = place-none h (at + n) bs e
-place-none h at (fixed d ∷ bs) e = place-none h (at + (2 + length d)) bs e
-place-none h at (reloc k d ∷ bs) e = rw (ne-eqb h k (λ x. omega (arith, one-same h k x))) (place-none h (at + (4 + length d)) bs (omega arith))
+place-none h at (cell (free n) ∷ bs) e = place-none h (at + n) bs e
+place-none h at (fixed d ∷ bs) e = place-none h (at + (fixedHeader + length d)) bs e
+place-none h at (cell (held it) ∷ bs) e = rw (ne-eqb h (it .handle) (λ x. omega (arith, one-same h (it .handle) x))) (place-none h (at + (relocHeader + length (it .bytes))) bs (omega arith))
 
 place-le : (h at : ℕ) (bs : List Block) → placeOf h at bs ≤ at + sizes bs
 unfolding placeOf sizes
 place-le h at [] = omega arith
-place-le h at (free n ∷ bs) = omega (arith, place-le h (at + n) bs)
-place-le h at (fixed d ∷ bs) = omega (arith, place-le h (at + (2 + length d)) bs)
-place-le h at (reloc k d ∷ bs) = go (eqb h k) (place-le h (at + (4 + length d)) bs)
+place-le h at (cell (free n) ∷ bs) = omega (arith, place-le h (at + n) bs)
+place-le h at (fixed d ∷ bs) = omega (arith, place-le h (at + (fixedHeader + length d)) bs)
+place-le h at (cell (held it) ∷ bs) = go (eqb h (it .handle)) (place-le h (at + (relocHeader + length (it .bytes))) bs)
   where
-    go : (t : Bool) → placeOf h (at + (4 + length d)) bs ≤ at + (4 + length d) + sizes bs → cond t (at + 4) (placeOf h (at + (4 + length d)) bs) ≤ at + (4 + length d + sizes bs)
+    go : (t : Bool) → placeOf h (at + (relocHeader + length (it .bytes))) bs ≤ at + (relocHeader + length (it .bytes)) + sizes bs → cond t (at + relocHeader) (placeOf h (at + (relocHeader + length (it .bytes))) bs) ≤ at + (relocHeader + length (it .bytes) + sizes bs)
     go true i = omega arith
     go false i = omega arith
 
@@ -127,9 +130,9 @@ next-le b h (k ∷ ks) a = go (eqb h k) (head-le b ks (a .1)) (next-le b h ks (a
 tiled-four : (prev : Bool) (bs : List Block) → Tiled prev bs → sizes bs % 4 ≡ 0
 unfolding sizes
 tiled-four prev [] t = refl
-tiled-four prev (free n ∷ bs) t = omega (arith, t .2, tiled-four true bs (t .4))
+tiled-four prev (cell (free n) ∷ bs) t = omega (arith, t .2, tiled-four true bs (t .4))
 tiled-four prev (fixed d ∷ bs) t = omega (arith, t .0, tiled-four false bs (t .3))
-tiled-four prev (reloc h d ∷ bs) t = omega (arith, t .0, tiled-four false bs (t .3))
+tiled-four prev (cell (held it) ∷ bs) t = omega (arith, t .0, tiled-four false bs (t .3))
 
 -- ---- a valid structure
 
@@ -138,7 +141,7 @@ module _ (s : Structure) (v : Valid s) where
   e = encode s
 
   is-offset : (h : ℕ) → 0 < occurs h (handlesOf (s .blocks)) + occurs h (s .chain) → Master (start s) h
-  is-offset h l = let r = offset-is h 16 (count s) (omega (arith, v .owned h)) in record { low = r .0; fits = r .1; four = r .2 }
+  is-offset h l = let r = offset-is h zoneHeader (count s) (omega (arith, v .owned h)) in record { low = r .0; fits = r .1; four = r .2 }
 
   links-le : All (λ (k : ℕ). k ≤ 32768) (s .chain)
   links-le = all-of _ (s .chain) (λ h l. let r = is-offset h (omega arith) in omega (arith, r .fits, v .few))
@@ -146,46 +149,46 @@ module _ (s : Structure) (v : Valid s) where
   value-le : (h : ℕ) → value s h < 4294967296
   value-le h = omega (arith, place-le h (start s) (s .blocks), next-le 32768 h (s .chain) links-le, v .short)
 
-  pub heads : (t : List ℕ) → Head (encode s ++ t) (len s) (start s) (count s) (headOf (s .chain)) ((words (value s) (offsets 16 (count s)) ++ join (map encodeBlock (s .blocks))) ++ t)
+  pub heads : (t : List ℕ) → Head (encode s ++ t) (len s) (start s) (count s) (headOf (s .chain)) ((words (value s) (offsets zoneHeader (count s)) ++ join (map encodeBlock (s .blocks))) ++ t)
   unfolding encode header
   heads t = rw (append-assoc (toBE 4 (len s) ++ (toBE 4 (start s) ++ (toBE 4 (count s) ++ (toBE 2 (headOf (s .chain)) ++ 0 ∷ 0 ∷ [])))) _ t)
       (head-of (len s) (start s) (count s) (headOf (s .chain)) _ (omega (arith, v .short)) (omega (arith, v .short)) (omega (arith, v .few)) (omega (arith, head-le 32768 (s .chain) links-le)))
 
-  pub heads-self : Head (encode s) (len s) (start s) (count s) (headOf (s .chain)) (words (value s) (offsets 16 (count s)) ++ join (map encodeBlock (s .blocks)))
+  pub heads-self : Head (encode s) (len s) (start s) (count s) (headOf (s .chain)) (words (value s) (offsets zoneHeader (count s)) ++ join (map encodeBlock (s .blocks)))
   unfolding encode header
   heads-self = head-of (len s) (start s) (count s) (headOf (s .chain)) _ (omega (arith, v .short)) (omega (arith, v .short)) (omega (arith, v .few)) (omega (arith, head-le 32768 (s .chain) links-le))
 
-  length-header : length (header s) ≡ 16
+  length-header : length (header s) ≡ zoneHeader
   unfolding header
   length-header = simp (length-append, length-toBE)
 
   pub master-is : (h : ℕ) → Master (start s) h → masterAt e h ≡ value s h
   unfolding encode
-  master-is h m = words-at (header s) (join (map encodeBlock (s .blocks))) (value s) 16 (count s) h length-header (m .low) (omega (arith, m .fits)) (m .four) (value-le h)
+  master-is h m = words-at (header s) (join (map encodeBlock (s .blocks))) (value s) zoneHeader (count s) h length-header (m .low) (omega (arith, m .fits)) (m .four) (value-le h)
 
   placed : Placed e (start s) (start s) (s .blocks)
   placed = record {
     holds = λ h l. let m = is-offset h (omega arith) in
-        (m, omega (arith, master-is h m, next-none h (s .chain) (omega (arith, v .owned h, offset-le h 16 (count s)))));
-    single = λ h. omega (arith, v .owned h, offset-le h 16 (count s));
+        (m, omega (arith, master-is h m, next-none h (s .chain) (omega (arith, v .owned h, offset-le h zoneHeader (count s)))));
+    single = λ h. omega (arith, v .owned h, offset-le h zoneHeader (count s));
   }
 
   linked : Linked e (start s) (s .chain)
   linked = record {
     holds = λ h l. let m = is-offset h (omega arith) in
-        (m, omega (arith, master-is h m, place-none h (start s) (s .blocks) (omega (arith, v .owned h, offset-le h 16 (count s)))));
-    single = λ h. omega (arith, v .owned h, offset-le h 16 (count s));
+        (m, omega (arith, master-is h m, place-none h (start s) (s .blocks) (omega (arith, v .owned h, offset-le h zoneHeader (count s)))));
+    single = λ h. omega (arith, v .owned h, offset-le h zoneHeader (count s));
   }
 
   es : Encs e (start s) false (start s) (s .blocks)
   es = encs e (start s) (omega (arith, v .few)) false (start s) (s .blocks) (v .tiled) placed
 
   table : List ℕ
-  table = words (value s) (offsets 16 (count s))
+  table = words (value s) (offsets zoneHeader (count s))
 
   length-table : length table ≡ 4 * count s
   unfolding table
-  length-table = length-words (value s) (offsets 16 (count s)) ∙ ap (λ (n : ℕ). 4 * n) (length-offsets 16 (count s))
+  length-table = length-words (value s) (offsets zoneHeader (count s)) ∙ ap (λ (n : ℕ). 4 * n) (length-offsets zoneHeader (count s))
 
   pub rest-is : drop (start s) e ≡ join (map encodeBlock (s .blocks))
   unfolding encode table

@@ -7,16 +7,20 @@ use native.Mathlib.Omega.{arith}
 use lib.Dec.{eqb}
 use borrow.Author.Tests.{not-true}
 use lib.ListN.{length, drop, length-append, length-drop}
+use Rattle.format.specs.Occurs.{occurs}
+use Rattle.block_type.specs.Limits.{longestZone, zoneHeader, fixedHeader, relocHeader}
 use Rattle.bigendian.specs.BigEndian.{Bytes}
 use Rattle.format.proofs.Bool.{and-left, and-right}
-use Rattle.format.specs.WellFormed.{firstField, mastersField, chainField, typeOf, sizeOf, handleOf, isFree, isReloc, splitBlocks, relocs, wellFormed, zoneOf}
+use Rattle.format.specs.WellFormed.{firstField, mastersField, chainField, typeOf, sizeOf, handleOf, isFree, isReloc, splitBlocks, relocs, wellFormed, zoneOf, offsets, chain}
 use Rattle.format.specs.OneWalk.{typeRule, freeRule, relocRule, blockOk, blocksOk}
-use Rattle.format.proofs.Walk.{Good, is-good}
+use Rattle.format.proofs.Walk.{Good, is-good, size-used}
 use Rattle.format.proofs.Masters.{Master}
-use Rattle.format.proofs.Count.{occurs, offsets, occurs-offset, all-at}
-use Rattle.format.proofs.Live.{handles, chain, owned, handles-high, chain-low}
-use Rattle.structure.specs.Structure.{Block, free, fixed, reloc, decodeBlock, byType, join, decodeZone, decode}
-use Rattle.structure.proofs.Codec.{bytes-drop, bytes-left, bytes-right, join-blocks, size-used}
+use Rattle.format.proofs.Count.{occurs-offset, all-at}
+use Rattle.format.proofs.Live.{handles, owned, handles-high, chain-low}
+use Rattle.structure.specs.Structure.{Block, fixed, decodeBlock, byType, join, decodeZone, decode, cell}
+use Rattle.kinds.specs.Kinds.{item, itemIn}
+use Rattle.bay.specs.Bay.{free, held}
+use Rattle.structure.proofs.Codec.{bytes-drop, bytes-left, bytes-right, join-blocks}
 use Rattle.structure.proofs.Table.{Whole, whole, by, count-is, len-is}
 use Rattle.structure.proofs.Round.{offset-is}
 use Rattle.structure.specs.Valid.{handlesOf, Tiled, Valid}
@@ -26,7 +30,7 @@ module _ (z : List ℕ) (first : ℕ) where
       → handlesOf (decodeBlock b ∷ bs) ≡ cond (isReloc b) (handleOf b ∷ handlesOf bs) (handlesOf bs)
   unfolding decodeBlock handlesOf isReloc
   handle-dec prev at b bs g =
-      by z first prev at b g (λ k. handlesOf (byType k (free (sizeOf b)) (fixed (drop 2 b)) (reloc (handleOf b) (drop 4 b)) ∷ bs) ≡ cond (eqb k 2) (handleOf b ∷ handlesOf bs) (handlesOf bs))
+      by z first prev at b g (λ k. handlesOf (byType k (cell (free (sizeOf b))) (fixed (drop fixedHeader b)) (cell (held (itemIn b))) ∷ bs) ≡ cond (eqb k 2) (handleOf b ∷ handlesOf bs) (handlesOf bs))
       (λ e. refl) (λ e. refl) (λ e. refl)
 
   pub handles-decs : (prev : Bool) (at : ℕ) (bs : List (List ℕ)) → blocksOk z first prev at bs ≡ true → handlesOf (map decodeBlock bs) ≡ handles bs
@@ -36,7 +40,7 @@ module _ (z : List ℕ) (first : ℕ) where
       handle-dec prev at b (map decodeBlock bs) (and-left _ (blocksOk z first (isFree b) (at + length b) bs) g)
       ∙ ap (λ (hs : List ℕ). cond (isReloc b) (handleOf b ∷ hs) hs) (handles-decs (isFree b) (at + length b) bs (and-right (blockOk z first prev at b) _ g))
 
-  pub tiled-decs : (prev : Bool) (at : ℕ) (bs : List (List ℕ)) → blocksOk z first prev at bs ≡ true → Bytes (join bs) → length (join bs) ≤ 1048576 → Tiled prev (map decodeBlock bs)
+  pub tiled-decs : (prev : Bool) (at : ℕ) (bs : List (List ℕ)) → blocksOk z first prev at bs ≡ true → Bytes (join bs) → length (join bs) ≤ longestZone → Tiled prev (map decodeBlock bs)
   unfolding blocksOk join decodeBlock isFree typeRule freeRule
   tiled-decs prev at [] g y u = tt
   tiled-decs prev at (b ∷ bs) g y u =
@@ -46,11 +50,11 @@ module _ (z : List ℕ) (first : ℕ) where
       go (typeOf b) refl gb (gb .rule) (bytes-left b (join bs) y) (omega arith)
       (tiled-decs (isFree b) (at + length b) bs (and-right (blockOk z first prev at b) _ g) (bytes-right b (join bs) y) (omega arith))
     where
-      go : (k : ℕ) → typeOf b ≡ k → Good z first prev at b → typeRule k (freeRule prev b) (relocRule z first at (handleOf b)) ≡ true → Bytes b → length b ≤ 1048576
-          → Tiled (eqb k 0) (map decodeBlock bs) → Tiled prev (byType k (free (sizeOf b)) (fixed (drop 2 b)) (reloc (handleOf b) (drop 4 b)) ∷ map decodeBlock bs)
+      go : (k : ℕ) → typeOf b ≡ k → Good z first prev at b → typeRule k (freeRule prev b) (relocRule z first at (handleOf b)) ≡ true → Bytes b → length b ≤ longestZone
+          → Tiled (eqb k 0) (map decodeBlock bs) → Tiled prev (byType k (cell (free (sizeOf b))) (fixed (drop fixedHeader b)) (cell (held (itemIn b))) ∷ map decodeBlock bs)
       go zero e gb r y u t = (not-true prev (and-left (not prev) _ r), gb .low, gb .four, omega (arith, gb .whole), t)
-      go (suc zero) e gb r y u t = (omega (arith, gb .low, gb .four, gb .whole, length-drop 2 b), omega (arith, gb .four, gb .whole, length-drop 2 b, size-used b 0 e), bytes-drop 2 b y, t)
-      go (suc (suc zero)) e gb r y u t = (omega (arith, gb .low, gb .four, gb .whole, length-drop 4 b), omega (arith, gb .four, gb .whole, length-drop 4 b, size-used b 1 e), bytes-drop 4 b y, t)
+      go (suc zero) e gb r y u t = (omega (arith, gb .low, gb .four, gb .whole, length-drop fixedHeader b), omega (arith, gb .four, gb .whole, length-drop fixedHeader b, size-used b 0 e), bytes-drop fixedHeader b y, t)
+      go (suc (suc zero)) e gb r y u t = (omega (arith, gb .low, gb .four, gb .whole, length-drop relocHeader b), omega (arith, gb .four, gb .whole, length-drop relocHeader b, size-used b 1 e), bytes-drop relocHeader b y, t)
       go (suc (suc (suc k))) e gb r y u t = let q : _≡_ {A = ℕ} 0 1 = cc in let x : ⊥ = omega arith in absurd x
 
 module _ (z : List ℕ) (w : Whole z) where
@@ -68,18 +72,18 @@ module _ (z : List ℕ) (w : Whole z) where
       go zero e = all-at _ h (handles bs) (handles-high z (firstField z) false (firstField z) bs (w .parts .walk)) (omega arith) .0
       go (suc n) e = all-at _ h ch (chain-low z (firstField z) (mastersField z - relocs bs) (chainField z) (omega (arith, w .begin)) (w .parts .ends)) (omega arith) .0
 
-  owns : (h : ℕ) → occurs h (handles bs) + occurs h ch ≡ occurs h (offsets 16 (mastersField z))
-  owns h = go (occurs h (handles bs) + occurs h ch) (occurs h (offsets 16 (mastersField z))) refl refl
+  owns : (h : ℕ) → occurs h (handles bs) + occurs h ch ≡ occurs h (offsets zoneHeader (mastersField z))
+  owns h = go (occurs h (handles bs) + occurs h ch) (occurs h (offsets zoneHeader (mastersField z))) refl refl
     where
-      both : Master (firstField z) h → occurs h (handles bs) + occurs h ch ≡ occurs h (offsets 16 (mastersField z))
+      both : Master (firstField z) h → occurs h (handles bs) + occurs h ch ≡ occurs h (offsets zoneHeader (mastersField z))
       both m =
           owned z (firstField z) (mastersField z) (chainField z) (w .begin) (w .parts) h m
-          ∙ sym (occurs-offset h 16 (mastersField z) (m .low) (omega (arith, m .fits, w .begin)) (m .four))
+          ∙ sym (occurs-offset h zoneHeader (mastersField z) (m .low) (omega (arith, m .fits, w .begin)) (m .four))
 
-      go : (a b : ℕ) → occurs h (handles bs) + occurs h ch ≡ a → occurs h (offsets 16 (mastersField z)) ≡ b → occurs h (handles bs) + occurs h ch ≡ occurs h (offsets 16 (mastersField z))
+      go : (a b : ℕ) → occurs h (handles bs) + occurs h ch ≡ a → occurs h (offsets zoneHeader (mastersField z)) ≡ b → occurs h (handles bs) + occurs h ch ≡ occurs h (offsets zoneHeader (mastersField z))
       go zero zero p q = p ∙ sym q
       go (suc a) b p q = both (any-master h (omega arith))
-      go zero (suc b) p q = let r = offset-is h 16 (mastersField z) (omega arith) in both (record { low = r .0; fits = omega (arith, r .1, w .begin); four = r .2 })
+      go zero (suc b) p q = let r = offset-is h zoneHeader (mastersField z) (omega arith) in both (record { low = r .0; fits = omega (arith, r .1, w .begin); four = r .2 })
 
   pub valid-zone : Valid (decodeZone z)
   unfolding decodeZone
@@ -89,7 +93,7 @@ module _ (z : List ℕ) (w : Whole z) where
         tiled = tiled-decs z (firstField z) false (firstField z) bs (w .parts .walk) (subst Bytes (sym j) (bytes-drop (firstField z) z (w .bytes)))
             (omega (arith, ap length j, length-drop (firstField z) z, w .all, w .limit));
         owned = λ h. ap (λ (hs : List ℕ). occurs h hs + occurs h ch) (handles-decs z (firstField z) false (firstField z) bs (w .parts .walk))
-            ∙ owns h ∙ ap (λ (n : ℕ). occurs h (offsets 16 n)) (sym (count-is z w));
+            ∙ owns h ∙ ap (λ (n : ℕ). occurs h (offsets zoneHeader n)) (sym (count-is z w));
         few = omega (arith, count-is z w, w .few);
         short = omega (arith, len-is z w, w .limit);
       }

@@ -7,19 +7,23 @@ use native.Mathlib.Nat.{add-zero, zero-add}
 use native.Mathlib.Omega.{arith}
 use lib.Dec.{eqb}
 use borrow.Author.Tests.{eqb-true, eqb-false, ne-eqb}
-use lib.ListN.{length, getD, take, drop, length-append, length-take, length-drop, take-append-drop}
-use lib.Seq.{take-take, getD-take, drop-drop, drop-cons}
+use lib.ListN.{length, getD, drop, length-append, length-take, length-drop, take-append-drop}
+use lib.Seq.{getD-take, drop-drop, drop-cons}
+use Rattle.format.specs.Occurs.{occurs}
+use Rattle.block_type.specs.Limits.{longestZone, masterSize, mostMasters, zoneHeader, fixedHeader, relocHeader}
 use Rattle.bigendian.specs.BigEndian.{fromBE, toBE, slice, Bytes}
 use Rattle.format.proofs.Bool.{and-left, and-right}
-use Rattle.format.specs.WellFormed.{headerOk, lengthField, firstField, mastersField, chainField, typeOf, sizeOf, handleOf, isFree, isReloc, splitBlocks, isMaster, masterAt, relocs, zoneOf, wellFormed}
+use Rattle.format.specs.WellFormed.{headerOk, lengthField, firstField, mastersField, chainField, typeOf, sizeOf, handleOf, isFree, isReloc, splitBlocks, isMaster, masterAt, relocs, zoneOf, wellFormed, offsets, chain}
 use Rattle.format.proofs.OneWalk.{one-walk}
 use Rattle.format.specs.OneWalk.{links, typeRule, freeRule, relocRule, blockOk, blocksOk, bodyOk}
-use Rattle.format.proofs.Walk.{is-good, drop-take}
+use Rattle.format.proofs.Walk.{is-good, slice-take}
 use Rattle.format.proofs.Masters.{Master}
 use Rattle.format.proofs.Header.{header-facts}
-use Rattle.format.proofs.Count.{one, occurs, All, offsets, one-same, one-other}
-use Rattle.format.proofs.Live.{handles, chain, total, is-held, Parts, body-parts, owned, length-chain}
-use Rattle.structure.specs.Structure.{Block, free, fixed, reloc, Structure, size, encodeBlock, decodeBlock, byType, sizes, relocCount, count, start, len, headOf, placeOf, nextOf, value, words, join, header, encode, decodeZone, decode}
+use Rattle.format.proofs.Count.{one, All, one-same, one-other}
+use Rattle.format.proofs.Live.{handles, total, is-held, Parts, body-parts, owned, length-chain}
+use Rattle.structure.specs.Structure.{Block, fixed, Structure, size, encodeBlock, decodeBlock, byType, sizes, relocCount, count, start, len, headOf, placeOf, nextOf, value, words, join, header, encode, decodeZone, decode, cell}
+use Rattle.kinds.specs.Kinds.{item, itemIn}
+use Rattle.bay.specs.Bay.{free, held}
 use Rattle.structure.proofs.Codec.{part-bytes, bytes-drop, bytes-take, tiles-bytes, join-blocks}
 
 -- ---- words
@@ -28,23 +32,23 @@ use Rattle.structure.proofs.Codec.{part-bytes, bytes-drop, bytes-take, 
 pub peel : (n k : ℕ) (z t : List ℕ) → Bytes z → k + n ≤ length z → t ≡ drop (k + n) z → toBE n (fromBE (slice z k n)) ++ t ≡ drop k z
 peel n k z t y l e = rw (part-bytes n (drop k z) (bytes-drop k z y) (omega (arith, length-drop k z)), e, ← drop-drop n k z) (take-append-drop n (drop k z))
 
-pub words-of : (z : List ℕ) (k n : ℕ) → Bytes z → k + 4 * n ≤ length z → words (masterAt z) (offsets k n) ++ drop (k + 4 * n) z ≡ drop k z
+pub words-of : (z : List ℕ) (k n : ℕ) → Bytes z → k + masterSize * n ≤ length z → words (masterAt z) (offsets k n) ++ drop (k + masterSize * n) z ≡ drop k z
 unfolding words offsets
 words-of z k zero y l = rw add-zero
 words-of z k (suc n) y l =
-    let e : k + 4 * suc n ≡ k + 4 + 4 * n = omega arith in
-    rw (append-assoc, e) (peel 4 k z _ y (omega arith) (words-of z (k + 4) n y (omega arith)))
+    let e : k + masterSize * suc n ≡ k + masterSize + masterSize * n = omega arith in
+    rw (append-assoc, e) (peel 4 k z _ y (omega arith) (words-of z (k + masterSize) n y (omega arith)))
 
 pub words-same : (f g : ℕ → ℕ) (hs : List ℕ) → All (λ (h : ℕ). f h ≡ g h) hs → words f hs ≡ words g hs
 unfolding words
 words-same f g [] a = refl
 words-same f g (h ∷ hs) a = rw (a .0, words-same f g hs (a .1))
 
-pub all-offsets : (P : ℕ → Type 0) (first k n : ℕ) → ((h : ℕ) → Master first h → P h) → 16 ≤ k → k % 4 ≡ 0 → k + 4 * n ≤ first → All P (offsets k n)
+pub all-offsets : (P : ℕ → Type 0) (first k n : ℕ) → ((h : ℕ) → Master first h → P h) → zoneHeader ≤ k → k % 4 ≡ 0 → k + masterSize * n ≤ first → All P (offsets k n)
 unfolding offsets
 all-offsets P first k zero f l q u = tt
 all-offsets P first k (suc n) f l q u =
-    (f k (record { low = l; fits = omega arith; four = q }), all-offsets P first (k + 4) n f (omega arith) (omega arith) (omega arith))
+    (f k (record { low = l; fits = omega arith; four = q }), all-offsets P first (k + masterSize) n f (omega arith) (omega arith) (omega arith))
 
 -- ---- blocks, one at a time
 
@@ -64,20 +68,20 @@ module _ (z : List ℕ) (first : ℕ) (prev : Bool) (at : ℕ) (b : List ℕ) (g
   unfolding decodeBlock
   size-dec =
       let gb = is-good z first prev at b g in
-      by (λ k. size (byType k (free (sizeOf b)) (fixed (drop 2 b)) (reloc (handleOf b) (drop 4 b))) ≡ length b)
-      (λ e. gb .whole) (λ e. omega (arith, gb .low, gb .whole, length-drop 2 b)) (λ e. omega (arith, gb .low, gb .whole, length-drop 4 b))
+      by (λ k. size (byType k (cell (free (sizeOf b))) (fixed (drop fixedHeader b)) (cell (held (itemIn b)))) ≡ length b)
+      (λ e. gb .whole) (λ e. omega (arith, gb .low, gb .whole, length-drop fixedHeader b)) (λ e. omega (arith, gb .low, gb .whole, length-drop relocHeader b))
 
   pub count-dec : (bs : List Block) → relocCount (decodeBlock b ∷ bs) ≡ cond (isReloc b) 1 0 + relocCount bs
   unfolding decodeBlock relocCount isReloc
   count-dec bs =
-      by (λ k. relocCount (byType k (free (sizeOf b)) (fixed (drop 2 b)) (reloc (handleOf b) (drop 4 b)) ∷ bs) ≡ cond (eqb k 2) 1 0 + relocCount bs)
+      by (λ k. relocCount (byType k (cell (free (sizeOf b))) (fixed (drop fixedHeader b)) (cell (held (itemIn b))) ∷ bs) ≡ cond (eqb k 2) 1 0 + relocCount bs)
       (λ e. omega arith) (λ e. omega arith) (λ e. omega arith)
 
-  pub place-dec : (h o : ℕ) (bs : List Block) → placeOf h o (decodeBlock b ∷ bs) ≡ cond (isReloc b && eqb h (handleOf b)) (o + 4) (placeOf h (o + size (decodeBlock b)) bs)
+  pub place-dec : (h o : ℕ) (bs : List Block) → placeOf h o (decodeBlock b ∷ bs) ≡ cond (isReloc b && eqb h (handleOf b)) (o + relocHeader) (placeOf h (o + size (decodeBlock b)) bs)
   unfolding decodeBlock placeOf isReloc
   place-dec h o bs =
-      by (λ k. placeOf h o (byType k (free (sizeOf b)) (fixed (drop 2 b)) (reloc (handleOf b) (drop 4 b)) ∷ bs)
-      ≡ cond (eqb k 2 && eqb h (handleOf b)) (o + 4) (placeOf h (o + size (byType k (free (sizeOf b)) (fixed (drop 2 b)) (reloc (handleOf b) (drop 4 b)))) bs))
+      by (λ k. placeOf h o (byType k (cell (free (sizeOf b))) (fixed (drop fixedHeader b)) (cell (held (itemIn b))) ∷ bs)
+      ≡ cond (eqb k 2 && eqb h (handleOf b)) (o + relocHeader) (placeOf h (o + size (byType k (cell (free (sizeOf b))) (fixed (drop fixedHeader b)) (cell (held (itemIn b))))) bs))
       (λ e. refl) (λ e. refl) (λ e. refl)
 
 module _ (z : List ℕ) (first : ℕ) where
@@ -106,12 +110,12 @@ module _ (z : List ℕ) (first : ℕ) where
     where
       go : (t : Bool) → isReloc b ≡ t → blockOk z first prev at b ≡ true → size (decodeBlock b) ≡ length b
           → placeOf h (at + length b) (map decodeBlock bs) ≡ cond (eqb (occurs h (handles bs)) 0) 0 (masterAt z h)
-          → cond (t && eqb h (handleOf b)) (at + 4) (placeOf h (at + size (decodeBlock b)) (map decodeBlock bs))
+          → cond (t && eqb h (handleOf b)) (at + relocHeader) (placeOf h (at + size (decodeBlock b)) (map decodeBlock bs))
           ≡ cond (eqb (occurs h (cond t (handleOf b ∷ handles bs) (handles bs))) 0) 0 (masterAt z h)
       go false e g₀ s i = rw s i
       go true e g₀ s i = same (eqb h (handleOf b)) refl
         where
-          same : (u : Bool) → eqb h (handleOf b) ≡ u → cond u (at + 4) (placeOf h (at + size (decodeBlock b)) (map decodeBlock bs)) ≡ cond (eqb (one h (handleOf b) + occurs h (handles bs)) 0) 0 (masterAt z h)
+          same : (u : Bool) → eqb h (handleOf b) ≡ u → cond u (at + relocHeader) (placeOf h (at + size (decodeBlock b)) (map decodeBlock bs)) ≡ cond (eqb (one h (handleOf b) + occurs h (handles bs)) 0) 0 (masterAt z h)
           same true q =
               let eh = eqb-true h (handleOf b) q in
               let m = is-held z first prev at b g₀ e in
@@ -154,8 +158,8 @@ total-join [] = refl
 total-join (b ∷ bs) = omega (arith, length-append b (join bs), total-join bs)
 
 -- the header's bytes, field by field
-glue : (z : List ℕ) → Bytes z → 16 ≤ length z → getD z 14 0 ≡ 0 → getD z 15 0 ≡ 0 → (l f m c : ℕ) (t : List ℕ)
-    → l ≡ lengthField z → f ≡ firstField z → m ≡ mastersField z → c ≡ chainField z → t ≡ drop 16 z
+glue : (z : List ℕ) → Bytes z → zoneHeader ≤ length z → getD z 14 0 ≡ 0 → getD z 15 0 ≡ 0 → (l f m c : ℕ) (t : List ℕ)
+    → l ≡ lengthField z → f ≡ firstField z → m ≡ mastersField z → c ≡ chainField z → t ≡ drop zoneHeader z
     → (toBE 4 l ++ (toBE 4 f ++ (toBE 4 m ++ (toBE 2 c ++ 0 ∷ 0 ∷ [])))) ++ t ≡ z
 glue z y n z₁ z₂ l f m c t e₁ e₂ e₃ e₄ e =
     rw (e₁, e₂, e₃, e₄) (simp append-assoc
@@ -167,14 +171,14 @@ glue z y n z₁ z₂ l f m c t e₁ e₂ e₃ e₄ e =
 -- what is known of the bytes z of a well-formed zone, with none beyond its length
 pub record Whole (z : List ℕ) : Type 0 where
   pub bytes : Bytes z
-  pub long : 16 ≤ length z
+  pub long : zoneHeader ≤ length z
   pub all : lengthField z ≡ length z
   pub zero14 : getD z 14 0 ≡ 0
   pub zero15 : getD z 15 0 ≡ 0
-  pub begin : firstField z ≡ 16 + 4 * mastersField z
+  pub begin : firstField z ≡ zoneHeader + masterSize * mastersField z
   pub within : firstField z ≤ length z
-  pub few : mastersField z ≤ 8188
-  pub limit : lengthField z ≤ 1048576
+  pub few : mastersField z ≤ mostMasters
+  pub limit : lengthField z ≤ longestZone
   pub parts : Parts z (firstField z) (mastersField z) (chainField z)
 
 module _ (z : List ℕ) (w : Whole z) where
@@ -207,15 +211,15 @@ module _ (z : List ℕ) (w : Whole z) where
   unfolding decodeZone
   len-is = omega (arith, start-is, sizes-decs z (firstField z) false (firstField z) bs (w .parts .walk), total-is, w .all, w .within)
 
-  rest-is : words (value st) (offsets 16 (count st)) ++ join (map encodeBlock (st .blocks)) ≡ drop 16 z
+  rest-is : words (value st) (offsets zoneHeader (count st)) ++ join (map encodeBlock (st .blocks)) ≡ drop zoneHeader z
   unfolding decodeZone
   rest-is =
-      let f : 16 + 4 * mastersField z ≡ firstField z = sym (w .begin) in
+      let f : zoneHeader + masterSize * mastersField z ≡ firstField z = sym (w .begin) in
       ap₂ (λ (a b : List ℕ). a ++ b)
-      (ap (λ (n : ℕ). words (value st) (offsets 16 n)) count-is
-      ∙ words-same (value st) (masterAt z) (offsets 16 (mastersField z)) (all-offsets _ (firstField z) 16 (mastersField z) value-is (omega arith) refl (omega (arith, w .begin))))
+      (ap (λ (n : ℕ). words (value st) (offsets zoneHeader n)) count-is
+      ∙ words-same (value st) (masterAt z) (offsets zoneHeader (mastersField z)) (all-offsets _ (firstField z) zoneHeader (mastersField z) value-is (omega arith) refl (omega (arith, w .begin))))
       (tiles-bytes z (firstField z) false (firstField z) (drop (firstField z) z) (w .parts .walk) (bytes-drop (firstField z) z (w .bytes)) ∙ ap (λ (n : ℕ). drop n z) (w .begin))
-      ∙ words-of z 16 (mastersField z) (w .bytes) (omega (arith, w .begin, w .within))
+      ∙ words-of z zoneHeader (mastersField z) (w .bytes) (omega (arith, w .begin, w .within))
 
   pub head-is : headOf (st .chain) ≡ chainField z
   unfolding decodeZone
@@ -228,20 +232,17 @@ module _ (z : List ℕ) (w : Whole z) where
 
 -- ---- from the buffer to the zone
 
-cut-take : (s : List ℕ) (n k j : ℕ) → k + j ≤ n → slice (take n s) k j ≡ slice s k j
-cut-take s n k j l = rw (drop-take k n s, take-take j (n - k) (drop k s) (omega arith))
-
 pub whole : (s : List ℕ) → Bytes s → wellFormed s ≡ true → Whole (zoneOf s)
 whole s y w =
     let h : (headerOk s && bodyOk (zoneOf s) (firstField s) (mastersField s) (chainField s)) ≡ true = sym (one-walk s) ∙ w in
     let f = header-facts s (and-left _ (bodyOk (zoneOf s) (firstField s) (mastersField s) (chainField s)) h) in
     let b = and-right (headerOk s) _ h in
-    let l16 : 16 ≤ lengthField s = omega arith in
+    let l16 : zoneHeader ≤ lengthField s = omega arith in
     let n : length (zoneOf s) ≡ lengthField s = omega (arith, length-take (lengthField s) s) in
-    let e₀ : lengthField (zoneOf s) ≡ lengthField s = ap fromBE (cut-take s (lengthField s) 0 4 (omega arith)) in
-    let e₁ : firstField (zoneOf s) ≡ firstField s = ap fromBE (cut-take s (lengthField s) 4 4 (omega arith)) in
-    let e₂ : mastersField (zoneOf s) ≡ mastersField s = ap fromBE (cut-take s (lengthField s) 8 4 (omega arith)) in
-    let e₃ : chainField (zoneOf s) ≡ chainField s = ap fromBE (cut-take s (lengthField s) 12 2 (omega arith)) in
+    let e₀ : lengthField (zoneOf s) ≡ lengthField s = ap fromBE (slice-take s (lengthField s) 0 4 (omega arith)) in
+    let e₁ : firstField (zoneOf s) ≡ firstField s = ap fromBE (slice-take s (lengthField s) 4 4 (omega arith)) in
+    let e₂ : mastersField (zoneOf s) ≡ mastersField s = ap fromBE (slice-take s (lengthField s) 8 4 (omega arith)) in
+    let e₃ : chainField (zoneOf s) ≡ chainField s = ap fromBE (slice-take s (lengthField s) 12 2 (omega arith)) in
     record {
       bytes = bytes-take (lengthField s) s y;
       long = omega arith;

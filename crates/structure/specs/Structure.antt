@@ -3,17 +3,19 @@
 use mathlib.Core.List.{List, [], _∷_, _++_, map}
 use mathlib.Core.Bool.{cond}
 use Prim.Native.Nat.{ℕ, zero, suc, _+_, _*_, _-_, _/_}
-use lib.ListN.{length, drop, replicate}
+use lib.ListN.{length, drop}
 use lib.Dec.{eqb}
 use Rattle.bigendian.specs.BigEndian.{toBE}
-use Rattle.block_type.specs.Limits.{fixedCode, relocCode, freeHeader, fixedHeader, relocHeader, zoneHeader, firstBlock}
-use Rattle.format.specs.WellFormed.{firstField, mastersField, chainField, typeOf, sizeOf, handleOf, splitBlocks, relocs, zoneOf, offsets, chain}
+use Rattle.block_type.specs.Limits.{fixedCode, fixedHeader, zoneHeader, firstBlock, typeUnit}
+use Rattle.kinds.specs.Kinds.{headerOf, masterOf, itemSize, itemIn}
+use Rattle.bay.specs.Bay.{Cell, free, held, cellSize}
+use Rattle.bay.specs.Bytes.{encodeCell}
+use Rattle.format.specs.WellFormed.{firstField, mastersField, chainField, typeOf, sizeOf, splitBlocks, relocs, zoneOf, offsets, chain}
 
--- a free block by its size, a fixed one by its data, a relocatable one by its handle and its data
+-- a block of a bay, free or movable, or a fixed block by its data
 pub data Block : Type 0 where
-  free : ℕ → Block
+  cell : Cell → Block
   fixed : List ℕ → Block
-  reloc : ℕ → List ℕ → Block
 
 pub record Structure : Type 0 where
   -- the free masters, in the order of the chain
@@ -24,16 +26,13 @@ pub record Structure : Type 0 where
 
 -- "Sizes include the header"
 abbrev pub size : Block → ℕ
-size (free n) = n
+size (cell c) = cellSize c
 size (fixed d) = fixedHeader + length d
-size (reloc h d) = relocHeader + length d
 
--- "Free: a 4-byte size in 2-byte words; all later bytes zero. Fixed: 14-bit size in words, data from byte 2. Relocatable: the same
--- 14 bits, then the handle (2 bytes), data from byte 4." The type is the first two bits.
+-- "Fixed: 14-bit size in words, data from byte 2"
 unfoldable pub encodeBlock : Block → List ℕ
-encodeBlock (free n) = toBE 4 (n / 2) ++ replicate (n - freeHeader) 0
-encodeBlock (fixed d) = toBE 2 (fixedCode * 16384 + (fixedHeader + length d) / 2) ++ d
-encodeBlock (reloc h d) = toBE 2 (relocCode * 16384 + (relocHeader + length d) / 2) ++ (toBE 2 h ++ d)
+encodeBlock (cell c) = encodeCell c
+encodeBlock (fixed d) = toBE 2 (fixedCode * typeUnit + (fixedHeader + length d) / 2) ++ d
 
 unfoldable pub sizes : List Block → ℕ
 sizes [] = 0
@@ -41,9 +40,9 @@ sizes (b ∷ bs) = size b + sizes bs
 
 unfoldable pub relocCount : List Block → ℕ
 relocCount [] = 0
-relocCount (free n ∷ bs) = relocCount bs
+relocCount (cell (free n) ∷ bs) = relocCount bs
+relocCount (cell (held e) ∷ bs) = suc (relocCount bs)
 relocCount (fixed d ∷ bs) = relocCount bs
-relocCount (reloc h d ∷ bs) = suc (relocCount bs)
 
 -- m: "relocatable blocks plus chain length"
 abbrev pub count : Structure → ℕ
@@ -65,9 +64,9 @@ headOf (h ∷ hs) = h
 -- the data offset of the block with handle h, the first block being at offset `at`; 0 where there is none
 unfoldable pub placeOf : ℕ → ℕ → List Block → ℕ
 placeOf h at [] = 0
-placeOf h at (free n ∷ bs) = placeOf h (at + n) bs
+placeOf h at (cell (free n) ∷ bs) = placeOf h (at + n) bs
+placeOf h at (cell (held e) ∷ bs) = cond (eqb h (masterOf e)) (at + headerOf e) (placeOf h (at + itemSize e) bs)
 placeOf h at (fixed d ∷ bs) = placeOf h (at + (fixedHeader + length d)) bs
-placeOf h at (reloc k d ∷ bs) = cond (eqb h k) (at + relocHeader) (placeOf h (at + (relocHeader + length d)) bs)
 
 -- what follows h in the chain; 0 where there is nothing
 unfoldable pub nextOf : ℕ → List ℕ → ℕ
@@ -104,7 +103,7 @@ byType (suc zero) a b c = b
 byType (suc (suc k)) a b c = c
 
 unfoldable pub decodeBlock : List ℕ → Block
-decodeBlock b = byType (typeOf b) (free (sizeOf b)) (fixed (drop fixedHeader b)) (reloc (handleOf b) (drop relocHeader b))
+decodeBlock b = byType (typeOf b) (cell (free (sizeOf b))) (fixed (drop fixedHeader b)) (cell (held (itemIn b)))
 
 -- of the bytes of a zone, with none beyond its length
 unfoldable pub decodeZone : List ℕ → Structure

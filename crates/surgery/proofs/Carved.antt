@@ -10,9 +10,13 @@ use lib.Dec.{eqb}
 use borrow.Author.Tests.{eqb-false, eq-eqb, ne-eqb}
 use lib.ListN.{length, take, drop, replicate, length-replicate}
 use lib.Seq.{drop-drop, drop-at, take-at}
+use Rattle.format.specs.Occurs.{occurs}
+use Rattle.format.specs.WellFormed.{offsets}
+use Rattle.block_type.specs.Limits.{largestBlock, longestZone, zoneHeader}
 use Rattle.bigendian.specs.BigEndian.{toBE, slice, overwrite, Bytes}
-use Rattle.format.proofs.Count.{one, occurs, offsets, one-same, one-other}
-use Rattle.structure.specs.Structure.{Block, free, fixed, reloc, Structure, sizes, count, start, len, headOf, placeOf, nextOf, value, encode}
+use Rattle.format.proofs.Count.{one, one-same, one-other}
+use Rattle.structure.specs.Structure.{Block, fixed, Structure, sizes, count, start, len, headOf, placeOf, nextOf, value, encode, cell}
+use Rattle.bay.specs.Bay.{free, held}
 use Rattle.structure.specs.Valid.{handlesOf, Tiled, Valid}
 use Rattle.structure.proofs.Round.{next-none, offset-is, rest-is}
 use Rattle.row.specs.Row.{bytesOf, Sound}
@@ -39,10 +43,10 @@ zeros-bytes zero i = omega arith
 zeros-bytes (suc n) zero = omega arith
 zeros-bytes (suc n) (suc i) = zeros-bytes n i
 
-gap-tiled : (n : ℕ) (post : List Block) → n % 4 ≡ 0 → n ≤ 1048576 → Tiled true post → Tiled false (gapOf n ++ post)
+gap-tiled : (n : ℕ) (post : List Block) → n % 4 ≡ 0 → n ≤ longestZone → Tiled true post → Tiled false (gapOf n ++ post)
 gap-tiled n post q l t = go (eqb n 0) refl
   where
-    go : (x : Bool) → eqb n 0 ≡ x → Tiled false (cond x [] (free n ∷ []) ++ post)
+    go : (x : Bool) → eqb n 0 ≡ x → Tiled false (cond x [] (cell (free n) ∷ []) ++ post)
     go true e = tiled-false true post t
     go false e = (refl, (let ne = eqb-false n 0 e in omega arith), q, l, t)
 
@@ -50,7 +54,7 @@ gap-none : (n k : ℕ) → occurs k (handlesOf (gapOf n)) ≡ 0
 unfolding handlesOf occurs
 gap-none n k = go (eqb n 0)
   where
-    go : (t : Bool) → occurs k (handlesOf (cond t [] (free n ∷ []))) ≡ 0
+    go : (t : Bool) → occurs k (handlesOf (cond t [] (cell (free n) ∷ []))) ≡ 0
     go true = refl
     go false = refl
 
@@ -58,12 +62,12 @@ gap-length : (n : ℕ) → length (handlesOf (gapOf n)) ≡ 0
 unfolding handlesOf
 gap-length n = go (eqb n 0)
   where
-    go : (t : Bool) → length (handlesOf (cond t [] (free n ∷ []))) ≡ 0
+    go : (t : Bool) → length (handlesOf (cond t [] (cell (free n) ∷ []))) ≡ 0
     go true = refl
     go false = refl
 
-module _ (s : Structure) (v : Valid s) (pre post : List Block) (need h n : ℕ) (ks : List ℕ) (e : s .blocks ≡ pre ++ ((free n ∷ []) ++ post)) (el : s .chain ≡ h ∷ ks)
-    (low : 4 ≤ need) (fit : need ≤ n) (four : need % 4 ≡ 0) (high : need ≤ 32764) where
+module _ (s : Structure) (v : Valid s) (pre post : List Block) (need h n : ℕ) (ks : List ℕ) (e : s .blocks ≡ pre ++ ((cell (free n) ∷ []) ++ post)) (el : s .chain ≡ h ∷ ks)
+    (low : 4 ≤ need) (fit : need ≤ n) (four : need % 4 ≡ 0) (high : need ≤ largestBlock) where
   abbrev new : List Block
   new = carvedFrom need h n
 
@@ -73,31 +77,31 @@ module _ (s : Structure) (v : Valid s) (pre post : List Block) (need h n : ℕ) 
   abbrev s′ : Structure
   s′ = record { chain = ks; blocks = pre ++ (new ++ post) }
 
-  here : Tiled (lastFree false pre) (free n ∷ post)
-  here = tiled-right false pre (free n ∷ post) (subst (Tiled false) e (v .tiled))
+  here : Tiled (lastFree false pre) (cell (free n) ∷ post)
+  here = tiled-right false pre (cell (free n) ∷ post) (subst (Tiled false) e (v .tiled))
 
   in-chain : occurs h (s .chain) ≡ suc (occurs h ks)
   unfolding occurs
   in-chain = ap (occurs h) el ∙ omega (arith, one-same h h refl)
 
-  pub is-master : 0 < occurs h (offsets 16 (count s))
+  pub is-master : 0 < occurs h (offsets zoneHeader (count s))
   is-master = omega (arith, v .owned h, in-chain)
 
   long-new : length (replicate {A = ℕ} (need - 4) 0) ≡ need - 4
   long-new = length-replicate {A = ℕ} (need - 4) 0
 
   so : Sound new
-  so = ((omega (arith, long-new), omega (arith, long-new), (let q = offset-is h 16 (count s) is-master in omega (arith, q .1, v .few))), gap-sound (n - need) (omega (arith, here .2)) (omega (arith, here .3)))
+  so = ((omega (arith, long-new), omega (arith, long-new), (let q = offset-is h zoneHeader (count s) is-master in omega (arith, q .1, v .few))), gap-sound (n - need) (omega (arith, here .2)) (omega (arith, here .3)))
 
-  sz : sizes new ≡ sizes (free n ∷ [])
+  sz : sizes new ≡ sizes (cell (free n) ∷ [])
   unfolding sizes
   sz = omega (arith, long-new, gap-sizes (n - need))
 
-  ct : length (handlesOf new) + length ks ≡ length (handlesOf (free n ∷ [])) + length (s .chain)
+  ct : length (handlesOf new) + length ks ≡ length (handlesOf (cell (free n) ∷ [])) + length (s .chain)
   unfolding handlesOf
   ct = omega (arith, gap-length (n - need), ap length el)
 
-  old-none : (k : ℕ) → occurs k (handlesOf (free n ∷ [])) ≡ 0
+  old-none : (k : ℕ) → occurs k (handlesOf (cell (free n) ∷ [])) ≡ 0
   unfolding handlesOf occurs
   old-none k = refl
 
@@ -117,11 +121,11 @@ module _ (s : Structure) (v : Valid s) (pre post : List Block) (need h n : ℕ) 
   unfolding handlesOf occurs
   once-pre = omega (arith, handle-once s v h, in-chain, ap (λ (b : List Block). occurs h (handlesOf b)) e, occ pre)
     where
-      occ : (a : List Block) → occurs h (handlesOf a) ≤ occurs h (handlesOf (a ++ (free n ∷ post)))
+      occ : (a : List Block) → occurs h (handlesOf a) ≤ occurs h (handlesOf (a ++ (cell (free n) ∷ post)))
       occ [] = omega arith
-      occ (free k ∷ a) = occ a
+      occ (cell (free k) ∷ a) = occ a
       occ (fixed d ∷ a) = occ a
-      occ (reloc k d ∷ a) = omega (arith, occ a)
+      occ (cell (held it) ∷ a) = omega (arith, occ a)
 
   holds : (k : ℕ) → upd (value s) h (o + 4) k ≡ value s′ k
   holds k = go (ℕ-discrete k h)
@@ -129,12 +133,12 @@ module _ (s : Structure) (v : Valid s) (pre post : List Block) (need h n : ℕ) 
       go : Dec (k ≡ h) → upd (value s) h (o + 4) k ≡ value s′ k
       go (yes p) =
           let a : value s′ h ≡ o + 4 =
-          ap₂ (λ (a b : ℕ). a + b) (place-mid s v pre (free n ∷ []) new post ks e sz so ct h once-pre (omega (arith, new-is h, one-same h h refl)) ∙ place-new)
+          ap₂ (λ (a b : ℕ). a + b) (place-mid s v pre (cell (free n) ∷ []) new post ks e sz so ct h once-pre (omega (arith, new-is h, one-same h h refl)) ∙ place-new)
           (next-none h ks (omega (arith, handle-once s v h, in-chain))) ∙ add-zero (o + 4) in
           rw (eq-eqb k h p) (sym a ∙ ap (value s′) (sym p))
       go (no p) =
           rw (ne-eqb k h p)
-          (ap₂ (λ (a b : ℕ). a + b) (sym (place-same s v pre (free n ∷ []) new post ks e sz so ct k (old-none k) (new-is k ∙ one-other k h p))) (next-other k p))
+          (ap₂ (λ (a b : ℕ). a + b) (sym (place-same s v pre (cell (free n) ∷ []) new post ks e sz so ct k (old-none k) (new-is k ∙ one-other k h p))) (next-other k p))
 
   pub carved : carvedBytes (encode s) need h (headOf ks) o n ≡ encode s′
   carved =
@@ -145,12 +149,12 @@ module _ (s : Structure) (v : Valid s) (pre post : List Block) (need h n : ℕ) 
       ∙ ap (λ (x : List ℕ). overwrite (overwrite x 12 (toBE 2 (headOf ks))) h (toBE 4 (o + 4))) (img-rest l f m c (sizes pre) o (value s) r (bytesOf new) refl)
       ∙ ap (λ (x : List ℕ). overwrite x h (toBE 4 (o + 4))) (img-chain l f m c (headOf ks) (value s) r′)
       ∙ img-master l f m (headOf ks) h (o + 4) (value s) r′ is-master
-      ∙ replaced s v pre (free n ∷ []) new post ks e sz so ct (upd (value s) h (o + 4)) (λ k p. holds k)
+      ∙ replaced s v pre (cell (free n) ∷ []) new post ks e sz so ct (upd (value s) h (o + 4)) (λ k p. holds k)
 
   pub carved-valid : Valid s′
   unfolding occurs
   carved-valid =
-      replaced-valid s v pre (free n ∷ []) new post ks e sz so ct
-      (tiled-join false pre (new ++ post) (tiled-left false pre (free n ∷ post) (subst (Tiled false) e (v .tiled)))
+      replaced-valid s v pre (cell (free n) ∷ []) new post ks e sz so ct
+      (tiled-join false pre (new ++ post) (tiled-left false pre (cell (free n) ∷ post) (subst (Tiled false) e (v .tiled)))
       (omega (arith, long-new), omega (arith, long-new), zeros-bytes (need - 4), gap-tiled (n - need) post (omega (arith, here .2)) (omega (arith, here .3)) (here .4)))
       (λ k. omega (arith, new-is k, old-none k, ap (occurs k) el))

@@ -1,19 +1,20 @@
 -- Two more uses of the replacement law: blocks without masters, and a block that has grown in a compacted bay.
 use mathlib.Core.Path.{_≡_, refl, sym, ap, _∙_}
 use mathlib.Core.List.{List, [], _∷_, _++_, append-nil}
-use Prim.Native.Nat.{ℕ, _+_, _-_, _%_, _≤_}
+use Prim.Native.Nat.{ℕ, _+_, _-_, _≤_}
 use native.Mathlib.Omega.{arith}
 use lib.ListN.{length, replicate, length-replicate, length-append}
+use Rattle.format.specs.Occurs.{occurs}
 use Rattle.bigendian.specs.BigEndian.{overwrite}
-use Rattle.format.proofs.Count.{occurs}
-use Rattle.structure.specs.Structure.{Block, free, fixed, reloc, Structure, sizes, count, start, len, headOf, nextOf, value, encode}
+use Rattle.structure.specs.Structure.{Block, Structure, sizes, count, start, len, headOf, nextOf, value, encode, cell}
+use Rattle.kinds.specs.Kinds.{item}
+use Rattle.bay.specs.Bay.{held}
 use Rattle.structure.specs.Valid.{handlesOf, Valid}
 use Rattle.row.specs.Row.{bytesOf, Sound}
-use Rattle.row.proofs.Laws.{sound-append}
 use Rattle.find_bay.specs.Spots.{gapOf}
-use Rattle.find_bay.proofs.Numbers.{sizes-append}
+use Rattle.structure.proofs.Append.{sizes-append, handles-append}
 use Rattle.compact_bay.specs.Tidy.{setAll}
-use Rattle.compact_bay.proofs.Squeeze.{handles-append, gap-sizes, gap-sound, gap-handles}
+use Rattle.compact_bay.proofs.Squeeze.{gap-sizes, gap-handles}
 use Rattle.surgery.proofs.Image.{encode-img, img-rest}
 use Rattle.surgery.proofs.Replace.{replaced, place-same, moved}
 
@@ -37,31 +38,19 @@ module _ (s : Structure) (v : Valid s) (pre mid mid′ post : List Block) (e : s
       ∙ replaced s v pre mid mid′ post (s .chain) e sz so ct (value s)
       (λ k p. ap (λ (x : ℕ). x + nextOf k (s .chain)) (sym (place-same s v pre mid mid′ post (s .chain) e sz so ct k (none k mid h) (none k mid′ h′))))
 
--- a fixed block of need bytes at the high end of a free block of n
-pub fixed-placed : (s : Structure) → Valid s → (pre post : List Block) (n need : ℕ) → s .blocks ≡ pre ++ ((free n ∷ []) ++ post) → need ≤ n → 4 ≤ need → need % 4 ≡ 0 → n % 4 ≡ 0 → n ≤ 1048576 → need ≤ 32764
-    → overwrite (encode s) (start s + sizes pre) (bytesOf (gapOf (n - need) ++ fixed (replicate (need - 2) 0) ∷ [])) ≡ encode (record { chain = s .chain; blocks = pre ++ ((gapOf (n - need) ++ fixed (replicate (need - 2) 0) ∷ []) ++ post) })
-unfolding sizes handlesOf
-fixed-placed s v pre post n need e fit low four fn lim high =
-    let l = length-replicate {A = ℕ} (need - 2) 0 in
-    plain s v pre (free n ∷ []) (gapOf (n - need) ++ fixed (replicate (need - 2) 0) ∷ []) post e
-    (omega (arith, sizes-append (gapOf (n - need)) (fixed (replicate (need - 2) 0) ∷ []), gap-sizes (n - need)))
-    (sound-append (gapOf (n - need)) (fixed (replicate (need - 2) 0) ∷ []) (gap-sound (n - need) (omega arith) (omega arith)) ((omega arith, omega arith), tt))
-    refl
-    (handles-append (gapOf (n - need)) (fixed (replicate (need - 2) 0) ∷ []) ∙ ap (λ (x : List ℕ). x ++ []) (gap-handles (n - need)))
-
 -- in a compacted bay, the block of handle h with `more` zero bytes at its end, what stands behind it slid up, the rest free
-pub grown : (s : Structure) → Valid s → (pre a b post : List Block) (h n more : ℕ) (d : List ℕ) → s .blocks ≡ pre ++ ((a ++ (reloc h d ∷ (b ++ gapOf n))) ++ post)
-    → more ≤ n → Sound (a ++ (reloc h (d ++ replicate more 0) ∷ (b ++ gapOf (n - more))))
-    → setAll (start s + sizes pre) (a ++ (reloc h (d ++ replicate more 0) ∷ (b ++ gapOf (n - more)))) (overwrite (encode s) (start s + sizes pre) (bytesOf (a ++ (reloc h (d ++ replicate more 0) ∷ (b ++ gapOf (n - more))))))
-    ≡ encode (record { chain = s .chain; blocks = pre ++ ((a ++ (reloc h (d ++ replicate more 0) ∷ (b ++ gapOf (n - more)))) ++ post) })
+pub grown : (s : Structure) → Valid s → (pre a b post : List Block) (h n more : ℕ) (d : List ℕ) → s .blocks ≡ pre ++ ((a ++ (cell (held (item h d)) ∷ (b ++ gapOf n))) ++ post)
+    → more ≤ n → Sound (a ++ (cell (held (item h (d ++ replicate more 0))) ∷ (b ++ gapOf (n - more))))
+    → setAll (start s + sizes pre) (a ++ (cell (held (item h (d ++ replicate more 0))) ∷ (b ++ gapOf (n - more)))) (overwrite (encode s) (start s + sizes pre) (bytesOf (a ++ (cell (held (item h (d ++ replicate more 0))) ∷ (b ++ gapOf (n - more))))))
+    ≡ encode (record { chain = s .chain; blocks = pre ++ ((a ++ (cell (held (item h (d ++ replicate more 0))) ∷ (b ++ gapOf (n - more)))) ++ post) })
 unfolding sizes handlesOf
 grown s v pre a b post h n more d e fit so =
-    let old = a ++ (reloc h d ∷ (b ++ gapOf n)) in
-    let new = a ++ (reloc h (d ++ replicate more 0) ∷ (b ++ gapOf (n - more))) in
+    let old = a ++ (cell (held (item h d)) ∷ (b ++ gapOf n)) in
+    let new = a ++ (cell (held (item h (d ++ replicate more 0))) ∷ (b ++ gapOf (n - more))) in
     let ld : length (d ++ replicate more 0) ≡ length d + more = length-append d (replicate more 0) ∙ ap (λ (x : ℕ). length d + x) (length-replicate {A = ℕ} more 0) in
     let sz : sizes new ≡ sizes old =
-    omega (arith, ld, sizes-append a (reloc h (d ++ replicate more 0) ∷ (b ++ gapOf (n - more))), sizes-append a (reloc h d ∷ (b ++ gapOf n)), sizes-append b (gapOf n), sizes-append b (gapOf (n - more)), gap-sizes n, gap-sizes (n - more)) in
+    omega (arith, ld, sizes-append a (cell (held (item h (d ++ replicate more 0))) ∷ (b ++ gapOf (n - more))), sizes-append a (cell (held (item h d)) ∷ (b ++ gapOf n)), sizes-append b (gapOf n), sizes-append b (gapOf (n - more)), gap-sizes n, gap-sizes (n - more)) in
     let hb : (k : ℕ) → handlesOf (b ++ gapOf k) ≡ handlesOf b = λ k. handles-append b (gapOf k) ∙ ap (λ (x : List ℕ). handlesOf b ++ x) (gap-handles k) ∙ append-nil (handlesOf b) in
     let hs : handlesOf new ≡ handlesOf old =
-    handles-append a (reloc h (d ++ replicate more 0) ∷ (b ++ gapOf (n - more))) ∙ ap (λ (x : List ℕ). handlesOf a ++ h ∷ x) (hb (n - more) ∙ sym (hb n)) ∙ sym (handles-append a (reloc h d ∷ (b ++ gapOf n))) in
+    handles-append a (cell (held (item h (d ++ replicate more 0))) ∷ (b ++ gapOf (n - more))) ∙ ap (λ (x : List ℕ). handlesOf a ++ h ∷ x) (hb (n - more) ∙ sym (hb n)) ∙ sym (handles-append a (cell (held (item h d)) ∷ (b ++ gapOf n))) in
     moved s v pre old new post (s .chain) e sz so hs refl

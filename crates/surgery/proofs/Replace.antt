@@ -8,22 +8,23 @@ use native.Mathlib.Omega.{arith}
 use lib.Dec.{eqb}
 use borrow.Author.Tests.{ne-eqb}
 use lib.ListN.{length, length-append}
+use Rattle.format.specs.Occurs.{occurs}
+use Rattle.format.specs.WellFormed.{offsets}
+use Rattle.block_type.specs.Limits.{masterSize, zoneHeader}
 use Rattle.bigendian.specs.BigEndian.{overwrite}
-use Rattle.format.proofs.Count.{occurs, offsets, occurs-append}
+use Rattle.format.proofs.Count.{occurs-append}
 use Rattle.structure.specs.Structure.{Block, Structure, sizes, relocCount, count, start, len, headOf, placeOf, nextOf, value, encode}
 use Rattle.structure.specs.Valid.{handlesOf, Tiled, Valid}
 use Rattle.structure.proofs.Round.{next-none}
 use Rattle.row.specs.Row.{bytesOf, Sound}
 use Rattle.row.proofs.Laws.{bytes-append, bytes-long, sound-left, sound-right}
-use Rattle.find_bay.proofs.Numbers.{sizes-append}
+use Rattle.structure.proofs.Append.{sizes-append, place-append, count-handles, handles-append}
 use Rattle.compact_bay.specs.Tidy.{setAll}
-use Rattle.compact_bay.proofs.Squeeze.{handles-append}
-use Rattle.release.proofs.ZoneLayout.{write-mid, lay-same}
-use Rattle.release.proofs.Freed.{place-append, count-handles}
+use Rattle.structure.proofs.ZoneLayout.{write-mid, lay-same}
 use Rattle.surgery.proofs.Image.{img, encode-img, img-rest, img-same, img-all, all-is, updAll}
 use Rattle.surgery.proofs.Sound.{handle-in, handle-once, valid-sound}
 
-occurs-parts : (g : ℕ) (a b c : List Block) → occurs g (handlesOf (a ++ (b ++ c))) ≡ occurs g (handlesOf a) + (occurs g (handlesOf b) + occurs g (handlesOf c))
+pub occurs-parts : (g : ℕ) (a b c : List Block) → occurs g (handlesOf (a ++ (b ++ c))) ≡ occurs g (handlesOf a) + (occurs g (handlesOf b) + occurs g (handlesOf c))
 occurs-parts g a b c =
     rw (handles-append a (b ++ c), handles-append b c, occurs-append g (handlesOf a) (handlesOf b ++ handlesOf c), occurs-append g (handlesOf b) (handlesOf c))
 
@@ -58,7 +59,7 @@ module _ (s : Structure) (v : Valid s) (pre mid mid′ post : List Block) (ks : 
     count-same = omega (arith, ct, count-parts pre mid′ post, count-parts pre mid post, ap relocCount e)
 
     pub start-same : start s′ ≡ start s
-    start-same = ap (λ (k : ℕ). 16 + 4 * k) count-same
+    start-same = ap (λ (k : ℕ). zoneHeader + masterSize * k) count-same
 
     len-same : len s′ ≡ len s
     len-same = omega (arith, count-same, sizes-parts pre mid′ post, sizes-parts pre mid post, ap sizes e)
@@ -84,12 +85,12 @@ module _ (s : Structure) (v : Valid s) (pre mid mid′ post : List Block) (ks : 
         ap (λ (x : ℕ). placeOf k x (pre ++ (mid′ ++ post))) start-same ∙ a ∙ b
 
     -- the bytes of the new structure, for any g that is what its masters hold
-    pub replaced : (g : ℕ → ℕ) → ((k : ℕ) → 0 < occurs k (offsets 16 (count s)) → g k ≡ value s′ k)
+    pub replaced : (g : ℕ → ℕ) → ((k : ℕ) → 0 < occurs k (offsets zoneHeader (count s)) → g k ≡ value s′ k)
         → img (len s) (start s) (count s) (headOf ks) g (overwrite (bytesOf (s .blocks)) (sizes pre) (bytesOf mid′)) ≡ encode s′
     replaced g f =
         ap (img (len s) (start s) (count s) (headOf ks) g) rest-write
         ∙ img-same (len s) (start s) (count s) (headOf ks) g (value s′) (bytesOf (pre ++ (mid′ ++ post))) f
-        ∙ sym (encode-img s′ ∙ lay-same len-same start-same count-same refl (ap (λ (m : ℕ). map (value s′) (offsets 16 m)) count-same) refl)
+        ∙ sym (encode-img s′ ∙ lay-same len-same start-same count-same refl (ap (λ (m : ℕ). map (value s′) (offsets zoneHeader m)) count-same) refl)
 
     pub replaced-valid : Tiled false (pre ++ (mid′ ++ post))
         → ((k : ℕ) → occurs k (handlesOf mid′) + occurs k ks ≡ occurs k (handlesOf mid) + occurs k (s .chain)) → Valid s′
@@ -102,7 +103,7 @@ module _ (s : Structure) (v : Valid s) (pre mid mid′ post : List Block) (ks : 
         occurs-parts h pre mid post,
         ap (λ (b : List Block). occurs h (handlesOf b)) e,
         v .owned h,
-        ap (λ (m : ℕ). occurs h (offsets 16 m)) count-same,
+        ap (λ (m : ℕ). occurs h (offsets zoneHeader m)) count-same,
       );
       few = omega (arith, count-same, v .few);
       short = omega (arith, len-same, v .short);

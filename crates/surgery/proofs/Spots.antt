@@ -7,8 +7,10 @@ use native.Mathlib.Omega.{arith}
 use lib.Dec.{eqb, leb}
 use borrow.Author.Tests.{eqb-false, leb-true}
 use lib.ListN.{length}
+use Rattle.block_type.specs.Limits.{longestZone}
 use Rattle.bigendian.specs.BigEndian.{slice}
-use Rattle.structure.specs.Structure.{Block, free, fixed, reloc, Structure, sizes, start, encode}
+use Rattle.structure.specs.Structure.{Block, fixed, Structure, sizes, start, encode, cell}
+use Rattle.bay.specs.Bay.{free, held}
 use Rattle.structure.specs.Valid.{Tiled, Valid}
 use Rattle.row.specs.Row.{freeB, fixedB, Sound, blocksOf}
 use Rattle.row.proofs.Laws.{sound-left, sound-right, tiles-join}
@@ -45,9 +47,9 @@ last-snoc q [] b = refl
 last-snoc q (x ∷ a) b = last-snoc (freeB x) a b
 
 fixed-used : (b : Block) → fixedB b ≡ true → freeB b ≡ false
-fixed-used (free n) e = let z : _≡_ {A = ℕ} 0 1 = cc in let x : ⊥ = omega arith in absurd x
+fixed-used (cell (free n)) e = let z : _≡_ {A = ℕ} 0 1 = cc in let x : ⊥ = omega arith in absurd x
 fixed-used (fixed d) e = refl
-fixed-used (reloc h d) e = refl
+fixed-used (cell (held it)) e = refl
 
 all-bays : (ws pre mid bs : List Block) → ws ≡ pre ++ (mid ++ bs) → lastFree false pre ≡ false → AllS (IsBay ws) (baysFrom pre mid bs)
 unfolding baysFrom
@@ -72,13 +74,13 @@ bay-is need bs p e = fit-all (IsBay bs) need (bays bs) p (all-bays bs [] [] bs r
 
 pub record IsHole (bs : List Block) (p : Spot) : Type 0 where
   pub parts : bs ≡ put p (p .inside)
-  pub one : p .inside ≡ free (freeTotal (p .inside)) ∷ []
+  pub one : p .inside ≡ cell (free (freeTotal (p .inside))) ∷ []
 
-free-is : (b : Block) → freeB b ≡ true → b ∷ [] ≡ free (freeTotal (b ∷ [])) ∷ []
+free-is : (b : Block) → freeB b ≡ true → b ∷ [] ≡ cell (free (freeTotal (b ∷ []))) ∷ []
 unfolding freeTotal
-free-is (free n) e = ap (λ (k : ℕ). free k ∷ []) (omega arith)
+free-is (cell (free n)) e = ap (λ (k : ℕ). cell (free k) ∷ []) (omega arith)
 free-is (fixed d) e = let z : _≡_ {A = ℕ} 0 1 = cc in let x : ⊥ = omega arith in absurd x
-free-is (reloc h d) e = let z : _≡_ {A = ℕ} 0 1 = cc in let x : ⊥ = omega arith in absurd x
+free-is (cell (held it)) e = let z : _≡_ {A = ℕ} 0 1 = cc in let x : ⊥ = omega arith in absurd x
 
 all-holes : (ws pre bs : List Block) → ws ≡ pre ++ bs → AllS (IsHole ws) (holesFrom pre bs)
 unfolding holesFrom
@@ -97,9 +99,9 @@ hole-is need bs p e = fit-all (IsHole bs) need (holes bs) p (all-holes bs [] bs 
 used-tiled : (p : Bool) (bs : List Block) → Tiled p bs → Tiled false (used bs) × (lastFree false (used bs) ≡ false)
 unfolding used
 used-tiled p [] t = (tt, refl)
-used-tiled p (free n ∷ bs) t = used-tiled true bs (t .4)
+used-tiled p (cell (free n) ∷ bs) t = used-tiled true bs (t .4)
 used-tiled p (fixed d ∷ bs) t = let r = used-tiled false bs (t .3) in ((t .0, t .1, t .2, r .0), r .1)
-used-tiled p (reloc h d ∷ bs) t = let r = used-tiled false bs (t .3) in ((t .0, t .1, t .2, r .0), r .1)
+used-tiled p (cell (held it) ∷ bs) t = let r = used-tiled false bs (t .3) in ((t .0, t .1, t .2, r .0), r .1)
 
 module _ (s : Structure) (v : Valid s) (p : Spot) (b : IsBay (s .blocks) p) where
   abbrev mid : List Block
@@ -114,7 +116,7 @@ module _ (s : Structure) (v : Valid s) (p : Spot) (b : IsBay (s .blocks) p) wher
   sound-mid : Sound mid
   sound-mid = sound-left mid (p .after) (sound-right (p .before) (mid ++ p .after) (subst Sound (b .parts) (valid-sound s v)))
 
-  short-mid : sizes mid ≤ 1048576
+  short-mid : sizes mid ≤ longestZone
   short-mid = omega (arith, v .short, ap sizes (b .parts), sizes-parts (p .before) mid (p .after))
 
   sound-new : Sound (squeeze mid)
@@ -126,7 +128,7 @@ module _ (s : Structure) (v : Valid s) (p : Spot) (b : IsBay (s .blocks) p) wher
   gap-tiled : Tiled false (gapOf (freeTotal mid) ++ p .after)
   gap-tiled = go (eqb (freeTotal mid) 0) refl
     where
-      go : (t : Bool) → eqb (freeTotal mid) 0 ≡ t → Tiled false (cond t [] (free (freeTotal mid) ∷ []) ++ p .after)
+      go : (t : Bool) → eqb (freeTotal mid) 0 ≡ t → Tiled false (cond t [] (cell (free (freeTotal mid)) ∷ []) ++ p .after)
       go true e = after-tiled false
       go false e = (refl, (let ne = eqb-false (freeTotal mid) 0 e in omega (arith, free-four mid sound-mid)), free-four mid sound-mid, omega (arith, short-mid, used-sizes mid), after-tiled true)
 

@@ -3,13 +3,15 @@ use mathlib.Core.List.{List, _∷_}
 use Prim.Native.Nat.{ℕ, _+_, _-_}
 use lib.ListN.{replicate}
 use Rattle.bigendian.specs.BigEndian.{toBE, overwrite}
-use Rattle.structure.specs.Structure.{Block, reloc}
+use Rattle.structure.specs.Structure.{Block, cell}
+use Rattle.kinds.specs.Kinds.{item}
+use Rattle.bay.specs.Bay.{held}
 use Rattle.row.specs.Row.{bytesOf}
 use Rattle.find_bay.specs.Spots.{gapOf}
 
 -- the blocks that take the place of a free block of n bytes
 abbrev pub carvedFrom : ℕ → ℕ → ℕ → List Block
-carvedFrom need h n = reloc h (replicate (need - 4) 0) ∷ gapOf (n - need)
+carvedFrom need h n = cell (held (item h (replicate (need - 4) 0))) ∷ gapOf (n - need)
 
 -- the writes: the blocks, the chain's head, the master
 abbrev pub carvedBytes : List ℕ → ℕ → ℕ → ℕ → ℕ → ℕ → List ℕ

@@ -7,24 +7,26 @@ use native.Mathlib.Omega.{arith}
 use lib.ListN.{length, getD, drop}
 use mir.Val.{Fits}
 use mir.Syntax.{w8}
+use Rattle.block_type.specs.Limits.{fixedHeader, mostMasters}
 use Rattle.bigendian.specs.BigEndian.{Bytes}
 use Rattle.format.specs.WellFormed.{wellFormed, countOf, splitBlocks, zoneOf, firstField}
-use Rattle.structure.specs.Structure.{Block, free, fixed, reloc, decode, decodeZone, start, relocCount}
+use Rattle.structure.specs.Structure.{Block, fixed, decode, decodeZone, start, relocCount, cell}
 use Rattle.structure.proofs.Table.{Whole, whole, counts-decs}
 use Rattle.structure.proofs.Sound.{valid}
 use Rattle.calls.specs.Bays.{Bays, last, more, sumS}
-use Rattle.calls.specs.State.{Item, Fixed}
-use Rattle.zone.specs.Bay.{Cell, free as gapCell, held, items}
+use Rattle.kinds.specs.Kinds.{Item, itemSize}
+use Rattle.calls.specs.State.{Fixed}
+use Rattle.bay.specs.Bay.{Cell, free, held, items}
 use Rattle.zone.specs.Group.{inFront, group}
 use Rattle.zone.specs.Call.{call}
-use Rattle.tell.proofs.Opened.{first-of}
+use Rattle.access.proofs.Checked.{first-of}
 use Rattle.calls.specs.Calls.{check, toldTwo}
 
 -- how many relocatable blocks the bays have
 abbrev pub liveS : Bays (List Cell) Fixed → ℕ
 liveS s = sumS (λ (b : List Cell). length (items b)) s
 
-live-gap : (n : ℕ) (s : Bays (List Cell) Fixed) → liveS (inFront (gapCell n) s) ≡ liveS s
+live-gap : (n : ℕ) (s : Bays (List Cell) Fixed) → liveS (inFront (free n) s) ≡ liveS s
 live-gap n (last b) = refl
 live-gap n (more b x s) = refl
 
@@ -35,9 +37,9 @@ live-held e (more b x s) = omega arith
 pub live-is : (p : ℕ) (bs : List Block) → relocCount bs ≡ liveS (group p bs)
 unfolding relocCount
 live-is p [] = refl
-live-is p (free n ∷ bs) = live-is (p + n) bs ∙ sym (live-gap n (group (p + n) bs))
-live-is p (fixed d ∷ bs) = omega (arith, live-is (p + (2 + length d)) bs)
-live-is p (reloc h d ∷ bs) = ap suc (live-is (p + (4 + length d)) bs) ∙ sym (live-held (record { handle = h; bytes = d }) (group (p + (4 + length d)) bs))
+live-is p (cell (free n) ∷ bs) = live-is (p + n) bs ∙ sym (live-gap n (group (p + n) bs))
+live-is p (fixed d ∷ bs) = omega (arith, live-is (p + (fixedHeader + length d)) bs)
+live-is p (cell (held e) ∷ bs) = ap suc (live-is (p + itemSize e) bs) ∙ sym (live-held e (group (p + itemSize e) bs))
 
 -- the count of the check is the number of live handles
 pub count-live : (s : List ℕ) → Bytes s → wellFormed s ≡ true → countOf s ≡ liveS (group (start (decode s)) (decode s .blocks))
@@ -56,7 +58,7 @@ module _ (s : List ℕ) (y : Bytes s) (h : wellFormed s ≡ true) where
   pub count-blocks : countOf s ≡ relocCount (decode s .blocks)
   count-blocks = count-live s y h ∙ sym (live-is (start (decode s)) (decode s .blocks))
 
-  pub count-few : countOf s ≤ 8188
+  pub count-few : countOf s ≤ mostMasters
   count-few = omega (arith, count-blocks, valid s y h .few)
 
 pub check-answer : (s : List ℕ) (ok : Bool) (count : ℕ) → ((i : ℕ) → Fits w8 (getD s i 0)) → ok ≡ wellFormed s → count ≡ countOf s

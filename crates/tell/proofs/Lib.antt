@@ -1,5 +1,4 @@
 pub mod CheckLaws
 pub mod Laws
-pub mod Opened
 pub mod Outcomes
-pub mod SumLaws
+pub mod Totals

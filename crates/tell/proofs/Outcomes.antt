@@ -6,6 +6,7 @@ use Prim.Native.Nat.{ℕ, zero, suc, _+_, _%_, _≤_, max}
 use native.Mathlib.Omega.{arith}
 use lib.Dec.{eqb·suc-zero}
 use lib.ListN.{length}
+use Rattle.block_type.specs.Limits.{mostMasters}
 use Rattle.bigendian.specs.BigEndian.{Bytes}
 use Rattle.format.specs.WellFormed.{wellFormed}
 use Rattle.structure.specs.Structure.{decode, start}
@@ -18,10 +19,9 @@ use Rattle.zone.specs.Claim.{freeIn}
 use Rattle.zone.proofs.MetBlocks.{sumsS, free-walk}
 use Rattle.zone.specs.Group.{group}
 use Rattle.zone.specs.Work.{Zone, work}
-use Rattle.zone.specs.Bay.{baySum}
+use Rattle.bay.specs.Bay.{baySum}
 use Rattle.calls.specs.Calls.{Call, Answer, sums, length-of, check}
-use Rattle.tell.proofs.Opened.{fields-of}
-use Rattle.tell.proofs.Laws.{length-is}
+use Rattle.access.proofs.Checked.{fields-of, length-is}
 use Rattle.tell.proofs.CheckLaws.{count-live, count-few}
 
 most-total : {B F : Type 0} (μ : B → ℕ) (s : Bays B F) → maxS μ s ≤ sumS μ s
@@ -80,10 +80,10 @@ length-within s y = go (wellFormed s) refl
     go false h = (rw h (omega arith), rw h refl)
 
 -- no more handles are live than a zone can have masters
-pub check-few : (s : List ℕ) → Bytes s → (call check s) .answer .second ≤ 8188
+pub check-few : (s : List ℕ) → Bytes s → (call check s) .answer .second ≤ mostMasters
 check-few s y = go (wellFormed s) refl
   where
-    go : (t : Bool) → wellFormed s ≡ t → (call check s) .answer .second ≤ 8188
+    go : (t : Bool) → wellFormed s ≡ t → (call check s) .answer .second ≤ mostMasters
     go true h = rw h (omega (arith, count-live s y h, count-few s y h))
     go false h = rw h (omega arith)
 

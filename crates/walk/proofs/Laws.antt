@@ -9,20 +9,22 @@ use borrow.Author.Tests.{eq-eqb, ne-eqb}
 use lib.ListN.{length, take, drop, length-take, length-drop, drop-of-length-le}
 use lib.Seq.{drop-drop}
 use Rattle.format.proofs.Bool.{and-left, and-right}
-use Rattle.format.specs.WellFormed.{sizeOf, handleOf, isFree, splitBlocks, splitFrom}
+use Rattle.format.specs.WellFormed.{sizeOf, handleOf, isFree, firstField, splitBlocks, splitFrom}
 use Rattle.format.specs.OneWalk.{blockOk, blocksOk}
 use Rattle.format.proofs.Walk.{is-first, blocks-cons, blocks-nil, free-take}
-use Rattle.structure.specs.Structure.{free, fixed, reloc, decodeBlock, byType}
+use Rattle.structure.specs.Structure.{fixed, decodeBlock, byType, decodeZone, cell}
+use Rattle.kinds.specs.Kinds.{item}
+use Rattle.bay.specs.Bay.{free, held}
 use Rattle.structure.proofs.Table.{by, size-dec}
-use Rattle.walk.specs.Walker.{blocksAt, Edge, edge, Seen, freeB, lowOf, freeAt}
+use Rattle.walk.specs.Walker.{blocksAt, Edge, edge, Seen, freeB, lowOf}
 
 free-dec : (z : List ℕ) (first : ℕ) (prev : Bool) (at : ℕ) (b : List ℕ) → blockOk z first prev at b ≡ true → freeB (decodeBlock b) ≡ isFree b
 unfolding decodeBlock isFree
 free-dec z first prev at b g =
-    by z first prev at b g (λ k. freeB (byType k (free (sizeOf b)) (fixed (drop 2 b)) (reloc (handleOf b) (drop 4 b))) ≡ eqb k 0) (λ e. refl) (λ e. refl) (λ e. refl)
+    by z first prev at b g (λ k. freeB (byType k (cell (free (sizeOf b))) (fixed (drop 2 b)) (cell (held (item (handleOf b) (drop 4 b))))) ≡ eqb k 0) (λ e. refl) (λ e. refl) (λ e. refl)
 
 -- the first block of a walk that goes well
-pub first-good : (z : List ℕ) (first : ℕ) (prev : Bool) (at : ℕ) (r : List ℕ) → 0 < length r → blocksOk z first prev at (splitBlocks r) ≡ true → blockOk z first prev at (take (sizeOf r) r) ≡ true
+first-good : (z : List ℕ) (first : ℕ) (prev : Bool) (at : ℕ) (r : List ℕ) → 0 < length r → blocksOk z first prev at (splitBlocks r) ≡ true → blockOk z first prev at (take (sizeOf r) r) ≡ true
 unfolding blocksOk splitFrom
 first-good z first prev at [] l g = let x : ⊥ = omega arith in absurd x
 first-good z first prev at (x ∷ xs) l g = and-left _ _ g
@@ -60,7 +62,12 @@ pub tiles-end : (z : List ℕ) (p : ℕ) → length z ≤ p → blocksAt z p ≡
 unfolding blocksAt
 tiles-end z p h = rw (drop-of-length-le z h, blocks-nil)
 
--- ---- the two loops
+-- the blocks of a zone's structure
+pub tiles-are : (z : List ℕ) → blocksAt z (firstField z) ≡ decodeZone z .blocks
+unfolding blocksAt decodeZone
+tiles-are z = refl
+
+-- ---- the loop of low
 
 module _ (z : List ℕ) (first p n : ℕ) (s : Seen z first p n) where
   pub low-step : (t w : ℕ) → (p + n ≡ t → ⊥) → lowOf t p (blocksAt z p) ≡ w → lowOf t (p + n) (blocksAt z (p + n)) ≡ w
@@ -79,9 +86,3 @@ module _ (z : List ℕ) (first p n : ℕ) (s : Seen z first p n) where
 pub low-end : (z : List ℕ) (p t w : ℕ) → length z ≤ p → lowOf t p (blocksAt z p) ≡ w → t ≡ w
 unfolding lowOf
 low-end z p t w h inv = rw (tiles-end z p h) at inv
-
-pub free-yes : (z : List ℕ) (p n : ℕ) (f : Bool) → f ≡ isFree (drop p z) → f ≡ true → n ≡ freeAt z p n
-free-yes z p n f e q = rw (← e, q)
-
-pub free-no : (z : List ℕ) (p n : ℕ) (f : Bool) → f ≡ isFree (drop p z) → f ≡ false → _≡_ {A = ℕ} 0 (freeAt z p n)
-free-no z p n f e q = rw (← e, q)

@@ -7,7 +7,8 @@ use lib.ListN.{length, take, drop}
 use lib.Dec.{eqb}
 use Rattle.format.specs.WellFormed.{isFree, sizeOf, splitBlocks}
 use Rattle.format.specs.OneWalk.{blocksOk}
-use Rattle.structure.specs.Structure.{Block, free, fixed, reloc, size, decodeBlock}
+use Rattle.structure.specs.Structure.{Block, fixed, size, decodeBlock, cell}
+use Rattle.bay.specs.Bay.{free, held}
 
 -- the blocks from offset p on
 unfoldable pub blocksAt : List ℕ → ℕ → List Block
@@ -21,9 +22,9 @@ abbrev pub blockAt : List ℕ → ℕ → Block
 blockAt z p = decodeBlock (take (sizeOf (drop p z)) (drop p z))
 
 abbrev pub freeB : Block → Bool
-freeB (free n) = true
+freeB (cell (free n)) = true
 freeB (fixed d) = false
-freeB (reloc h d) = false
+freeB (cell (held it)) = false
 
 -- a step over a block of n bytes
 pub record Seen (z : List ℕ) (first p n : ℕ) : Type 0 where
@@ -38,13 +39,3 @@ pub record Seen (z : List ℕ) (first p n : ℕ) : Type 0 where
 unfoldable pub lowOf : ℕ → ℕ → List Block → ℕ
 lowOf t at [] = t
 lowOf t at (b ∷ bs) = cond (eqb (at + size b) t) (cond (freeB b) at t) (lowOf t (at + size b) bs)
-
-abbrev pub freeSize : Block → ℕ
-freeSize b = cond (freeB b) (size b) 0
-
-abbrev pub freeAt : List ℕ → ℕ → ℕ → ℕ
-freeAt z p n = cond (isFree (drop p z)) n 0
-
-unfoldable pub freeTotal : List Block → ℕ
-freeTotal [] = 0
-freeTotal (b ∷ bs) = freeSize b + freeTotal bs

@@ -9,14 +9,14 @@ use borrow.Author.Tests.{eqb-true, eq-eqb, ne-eqb}
 use lib.ListN.{length}
 use Rattle.bigendian.specs.BigEndian.{Bytes}
 use Rattle.format.specs.WellFormed.{wellFormed, lengthField, zoneOf}
-use Rattle.structure.specs.Structure.{Block, free, fixed, reloc, size, sizes, start, decode}
+use Rattle.structure.specs.Structure.{Block, fixed, size, sizes, start, decode, cell}
+use Rattle.bay.specs.Bay.{free, held}
 use Rattle.structure.specs.Valid.{Tiled}
 use Rattle.structure.proofs.Sound.{valid}
 use Rattle.structure.proofs.Table.{start-is, whole}
-use Rattle.release.proofs.Freed.{sizes-append}
+use Rattle.structure.proofs.Append.{sizes-append}
 use Rattle.zone.specs.Walker.{Described, codeOf, describe, walkStart, walkStep}
-use Rattle.tell.proofs.Opened.{first-of}
-use Rattle.tell.proofs.Laws.{length-is}
+use Rattle.access.proofs.Checked.{first-of, length-is}
 
 describe-at : (at p : ℕ) (bs : List Block) → 0 < describe at p bs .size → describe at p bs .offset ≡ at
 unfolding describe
@@ -69,9 +69,9 @@ Sized (b ∷ bs) = (0 < size b) × Sized bs
 
 sized : (prev : Bool) (bs : List Block) → Tiled prev bs → Sized bs
 sized prev [] t = tt
-sized prev (free n ∷ bs) t = (omega (arith, t .1), sized true bs (t .4))
+sized prev (cell (free n) ∷ bs) t = (omega (arith, t .1), sized true bs (t .4))
 sized prev (fixed d ∷ bs) t = (omega arith, sized false bs (t .3))
-sized prev (reloc h d ∷ bs) t = (omega arith, sized false bs (t .3))
+sized prev (cell (held it) ∷ bs) t = (omega arith, sized false bs (t .3))
 
 -- the block behind those of a list is found at the end of them
 behind : (p : ℕ) (b : Block) (bs pre : List Block) → Sized (pre ++ b ∷ bs) → describe (p + sizes pre) p (pre ++ b ∷ bs) ≡ record { kind = codeOf b; offset = p + sizes pre; size = size b }

@@ -1,8 +1,9 @@
 // A walker over the blocks of a zone: it holds an offset, and a step gives back the next walker and the block's description.
 ghost use mathlib.Core.Path.{_≡_};
 ghost use Prim.Native.Nat.{_+_, _≤_, max};
-ghost use lib.ListN.{length};
-ghost use Rattle.walk.specs.Walker.{Edge};
+ghost use lib.ListN.{length, drop};
+ghost use Rattle.block_type.specs.Limits.{longestZone};
+ghost use Rattle.row.specs.Row.{Row};
 ghost use Rattle.access.specs.Edit.{IsZone};
 ghost use Rattle.zone.specs.Walker.{walkStart, walkStep};
 ghost use Rattle.walker.specs.Found.{walked, FoundFrom, Found};
@@ -31,12 +32,12 @@ pub struct Moved {
 
 // The block that starts at `at`, looked for from the first block on.
 fn describe(z: &[u8], first: usize, at: usize) -> Described
-    requires { ⌜ (Edge (now z) first first) × (first ≤ length (now z)) ⌝ }
+    requires { ⌜ Row (drop first (now z)) × (first ≤ length (now z)) ⌝ }
     ensures { λ r. ⌜ FoundFrom (now (z .entry)) first at (r .kind) (r .offset) (r .size) ⌝ }
 {
     let mut p = first;
     while p < z.len() {
-        let n = walk::step(z, first, p);
+        let n = row::step(z, p);
         if p == at {
             return Described {
                 kind: block_check::type_at(z, p),
@@ -56,7 +57,7 @@ fn describe(z: &[u8], first: usize, at: usize) -> Described
 // The block that starts at `at` in a well-formed zone, with no bytes beyond its length.
 fn find(z: &[u8], at: usize) -> Described
     requires { ⌜ IsZone (now z) ⌝ }
-    ensures { λ r. ⌜ (Found (now (z .entry)) at (r .kind) (r .offset) (r .size)) × (at + r .size ≤ max at 1048576) ⌝ }
+    ensures { λ r. ⌜ (Found (now (z .entry)) at (r .kind) (r .offset) (r .size)) × (at + r .size ≤ max at longestZone) ⌝ }
 {
     let first = bigendian::get4(z, 4) as usize;
     describe(z, first, at)

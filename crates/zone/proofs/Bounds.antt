@@ -3,7 +3,7 @@ use mathlib.Core.Path.{_≡_}
 use Prim.Native.Nat.{ℕ, _-_, _≤_}
 use native.Mathlib.Omega.{arith}
 use lib.ListN.{drop}
-use Rattle.zone.proofs.Sums.{each-weaken}
+use Rattle.bay.proofs.Each.{each-weaken}
 use Rattle.block_type.specs.Limits.{longestZone}
 use Rattle.calls.specs.State.{newItem}
 use Rattle.zone.specs.Search.{lookup, placeLow, placeHigh, joinAt, resizeIn}

@@ -2,13 +2,14 @@
 use mathlib.Core.Bool.{cond}
 use mathlib.Core.Option.{Option, none, some, Option·getD}
 use mathlib.Core.List.{List, [], _∷_, _++_}
-use Prim.Native.Nat.{ℕ, zero, suc, _+_, _-_, _/_, _%_, _^_}
+use Prim.Native.Nat.{ℕ, zero, suc, _+_, _-_, _/_, _%_, _^_, _*_}
 use lib.ListN.{replicate}
 use lib.Dec.{eqb}
 use Rattle.calls.specs.Bays.{Bays, last, more, orElse}
-use Rattle.calls.specs.State.{is, Item, itemSize, Fixed, fsize, handlesFrom}
-use Rattle.zone.specs.Bay.{Cell, free, held, baySize}
-use Rattle.block_type.specs.Limits.{relocHeader, firstBlock}
+use Rattle.kinds.specs.Kinds.{Item, itemSize}
+use Rattle.calls.specs.State.{is, Fixed, fsize, handlesFrom}
+use Rattle.bay.specs.Bay.{Cell, free, held, baySize}
+use Rattle.block_type.specs.Limits.{relocHeader, firstBlock, relocCode, typeUnit, zoneHeader, fixedCode, freeHeader}
 use Rattle.zone.specs.Work.{Zone}
 
 -- w bytes, high byte first
@@ -17,10 +18,10 @@ big zero n = []
 big (suc w) n = (n / 256 ^ w) % 256 ∷ big w n
 
 abbrev pub freeBytes : ℕ → List ℕ
-freeBytes n = big 4 (n / 2) ++ replicate (n - 4) 0
+freeBytes n = big 4 (n / 2) ++ replicate (n - freeHeader) 0
 
 abbrev pub itemBytes : Item → List ℕ
-itemBytes e = big 2 (32768 + itemSize e / 2) ++ (big 2 (e .handle) ++ e .bytes)
+itemBytes e = big 2 (relocCode * typeUnit + itemSize e / 2) ++ (big 2 (e .handle) ++ e .bytes)
 
 abbrev pub cellBytes : List Cell → List ℕ
 cellBytes [] = []
@@ -29,7 +30,7 @@ cellBytes (held e ∷ cs) = itemBytes e ++ cellBytes cs
 
 -- a fixed block's header: fixedHeader bytes
 abbrev pub fixedHead : Fixed → List ℕ
-fixedHead x = big 2 (16384 + fsize x / 2)
+fixedHead x = big 2 (fixedCode * typeUnit + fsize x / 2)
 
 abbrev pub fixedBytes : Fixed → List ℕ
 fixedBytes x = fixedHead x ++ x .bytes
@@ -68,4 +69,4 @@ abbrev pub headerBytes : ℕ → Zone → List ℕ
 headerBytes m z = big 4 (z .len) ++ (big 4 (firstBlock m) ++ (big 4 m ++ (big 2 (headOr0 (z .chain)) ++ big 2 0)))
 
 abbrev pub zoneBytes : ℕ → Zone → List ℕ
-zoneBytes m z = headerBytes m z ++ (masterBytes m z (handlesFrom 16 m) ++ blockBytes (z .bays))
+zoneBytes m z = headerBytes m z ++ (masterBytes m z (handlesFrom zoneHeader m) ++ blockBytes (z .bays))

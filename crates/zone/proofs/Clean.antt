@@ -11,16 +11,18 @@ use borrow.Author.Tests.{leb-true}
 use Rattle.bigendian.specs.BigEndian.{Bytes}
 use Rattle.calls.specs.Bays.{Bays, last, more, mapS, onFixed, onLast, lastS, findS}
 use Rattle.zone.specs.PickBays.{onLow, onHigh, onJoin}
-use Rattle.calls.specs.State.{is, Item, itemSize, get, alter, sized, Fixed, fsize, pointer, alterFixed, newItem, newFixed}
-use Rattle.zone.specs.Bay.{Cell, baySum, items, gap, joinBays, compactBay, put, takeHigh, release, edit, resized, reshape}
-use Rattle.zone.specs.Counted.{remove}
-use Rattle.zone.proofs.BayLaws.{Each, nothing, just, each-cond, each-over, put-keeps, cut-less, tidy-items, items-weld, items-gap, release-items, edit-items}
-use Rattle.zone.proofs.Sums.{each-orElse, each-weaken}
-use Rattle.zone.proofs.Resize.{length-sized}
+use Rattle.kinds.specs.Kinds.{Item, itemSize}
+use Rattle.calls.specs.State.{is, get, alter, sized, Fixed, fsize, pointer, alterFixed, newItem, newFixed}
+use Rattle.bay.specs.Bay.{Cell, baySum, items, gap, joinBays, compactBay, put, takeHigh, release, edit, resized, reshape}
+use Rattle.bay.specs.Counted.{remove}
+use Rattle.bay.proofs.Each.{Each, nothing, just, each-cond, each-over, each-orElse, each-weaken}
+use Rattle.bay.proofs.Holes.{put-keeps}
+use Rattle.bay.proofs.Laws.{cut-less, tidy-items, items-weld, items-gap, release-items, edit-items}
+use Rattle.bay.proofs.Resize.{length-sized}
 use Rattle.zone.proofs.Own.{own-shaped}
 use Rattle.block_type.specs.Limits.{relocLimit, fixedLimit, fixedHeader, up4}
 use Rattle.zone.specs.Search.{lookup, own}
-use Rattle.zone.proofs.Sound.{Block}
+use Rattle.bay.proofs.Sound.{Block}
 use Rattle.zone.proofs.Walk.{Closed, any, Feeds, bytes-take, bytes-sets}
 use lib.Seq.{sets}
 use Rattle.zone.specs.Work.{Zone}

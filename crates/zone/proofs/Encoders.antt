@@ -8,18 +8,20 @@ use native.Mathlib.Omega.{arith}
 use native.Mathlib.Nat.{add-zero, add-assoc}
 use lib.ListN.{replicate}
 use lib.Dec.{eqb}
+use Rattle.format.specs.Occurs.{occurs}
+use Rattle.format.specs.WellFormed.{offsets}
+use Rattle.block_type.specs.Limits.{masterSize, relocCode, typeUnit, zoneHeader, fixedCode, freeHeader, relocHeader}
 use Rattle.bigendian.specs.BigEndian.{toBE}
-use Rattle.format.proofs.Count.{occurs, offsets}
 use Rattle.structure.specs.Structure as Shape
 use Rattle.structure.specs.Structure.{Block, fixed, count, len, encodeBlock, placeOf, headOf, value, words, join, encode}
 use Rattle.calls.specs.Bays.{Bays, last, more, orElse}
-use Rattle.zone.specs.Bay as Bay
-use Rattle.zone.specs.Counted as Counted
-use Rattle.zone.specs.Counted.{live}
-use Rattle.calls.specs.State.{itemSize, Fixed, fsize, handlesFrom}
-use Rattle.zone.specs.Bay.{Cell, free as gapCell, held, baySize, items}
-use Rattle.zone.proofs.BayLaws.{Each, nothing, just}
-use Rattle.zone.proofs.Sums.{each-weaken, each-orElse}
+use Rattle.bay.specs.Bay as Bay
+use Rattle.bay.specs.Counted as Counted
+use Rattle.bay.specs.Counted.{live}
+use Rattle.kinds.specs.Kinds.{itemSize}
+use Rattle.calls.specs.State.{Fixed, fsize, handlesFrom}
+use Rattle.bay.specs.Bay.{Cell, free, held, baySize, items}
+use Rattle.bay.proofs.Each.{Each, nothing, just, each-weaken, each-orElse}
 use Rattle.zone.proofs.Handles as Handles
 use Rattle.zone.proofs.Handles.{occurs-once}
 use Rattle.zone.proofs.Bytes as Old
@@ -37,16 +39,16 @@ big-is (suc w) n = ap ((n / 256 ^ w) % 256 ∷_) (big-is w n)
 bay-bytes : (cs : List Cell) (r : List Block) → cellBytes cs ++ join (map encodeBlock r) ≡ join (map encodeBlock (flatBay cs r))
 unfolding join encodeBlock
 bay-bytes [] r = refl
-bay-bytes (gapCell n ∷ cs) r = append-assoc (Old.freeBytes n) (cellBytes cs) (join (map encodeBlock r)) ∙ ap₂ _++_ (ap (_++ replicate (n - 4) 0) (big-is 4 (n / 2))) (bay-bytes cs r)
+bay-bytes (free n ∷ cs) r = append-assoc (Old.freeBytes n) (cellBytes cs) (join (map encodeBlock r)) ∙ ap₂ _++_ (ap (_++ replicate (n - freeHeader) 0) (big-is 4 (n / 2))) (bay-bytes cs r)
 bay-bytes (held e ∷ cs) r =
     append-assoc (Old.itemBytes e) (cellBytes cs) (join (map encodeBlock r))
-    ∙ ap₂ _++_ (ap₂ (λ (a b : List ℕ). a ++ (b ++ e .bytes)) (big-is 2 (32768 + itemSize e / 2)) (big-is 2 (e .handle))) (bay-bytes cs r)
+    ∙ ap₂ _++_ (ap₂ (λ (a b : List ℕ). a ++ (b ++ e .bytes)) (big-is 2 (relocCode * typeUnit + itemSize e / 2)) (big-is 2 (e .handle))) (bay-bytes cs r)
 
 strip-bytes : (s : Bays (List Cell) Fixed) → blockBytes s ≡ join (map encodeBlock (flatten s))
 unfolding join encodeBlock
 strip-bytes (last b) = sym (append-nil (cellBytes b)) ∙ bay-bytes b []
 strip-bytes (more b x s) =
-    ap (λ (l : List ℕ). cellBytes b ++ l) (ap₂ _++_ (ap (_++ x .bytes) (big-is 2 (16384 + fsize x / 2))) (strip-bytes s))
+    ap (λ (l : List ℕ). cellBytes b ++ l) (ap₂ _++_ (ap (_++ x .bytes) (big-is 2 (fixedCode * typeUnit + fsize x / 2))) (strip-bytes s))
     ∙ bay-bytes b (fixed (x .bytes) ∷ flatten s)
 
 -- ---- masters
@@ -54,11 +56,11 @@ strip-bytes (more b x s) =
 place-bay : (h p : ℕ) (cs : List Cell) (r : List Block) → placeOf h p (flatBay cs r) ≡ Option·getD (whereIn h p cs) (placeOf h (p + baySize cs) r)
 unfolding placeOf
 place-bay h p [] r = ap (λ (q : ℕ). placeOf h q r) (sym (add-zero p))
-place-bay h p (gapCell n ∷ cs) r = place-bay h (p + n) cs r ∙ ap (λ (q : ℕ). Option·getD (whereIn h (p + n) cs) (placeOf h q r)) (add-assoc p n (baySize cs))
+place-bay h p (free n ∷ cs) r = place-bay h (p + n) cs r ∙ ap (λ (q : ℕ). Option·getD (whereIn h (p + n) cs) (placeOf h q r)) (add-assoc p n (baySize cs))
 place-bay h p (held e ∷ cs) r = go (eqb h (e .handle)) (place-bay h (p + itemSize e) cs r ∙ ap (λ (q : ℕ). Option·getD (whereIn h (p + itemSize e) cs) (placeOf h q r)) (add-assoc p (itemSize e) (baySize cs)))
   where
     go : (t : Bool) → placeOf h (p + itemSize e) (flatBay cs r) ≡ Option·getD (whereIn h (p + itemSize e) cs) (placeOf h (p + (itemSize e + baySize cs)) r)
-        → cond t (p + 4) (placeOf h (p + itemSize e) (flatBay cs r)) ≡ Option·getD (cond t (some (p + 4)) (whereIn h (p + itemSize e) cs)) (placeOf h (p + (itemSize e + baySize cs)) r)
+        → cond t (p + relocHeader) (placeOf h (p + itemSize e) (flatBay cs r)) ≡ Option·getD (cond t (some (p + relocHeader)) (whereIn h (p + itemSize e) cs)) (placeOf h (p + (itemSize e + baySize cs)) r)
     go true q = refl
     go false q = q
 
@@ -93,11 +95,11 @@ next-none h (k ∷ ks) e = go (eqb h k) (next-none h ks) e
 
 where-count : (h p : ℕ) (cs : List Cell) → Each (λ (q : ℕ). 1 ≤ Counted.count h (items cs)) (whereIn h p cs)
 where-count h p [] = nothing
-where-count h p (gapCell n ∷ cs) = where-count h (p + n) cs
+where-count h p (free n ∷ cs) = where-count h (p + n) cs
 where-count h p (held e ∷ cs) = go (eqb h (e .handle)) (where-count h (p + itemSize e) cs)
   where
     go : (t : Bool) → Each (λ (q : ℕ). 1 ≤ Counted.count h (items cs)) (whereIn h (p + itemSize e) cs)
-        → Each (λ (q : ℕ). 1 ≤ cond t (suc (Counted.count h (items cs))) (Counted.count h (items cs))) (cond t (some (p + 4)) (whereIn h (p + itemSize e) cs))
+        → Each (λ (q : ℕ). 1 ≤ cond t (suc (Counted.count h (items cs))) (Counted.count h (items cs))) (cond t (some (p + relocHeader)) (whereIn h (p + itemSize e) cs))
     go true k = just (omega arith)
     go false k = k
 
@@ -108,12 +110,12 @@ where-live h p (more b x s) = each-orElse (each-weaken (λ q l. omega (arith, l)
 module _ (z : Zone) (w : Whole z) where
   pub master-is : (h : ℕ) → masterOf (w .m) z h ≡ value (inLine z) h
   master-is h =
-      both (whereS h (16 + 4 * w .m) (z .bays)) (where-live h (16 + 4 * w .m) (z .bays))
-      ∙ ap₂ _+_ (sym (place-strip h (16 + 4 * w .m) (z .bays)) ∙ ap (λ (m : ℕ). placeOf h (16 + 4 * m) (flatten (z .bays))) (sym (count-line z w))) (next-is h (z .chain))
+      both (whereS h (zoneHeader + masterSize * w .m) (z .bays)) (where-live h (zoneHeader + masterSize * w .m) (z .bays))
+      ∙ ap₂ _+_ (sym (place-strip h (zoneHeader + masterSize * w .m) (z .bays)) ∙ ap (λ (m : ℕ). placeOf h (zoneHeader + masterSize * m) (flatten (z .bays))) (sym (count-line z w))) (next-is h (z .chain))
     where
       both : (o : Option ℕ) → Each (λ (q : ℕ). 1 ≤ live h (z .bays)) o → Option·getD o (Old.nextOf h (z .chain)) ≡ Option·getD o 0 + Old.nextOf h (z .chain)
       both none nothing = omega arith
-      both (some q) (just l) = omega (arith, next-none h (z .chain) (omega (arith, w .owned .owns h, occurs-once h 16 (w .m))))
+      both (some q) (just l) = omega (arith, next-none h (z .chain) (omega (arith, w .owned .owns h, occurs-once h zoneHeader (w .m))))
 
   table-is : (hs : List ℕ) → masterBytes (w .m) z hs ≡ words (value (inLine z)) hs
   unfolding words
@@ -124,7 +126,7 @@ module _ (z : Zone) (w : Whole z) where
   unfolding Shape.header
   head-bytes =
       ap₂ (λ (a b : List ℕ). a ++ b) (big-is 4 (z .len) ∙ ap (toBE 4) (sym (len-line z w)))
-      (ap₂ (λ (a b : List ℕ). a ++ b) (big-is 4 (16 + 4 * w .m) ∙ ap (λ (m : ℕ). toBE 4 (16 + 4 * m)) (sym (count-line z w)))
+      (ap₂ (λ (a b : List ℕ). a ++ b) (big-is 4 (zoneHeader + masterSize * w .m) ∙ ap (λ (m : ℕ). toBE 4 (zoneHeader + masterSize * m)) (sym (count-line z w)))
       (ap₂ (λ (a b : List ℕ). a ++ b) (big-is 4 (w .m) ∙ ap (toBE 4) (sym (count-line z w)))
       (ap (λ (a : List ℕ). a ++ (0 ∷ 0 ∷ [])) (big-is 2 (headOr0 (z .chain)) ∙ ap (toBE 2) (head-is (z .chain))))))
 
@@ -133,5 +135,5 @@ module _ (z : Zone) (w : Whole z) where
   encoders =
       ap₂ (λ (a b : List ℕ). a ++ b) head-bytes
       (ap₂ (λ (a b : List ℕ). a ++ b)
-      (table-is (handlesFrom 16 (w .m)) ∙ ap (words (value (inLine z))) (offsets-same 16 (w .m) ∙ ap (offsets 16) (sym (count-line z w))))
+      (table-is (handlesFrom zoneHeader (w .m)) ∙ ap (words (value (inLine z))) (offsets-same zoneHeader (w .m) ∙ ap (offsets zoneHeader) (sym (count-line z w))))
       (strip-bytes (z .bays)))

@@ -7,16 +7,19 @@ use mathlib.Core.List.{List, [], _∷_, _++_, map, List·Permᴰ, List·Permᴰ�
 use Prim.Native.Nat.{ℕ, suc, _+_, _-_, _%_, _≤_}
 use native.Mathlib.Omega.{arith}
 use lib.ListN.{length}
-use Rattle.calls.specs.State.{Item, is, itemSize, total, alter, get, sized, Fixed, fsize}
+use Rattle.kinds.specs.Kinds.{Item, itemSize}
+use Rattle.calls.specs.State.{is, total, alter, get, sized, Fixed, fsize}
 use Rattle.ledger.specs.Ledger.{Bay, bay, sumOf, onEntries, without, less}
 use Rattle.ledger.proofs.Space.{countIn}
-use Rattle.zone.specs.Bay.{Cell, baySize, baySum, items, gap, joinBays, compactBay, put, takeHigh, release, edit, reshape}
-use Rattle.zone.specs.Counted.{count, remove}
+use Rattle.bay.specs.Bay.{Cell, baySize, baySum, items, gap, joinBays, compactBay, put, takeHigh, release, edit, reshape}
+use Rattle.bay.specs.Counted.{count, remove}
 use Rattle.zone.specs.Search.{own}
-use Rattle.zone.proofs.BayLaws.{bsize-split, bsize-gap, items-gap, bsize-weld, items-weld, put-keeps, tidy-size, tidy-items, cut-less, release-size, release-items, edit-size, edit-items, perm-total, perm-map, perm-remove, perm-count, perm-get}
-use Rattle.zone.proofs.Resize.{reshape-sound}
+use Rattle.bay.proofs.Perm.{perm-total, perm-map, perm-remove, perm-count, perm-get}
+use Rattle.bay.proofs.Holes.{put-keeps}
+use Rattle.bay.proofs.Laws.{bsize-split, bsize-gap, items-gap, bsize-weld, items-weld, tidy-size, tidy-items, cut-less, release-size, release-items, edit-size, edit-items}
+use Rattle.bay.proofs.Resize.{reshape-sound}
 use Rattle.zone.proofs.Own.{own-shaped}
-use Rattle.zone.proofs.Sound.{Block, Sound, s-nil, gap-sound, put-sound, release-sound, edit-sound, cut-sound, weld-sound, tidy-sound}
+use Rattle.bay.proofs.Sound.{Block, Sound, s-nil, gap-sound, put-sound, release-sound, edit-sound, cut-sound, weld-sound, tidy-sound}
 
 pub record Fits (b : List Cell) (c : Bay) : Type 0 where
   pub size : baySize b ≡ c .capacity
@@ -54,7 +57,7 @@ module _ {b : List Cell} {c : Bay} (r : Fits b c) where
   put-fits e k h = record {
     size = put-keeps e b h .size ∙ r .size;
     perm = List·Permᴰ·trans (put-keeps e b h .perm) (List·Permᴰ·cons refl (r .perm));
-    sound = put-sound e k h (r .sound);
+    sound = put-sound e k (r .sound);
   }
 
   pub release-fits : (h : ℕ) → Fits (release h b) (onEntries (without h) c)

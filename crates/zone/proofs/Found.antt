@@ -11,17 +11,18 @@ use lib.Dec.{eqb, leb}
 use borrow.Author.Tests.{leb-true, leb-false, le-leb, lt-leb, eqb-true}
 use Rattle.block_type.specs.Limits.{relocHeader}
 use Rattle.calls.specs.Bays.{Bays, last, more, over, orElse, onLowest, mapS, findS, findF, maxS}
-use Rattle.calls.specs.State.{Item, is, itemSize, total, get, Fixed, fsize, pointer, newFixed, cutHigh, joinOver, joinAt, ownSum}
+use Rattle.kinds.specs.Kinds.{Item, itemSize}
+use Rattle.calls.specs.State.{is, total, get, Fixed, fsize, pointer, newFixed, cutHigh, joinOver, joinAt, ownSum}
 use Rattle.calls.specs.Table.{below, isNone}
 use Rattle.zone.specs.PickBays.{onLow, onHigh, glue, onJoin}
-use Rattle.zone.specs.Bay.{Cell, baySum, items, gap, joinBays, put, takeHigh, release, reshape, resized}
-use Rattle.zone.specs.Counted.{remove, count, roomFor, live}
+use Rattle.bay.specs.Bay.{Cell, baySum, items, gap, joinBays, put, takeHigh, release, reshape, resized}
+use Rattle.bay.specs.Counted.{remove, count, roomFor, live}
 use Rattle.zone.specs.Work as Work
 use Rattle.zone.specs.Work.{has}
 use Rattle.zone.specs.Search as Search
 use Rattle.zone.specs.Search.{own, resizeIn}
-use Rattle.zone.proofs.BayLaws.{bsize-split, release-size, release-items}
-use Rattle.zone.proofs.Resize.{length-sized}
+use Rattle.bay.proofs.Laws.{bsize-split, release-size, release-items}
+use Rattle.bay.proofs.Resize.{length-sized}
 
 -- ---- whether nothing is there: a DATA type, so that its implicit arguments are found
 

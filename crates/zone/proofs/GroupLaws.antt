@@ -4,28 +4,30 @@ use mathlib.Core.List.{List, [], _∷_, _++_, append-nil}
 use Prim.Native.Nat.{ℕ, _+_}
 use native.Mathlib.Nat.{add-zero, add-assoc}
 use lib.ListN.{length}
-use Rattle.structure.specs.Structure.{Block, free, fixed, reloc}
+use Rattle.block_type.specs.Limits.{fixedHeader, relocHeader}
+use Rattle.structure.specs.Structure.{Block, fixed, cell}
 use Rattle.calls.specs.Bays.{Bays, last, more}
-use Rattle.calls.specs.State.{itemSize, Fixed}
-use Rattle.zone.specs.Bay.{Cell, free as gapCell, held, baySize}
+use Rattle.kinds.specs.Kinds.{itemSize, item}
+use Rattle.calls.specs.State.{Fixed}
+use Rattle.bay.specs.Bay.{Cell, free, held, baySize}
 use Rattle.zone.proofs.Places.{Tiled, tile-last, tile-more}
 use Rattle.zone.specs.Group.{inFront, group, flatBay, flatten}
 
 abbrev pub blockOf : Cell → Block
-blockOf (gapCell n) = free n
-blockOf (held e) = reloc (e .handle) (e .bytes)
+blockOf (free n) = cell (free n)
+blockOf (held e) = cell (held e)
 
 flatten-front : (c : Cell) (s : Bays (List Cell) Fixed) → flatten (inFront c s) ≡ blockOf c ∷ flatten s
-flatten-front (gapCell n) (last b) = refl
-flatten-front (gapCell n) (more b x s) = refl
+flatten-front (free n) (last b) = refl
+flatten-front (free n) (more b x s) = refl
 flatten-front (held e) (last b) = refl
 flatten-front (held e) (more b x s) = refl
 
 pub flatten-group : (p : ℕ) (bs : List Block) → flatten (group p bs) ≡ bs
 flatten-group p [] = refl
-flatten-group p (free n ∷ bs) = flatten-front (gapCell n) (group (p + n) bs) ∙ ap (free n ∷_) (flatten-group (p + n) bs)
-flatten-group p (reloc h d ∷ bs) = flatten-front (held (record { handle = h; bytes = d })) (group (p + (4 + length d)) bs) ∙ ap (reloc h d ∷_) (flatten-group (p + (4 + length d)) bs)
-flatten-group p (fixed d ∷ bs) = ap (fixed d ∷_) (flatten-group (p + (2 + length d)) bs)
+flatten-group p (cell (free n) ∷ bs) = flatten-front (free n) (group (p + n) bs) ∙ ap (cell (free n) ∷_) (flatten-group (p + n) bs)
+flatten-group p (cell (held it) ∷ bs) = flatten-front (held (record { handle = (it .handle); bytes = (it .bytes) })) (group (p + (relocHeader + length (it .bytes))) bs) ∙ ap (cell (held it) ∷_) (flatten-group (p + (relocHeader + length (it .bytes))) bs)
+flatten-group p (fixed d ∷ bs) = ap (fixed d ∷_) (flatten-group (p + (fixedHeader + length d)) bs)
 
 -- the cells of a bay in front of a strip's first bay
 abbrev inFronts : List Cell → Bays (List Cell) Fixed → Bays (List Cell) Fixed
@@ -42,7 +44,7 @@ fronts-more (c ∷ cs) b x s = ap (inFront c) (fronts-more cs b x s)
 
 group-bay : (p : ℕ) (cs : List Cell) (r : List Block) → group p (flatBay cs r) ≡ inFronts cs (group (p + baySize cs) r)
 group-bay p [] r = ap (λ (q : ℕ). group q r) (sym (add-zero p))
-group-bay p (gapCell n ∷ cs) r = ap (inFront (gapCell n)) (group-bay (p + n) cs r ∙ ap (λ (q : ℕ). inFronts cs (group q r)) (add-assoc p n (baySize cs)))
+group-bay p (free n ∷ cs) r = ap (inFront (free n)) (group-bay (p + n) cs r ∙ ap (λ (q : ℕ). inFronts cs (group q r)) (add-assoc p n (baySize cs)))
 group-bay p (held e ∷ cs) r = ap (inFront (held e)) (group-bay (p + itemSize e) cs r ∙ ap (λ (q : ℕ). inFronts cs (group q r)) (add-assoc p (itemSize e) (baySize cs)))
 
 -- where each fixed block's place is its offset
@@ -50,7 +52,7 @@ pub group-flatten : {p end : ℕ} {s : Bays (List Cell) Fixed} → Tiled p s end
 group-flatten (tile-last {p = p} {b = b} e) = group-bay p b [] ∙ fronts-last b [] ∙ ap (λ (c : List Cell). last c) (append-nil b)
 group-flatten (tile-more {p = p} {b = b} {x = x} {s = s} e t) =
     group-bay p b (fixed (x .bytes) ∷ flatten s)
-    ∙ ap (λ (q : ℕ). inFronts b (more [] (record { place = q; bytes = x .bytes }) (group (q + (2 + length (x .bytes))) (flatten s)))) e
+    ∙ ap (λ (q : ℕ). inFronts b (more [] (record { place = q; bytes = x .bytes }) (group (q + (fixedHeader + length (x .bytes))) (flatten s)))) e
     ∙ ap (λ (u : Bays (List Cell) Fixed). inFronts b (more [] x u)) (group-flatten t)
     ∙ fronts-more b [] x s
     ∙ ap (λ (c : List Cell). more c x s) (append-nil b)

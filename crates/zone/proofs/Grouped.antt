@@ -5,19 +5,21 @@ use mathlib.Core.List.{List, [], _∷_, Permᴰ·refl}
 use Prim.Native.Nat.{ℕ, _+_, _-_, _≤_}
 use native.Mathlib.Omega.{arith}
 use lib.ListN.{length}
-use Rattle.format.proofs.Count.{occurs}
-use Rattle.structure.specs.Structure.{Structure, Block, free, fixed, reloc, sizes, count, start, len}
+use Rattle.format.specs.Occurs.{occurs}
+use Rattle.block_type.specs.Limits.{fixedHeader, relocHeader, zoneHeader}
+use Rattle.structure.specs.Structure.{Structure, Block, fixed, sizes, count, start, len, cell}
 use Rattle.structure.specs.Valid.{handlesOf, Tiled, Valid}
 use Rattle.calls.specs.Bays.{Bays, last, more}
 use Rattle.zone.specs.PickBays.{AllS}
-use Rattle.calls.specs.State.{Item, itemSize, Fixed}
-use Rattle.zone.specs.Bay.{Cell, free as gapCell, held, baySize, items}
-use Rattle.zone.proofs.Sound as Sound
-use Rattle.zone.proofs.Sound.{Sound, s-nil, s-end, s-free, s-held}
+use Rattle.kinds.specs.Kinds.{Item, itemSize}
+use Rattle.calls.specs.State.{Fixed}
+use Rattle.bay.specs.Bay.{Cell, free, held, baySize, items}
+use Rattle.bay.proofs.Sound as Sound
+use Rattle.bay.proofs.Sound.{Sound, s-nil, s-end, s-free, s-held}
 use Rattle.bigendian.specs.BigEndian.{Bytes}
 use Rattle.calls.specs.Calls.{Call, beside, secondOf}
 use Rattle.calls.specs.Table.{refusalOf}
-use Rattle.zone.specs.Counted.{live}
+use Rattle.bay.specs.Counted.{live}
 use Rattle.zone.proofs.Handles.{Owns, owns-closed, occurs-once}
 use Rattle.zone.proofs.Places as Places
 use Rattle.zone.proofs.Places.{tile-last, tile-more, Placed, placed-closed}
@@ -36,9 +38,9 @@ line-bays buf s = λ i. record { chain = s .chain; blocks = flatten-group (start
 
 -- ---- places
 
-front-free : (n : ℕ) {p end : ℕ} {s : Bays (List Cell) Fixed} → Places.Tiled (p + n) s end → Places.Tiled p (inFront (gapCell n) s) end
-front-free n {p} (tile-last {end = end} {b = b} e) = tile-last {p = p} {end = end} {b = gapCell n ∷ b} (omega arith)
-front-free n {p} (tile-more {b = b} {x = x} e t) = tile-more {p = p} {b = gapCell n ∷ b} {x = x} (omega arith) t
+front-free : (n : ℕ) {p end : ℕ} {s : Bays (List Cell) Fixed} → Places.Tiled (p + n) s end → Places.Tiled p (inFront (free n) s) end
+front-free n {p} (tile-last {end = end} {b = b} e) = tile-last {p = p} {end = end} {b = free n ∷ b} (omega arith)
+front-free n {p} (tile-more {b = b} {x = x} e t) = tile-more {p = p} {b = free n ∷ b} {x = x} (omega arith) t
 
 front-held : (d : Item) {p end : ℕ} {s : Bays (List Cell) Fixed} → Places.Tiled (p + itemSize d) s end → Places.Tiled p (inFront (held d) s) end
 front-held d {p} (tile-last {end = end} {b = b} e) = tile-last {p = p} {end = end} {b = held d ∷ b} (omega arith)
@@ -47,9 +49,9 @@ front-held d {p} (tile-more {b = b} {x = x} e t) = tile-more {p = p} {b = held d
 placed-group : (p end : ℕ) (bs : List Block) → p + sizes bs ≡ end → Places.Tiled p (group p bs) end
 unfolding sizes
 placed-group p end [] e = tile-last {p = p} {end = end} {b = []} (omega arith)
-placed-group p end (free n ∷ bs) e = front-free n (placed-group (p + n) end bs (omega arith))
-placed-group p end (reloc h d ∷ bs) e = front-held (record { handle = h; bytes = d }) (placed-group (p + (4 + length d)) end bs (omega arith))
-placed-group p end (fixed d ∷ bs) e = tile-more {p = p} {b = []} {x = record { place = p; bytes = d }} (omega arith) (placed-group (p + (2 + length d)) end bs (omega arith))
+placed-group p end (cell (free n) ∷ bs) e = front-free n (placed-group (p + n) end bs (omega arith))
+placed-group p end (cell (held it) ∷ bs) e = front-held (record { handle = (it .handle); bytes = (it .bytes) }) (placed-group (p + (relocHeader + length (it .bytes))) end bs (omega arith))
+placed-group p end (fixed d ∷ bs) e = tile-more {p = p} {b = []} {x = record { place = p; bytes = d }} (omega arith) (placed-group (p + (fixedHeader + length d)) end bs (omega arith))
 
 -- ---- soundness
 
@@ -57,27 +59,27 @@ sound-held : (e : Item) → Sound.Block (itemSize e) → (s : Bays (List Cell) F
 sound-held e b (last c) d = s-held b d
 sound-held e b (more c x s) d = (s-held b (d .0), d .1)
 
-sound-both : (n : ℕ) (e : Item) → Sound.Block n → Sound.Block (itemSize e) → (s : Bays (List Cell) Fixed) → AllS Sound s → AllS Sound (inFront (gapCell n) (inFront (held e) s))
+sound-both : (n : ℕ) (e : Item) → Sound.Block n → Sound.Block (itemSize e) → (s : Bays (List Cell) Fixed) → AllS Sound s → AllS Sound (inFront (free n) (inFront (held e) s))
 sound-both n e k b (last c) d = s-free k (s-held b d)
 sound-both n e k b (more c x s) d = (s-free k (s-held b (d .0)), d .1)
 
 -- with a free block in front, where none is before
 sound-group : (prev : Bool) (p : ℕ) (bs : List Block) → Tiled prev bs
-    → AllS Sound (group p bs) × (prev ≡ true → (n : ℕ) → Sound.Block n → AllS Sound (inFront (gapCell n) (group p bs)))
+    → AllS Sound (group p bs) × (prev ≡ true → (n : ℕ) → Sound.Block n → AllS Sound (inFront (free n) (group p bs)))
 sound-group prev p [] t = (s-nil, λ e n b. s-end b)
-sound-group prev p (free n ∷ bs) t = (sound-group true (p + n) bs (t .4) .1 refl n (omega (arith, t .1, t .2)), λ e. absurd (false≢true (sym (t .0) ∙ e)))
-sound-group prev p (reloc h d ∷ bs) t =
-    let i : Item = record { handle = h; bytes = d } in
-    let r = sound-group false (p + (4 + length d)) bs (t .3) .0 in
-    let k : Sound.Block (4 + length d) = omega (arith, t .0) in
-    (sound-held i k (group (p + (4 + length d)) bs) r, λ e n b. sound-both n i b k (group (p + (4 + length d)) bs) r)
+sound-group prev p (cell (free n) ∷ bs) t = (sound-group true (p + n) bs (t .4) .1 refl n (omega (arith, t .1, t .2)), λ e. absurd (false≢true (sym (t .0) ∙ e)))
+sound-group prev p (cell (held it) ∷ bs) t =
+    let i : Item = record { handle = (it .handle); bytes = (it .bytes) } in
+    let r = sound-group false (p + (relocHeader + length (it .bytes))) bs (t .3) .0 in
+    let k : Sound.Block (relocHeader + length (it .bytes)) = omega (arith, t .0) in
+    (sound-held i k (group (p + (relocHeader + length (it .bytes))) bs) r, λ e n b. sound-both n i b k (group (p + (relocHeader + length (it .bytes))) bs) r)
 sound-group prev p (fixed d ∷ bs) t =
-    let r = sound-group false (p + (2 + length d)) bs (t .3) .0 in
+    let r = sound-group false (p + (fixedHeader + length d)) bs (t .3) .0 in
     ((s-nil, r), λ e n b. (s-end b, r))
 
 -- ---- data
 
-clean-free : (n : ℕ) {s : Bays (List Cell) Fixed} → Every BayOk FixedOk s → Every BayOk FixedOk (inFront (gapCell n) s)
+clean-free : (n : ℕ) {s : Bays (List Cell) Fixed} → Every BayOk FixedOk s → Every BayOk FixedOk (inFront (free n) s)
 clean-free n (e-last i) = e-last i
 clean-free n (e-more i q r) = e-more i q r
 
@@ -87,9 +89,9 @@ clean-held e d (e-more i q r) = e-more (i-cons d i) q r
 
 clean-group : (prev : Bool) (p : ℕ) (bs : List Block) → Tiled prev bs → Every BayOk FixedOk (group p bs)
 clean-group prev p [] t = e-last i-nil
-clean-group prev p (free n ∷ bs) t = clean-free n (clean-group true (p + n) bs (t .4))
-clean-group prev p (reloc h d ∷ bs) t = clean-held (record { handle = h; bytes = d }) (record { bytes = t .2; short = t .1 }) (clean-group false (p + (4 + length d)) bs (t .3))
-clean-group prev p (fixed d ∷ bs) t = e-more i-nil (record { holds = record { bytes = t .2; short = t .1 }; by4 = t .0 }) (clean-group false (p + (2 + length d)) bs (t .3))
+clean-group prev p (cell (free n) ∷ bs) t = clean-free n (clean-group true (p + n) bs (t .4))
+clean-group prev p (cell (held it) ∷ bs) t = clean-held (record { handle = (it .handle); bytes = (it .bytes) }) (record { bytes = t .2; short = t .1 }) (clean-group false (p + (relocHeader + length (it .bytes))) bs (t .3))
+clean-group prev p (fixed d ∷ bs) t = e-more i-nil (record { holds = record { bytes = t .2; short = t .1 }; by4 = t .0 }) (clean-group false (p + (fixedHeader + length d)) bs (t .3))
 
 pub whole-bays : (buf : ℕ) (s : Structure) → Valid s → len s ≤ buf → Whole (inBays buf s)
 whole-bays buf s v l = record {
@@ -115,7 +117,7 @@ sound-of (e-more d q r) = (d, sound-of r)
 
 -- no handle stands twice
 pub single-live : (z : Zone) (w : Whole z) (h : ℕ) → live h (z .bays) ≤ 1
-single-live z w h = omega (arith, w .owned .owns h, occurs-once h 16 (w .m))
+single-live z w h = omega (arith, w .owned .owns h, occurs-once h zoneHeader (w .m))
 
 module _ (c : Call) (z : Zone) (y : Bytes (secondOf (beside c))) (w : Whole z) (e : refusalOf c (facts true z) ≡ 0) where
   pub work-whole : Whole ((work c z) .next)

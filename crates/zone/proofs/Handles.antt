@@ -7,13 +7,18 @@ use Prim.Native.Nat.{ℕ, zero, suc, _+_, _-_, _≤_, _<_}
 use native.Mathlib.Omega.{arith}
 use lib.Dec.{eqb}
 use borrow.Author.Tests.{leb-true, eqb-true, eqb-false, ne-eqb}
+use Rattle.block_type.specs.Limits.{zoneHeader, masterSize}
 use Rattle.calls.specs.Bays.{Bays, last, more, mapS, sumS, lastS}
 use Rattle.zone.specs.PickBays.{onLow, AllS}
-use Rattle.calls.specs.State.{is, Item, itemSize, alter, get, sized, alterFixed, Fixed, fsize, State, newItem, handlesFrom}
-use Rattle.zone.specs.Bay.{Cell, baySum, items, gap, joinBays, compactBay, takeHigh, release, edit, reshape, resized}
-use Rattle.zone.specs.Counted.{remove, count, live}
-use Rattle.zone.proofs.BayLaws.{Each, nothing, just, each-cond, put-keeps, cut-less, tidy-items, items-weld, items-gap, release-items, edit-items, perm-count}
-use Rattle.zone.proofs.Sums.{each-weaken, each-and, each-orElse, find-each, onLow-sum, onHigh-sum, onJoin-sum, mapS-sum, mapS-zero, onFixed-sum, onLast-sum, sum-parts, find-sum}
+use Rattle.kinds.specs.Kinds.{Item, itemSize}
+use Rattle.calls.specs.State.{is, alter, get, sized, alterFixed, Fixed, fsize, State, newItem, handlesFrom}
+use Rattle.bay.specs.Bay.{Cell, baySum, items, gap, joinBays, compactBay, takeHigh, release, edit, reshape, resized}
+use Rattle.bay.specs.Counted.{remove, count, live}
+use Rattle.bay.proofs.Each.{Each, nothing, just, each-cond, each-weaken, each-and, each-orElse}
+use Rattle.bay.proofs.Perm.{perm-count}
+use Rattle.bay.proofs.Holes.{put-keeps}
+use Rattle.bay.proofs.Laws.{cut-less, tidy-items, items-weld, items-gap, release-items, edit-items}
+use Rattle.zone.proofs.Sums.{find-each, onLow-sum, onHigh-sum, onJoin-sum, mapS-sum, mapS-zero, onFixed-sum, onLast-sum, sum-parts, find-sum}
 use Rattle.zone.proofs.Walk.{Closed}
 use Rattle.zone.proofs.Own.{own-shaped}
 use Rattle.zone.specs.Work.{Zone}
@@ -25,7 +30,7 @@ occurs h (k ∷ ks) = cond (eqb h k) (suc (occurs h ks)) (occurs h ks)
 
 -- how often h is a master's offset
 abbrev pub masters : ℕ → ℕ → ℕ
-masters m h = occurs h (handlesFrom 16 m)
+masters m h = occurs h (handlesFrom zoneHeader m)
 
 -- each master is live or in the chain, and once
 pub record Owns (m : ℕ) (z : Zone) : Type 0 where
@@ -34,14 +39,14 @@ pub record Owns (m : ℕ) (z : Zone) : Type 0 where
 -- the masters are distinct
 pub occurs-below : (h k n : ℕ) → h < k → occurs h (handlesFrom k n) ≡ 0
 occurs-below h k zero l = refl
-occurs-below h k (suc n) l = rw (ne-eqb h k (λ e. omega arith)) (occurs-below h (k + 4) n (omega arith))
+occurs-below h k (suc n) l = rw (ne-eqb h k (λ e. omega arith)) (occurs-below h (k + masterSize) n (omega arith))
 
 pub occurs-once : (h k n : ℕ) → occurs h (handlesFrom k n) ≤ 1
 occurs-once h k zero = omega arith
-occurs-once h k (suc n) = go (eqb h k) refl (occurs-once h (k + 4) n)
+occurs-once h k (suc n) = go (eqb h k) refl (occurs-once h (k + masterSize) n)
   where
-    go : (t : Bool) → eqb h k ≡ t → occurs h (handlesFrom (k + 4) n) ≤ 1 → cond t (suc (occurs h (handlesFrom (k + 4) n))) (occurs h (handlesFrom (k + 4) n)) ≤ 1
-    go true e l = omega (arith, occurs-below h (k + 4) n (omega (arith, eqb-true h k e)))
+    go : (t : Bool) → eqb h k ≡ t → occurs h (handlesFrom (k + masterSize) n) ≤ 1 → cond t (suc (occurs h (handlesFrom (k + masterSize) n))) (occurs h (handlesFrom (k + masterSize) n)) ≤ 1
+    go true e l = omega (arith, occurs-below h (k + masterSize) n (omega (arith, eqb-true h k e)))
     go false e l = l
 
 -- counts after each change of a bay
@@ -105,7 +110,7 @@ cond-add false n = omega arith
 
 module _ (m : ℕ) where
   pub single : (z : Zone) → Owns m z → AllS (λ (b : List Cell). (h : ℕ) → count h (items b) ≤ 1) (z .bays)
-  single z g = all (z .bays) (λ h. sum-parts (λ (b : List Cell). count h (items b)) 1 (z .bays) (omega (arith, g .owns h, occurs-once h 16 m)))
+  single z g = all (z .bays) (λ h. sum-parts (λ (b : List Cell). count h (items b)) 1 (z .bays) (omega (arith, g .owns h, occurs-once h zoneHeader m)))
     where
       all : (s : Bays (List Cell) Fixed) → ((h : ℕ) → AllS (λ (b : List Cell). count h (items b) ≤ 1) s) → AllS (λ (b : List Cell). (h : ℕ) → count h (items b) ≤ 1) s
       all (last b) f = f
@@ -135,7 +140,7 @@ module _ (m : ℕ) where
 
   dropped : (h : ℕ) (z : Zone) → Owns m z → 1 ≤ live h (z .bays) → (k : ℕ) (t : Bool) → eqb k h ≡ t
       → live k (mapS (release h) (z .bays)) + cond t (suc (occurs k (z .chain))) (occurs k (z .chain)) ≡ masters m k
-  dropped h z g q k true e = rw (eqb-true k h e) (omega (arith, mapS-zero (λ (b : List Cell). count h (items b)) (release h) (λ b. ap (count h) (release-items h b) ∙ count-remove-same h (items b)) (z .bays), g .owns h, occurs-once h 16 m))
+  dropped h z g q k true e = rw (eqb-true k h e) (omega (arith, mapS-zero (λ (b : List Cell). count h (items b)) (release h) (λ b. ap (count h) (release-items h b) ∙ count-remove-same h (items b)) (z .bays), g .owns h, occurs-once h zoneHeader m))
   dropped h z g q k false e = ap (_+ occurs k (z .chain)) (mapS-sum _ (λ (b : List Cell). count k (items b)) (release h) (λ b. ap (count k) (release-items h b) ∙ count-remove-other k h (items b) (eqb-false k h e)) (z .bays)) ∙ g .owns k
 
   -- the item found is dropped and put again

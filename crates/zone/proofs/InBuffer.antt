@@ -7,21 +7,22 @@ use native.Mathlib.Omega.{arith}
 use lib.ListN.{length, drop}
 use lib.Dec.{eqb}
 use borrow.Author.Tests.{eqb-true}
+use Rattle.block_type.specs.Limits.{masterSize, zoneHeader}
 use Rattle.bigendian.specs.BigEndian.{fromBE, slice}
 use Rattle.format.specs.WellFormed.{lengthField, masterAt}
 use Rattle.structure.specs.Structure.{encode}
 use Rattle.structure.proofs.Round as Round
 use Rattle.structure.proofs.Round.{offset-is}
 use Rattle.calls.specs.Bays.{Bays, last, more, findF}
-use Rattle.calls.specs.State.{Item, Fixed, pointer}
+use Rattle.kinds.specs.Kinds.{Item}
+use Rattle.calls.specs.State.{Fixed, pointer}
 use Rattle.zone.specs.Search.{lookup}
 use Rattle.zone.specs.Work.{Zone}
 use Rattle.zone.specs.Call.{inLine}
-use Rattle.zone.proofs.BayLaws.{Each, nothing, just, each-cond}
-use Rattle.zone.proofs.Sums.{each-weaken, each-and}
+use Rattle.bay.proofs.Each.{Each, nothing, just, each-cond, each-weaken, each-and}
 use Rattle.zone.proofs.Handles.{found}
-use Rattle.zone.specs.Bay.{Cell}
-use Rattle.zone.specs.Counted.{live}
+use Rattle.bay.specs.Bay.{Cell}
+use Rattle.bay.specs.Counted.{live}
 use Rattle.zone.proofs.Stands as Old
 use Rattle.zone.proofs.Stands.{AllF}
 use Rattle.zone.proofs.Bytes.{zoneBytes, masterOf, big}
@@ -45,9 +46,9 @@ module _ (bs : List ℕ) (z : Zone) (w : Whole z) (s : Stored bs z) where
   -- a live handle's master, read from the buffer
   master-read : (h : ℕ) → 1 ≤ live h (z .bays) → masterAt bs h ≡ masterOf (w .m) z h
   master-read h l =
-      let o = offset-is h 16 (w .m) (omega (arith, masters-same (w .m) h, w .owned .owns h)) in
-      let i : ℕ = (h - 16) / 4 in
-      let e : 16 + 4 * i ≡ h = omega (arith, o .0, o .2) in
+      let o = offset-is h zoneHeader (w .m) (omega (arith, masters-same (w .m) h, w .owned .owns h)) in
+      let i : ℕ = (h - zoneHeader) / masterSize in
+      let e : zoneHeader + masterSize * i ≡ h = omega (arith, o .0, o .2) in
       let k : Old.Stands (zoneBytes (w .m) z) h (big 4 (masterOf (w .m) z h)) = subst (λ (q : ℕ). Old.Stands (zoneBytes (w .m) z) q (big 4 (masterOf (w .m) z q))) e (Old.master-stands (w .m) z i (omega (arith, o .1))) in
       ap fromBE (Old.stands-read (in-buffer k) ∙ sym (Old.stands-read (in-line k)))
       ∙ Round.master-is (inLine z) (valid-line z w) h (record { low = o .0; fits = omega (arith, count-line z w, o .1); four = o .2 })

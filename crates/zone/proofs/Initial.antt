@@ -13,11 +13,11 @@ use Rattle.structure.specs.Structure.{encode}
 use Rattle.structure.proofs.Round.{length-is}
 use Rattle.calls.specs.Table.{first, order, badInitialize}
 use Rattle.calls.proofs.First.{clear, or-left}
-use Rattle.zone.specs.Bay.{gap}
+use Rattle.bay.specs.Bay.{gap}
 use Rattle.zone.specs.Work.{fresh}
 use Rattle.zone.specs.Call.{inLine}
-use Rattle.zone.proofs.BayLaws.{items-gap, bsize-gap}
-use Rattle.zone.proofs.Sound.{s-nil, gap-sound}
+use Rattle.bay.proofs.Laws.{items-gap, bsize-gap}
+use Rattle.bay.proofs.Sound.{s-nil, gap-sound}
 use Rattle.zone.proofs.Places.{tile-last}
 use Rattle.zone.proofs.Clean.{e-last, i-nil}
 use Rattle.zone.proofs.Keep.{Whole, valid-line, len-line}

@@ -7,19 +7,21 @@ use native.Mathlib.Omega.{arith}
 use native.Mathlib.Nat.{add-zero}
 use lib.ListN.{length, length-append}
 use lib.Dec.{eqb}
-use Rattle.block_type.specs.Limits.{mostMasters}
-use Rattle.format.proofs.Count.{occurs, offsets, All, sumOver, sum-occurs, one-same, length-offsets, occurs-append}
+use Rattle.format.specs.Occurs.{occurs}
+use Rattle.format.specs.WellFormed.{offsets}
+use Rattle.block_type.specs.Limits.{mostMasters, longestZone, masterSize, zoneHeader}
+use Rattle.format.proofs.Count.{All, sumOver, sum-occurs, one-same, length-offsets, occurs-append}
 use Rattle.structure.proofs.Round.{offset-le}
-use Rattle.structure.specs.Structure.{Block, free, fixed, reloc, sizes, relocCount, count, start, len}
+use Rattle.structure.specs.Structure.{Block, fixed, sizes, relocCount, count, start, len, cell}
 use Rattle.structure.specs.Valid.{handlesOf, Tiled, Valid}
 use Rattle.calls.specs.Bays.{Bays, last, more}
 use Rattle.zone.specs.PickBays.{AllS}
-use Rattle.zone.specs.Bay as Bay
-use Rattle.zone.specs.Counted as Counted
-use Rattle.zone.specs.Counted.{live}
-use Rattle.zone.specs.Bay.{Cell, free as gapCell, held, baySize, items}
-use Rattle.zone.proofs.Sound as Sound
-use Rattle.zone.proofs.Sound.{Sound, s-nil, s-end, s-free, s-held}
+use Rattle.bay.specs.Bay as Bay
+use Rattle.bay.specs.Counted as Counted
+use Rattle.bay.specs.Counted.{live}
+use Rattle.bay.specs.Bay.{Cell, free, held, baySize, items}
+use Rattle.bay.proofs.Sound as Sound
+use Rattle.bay.proofs.Sound.{Sound, s-nil, s-end, s-free, s-held}
 use Rattle.calls.specs.State.{Fixed, handlesFrom}
 use Rattle.zone.proofs.Handles as Handles
 use Rattle.zone.proofs.Handles.{Owns, masters}
@@ -37,7 +39,7 @@ use Rattle.zone.specs.Call.{inBays, inLine}
 size-bay : (cs : List Cell) (r : List Block) → sizes (flatBay cs r) ≡ baySize cs + sizes r
 unfolding sizes
 size-bay [] r = omega arith
-size-bay (gapCell n ∷ cs) r = omega (arith, size-bay cs r)
+size-bay (free n ∷ cs) r = omega (arith, size-bay cs r)
 size-bay (held e ∷ cs) r = omega (arith, size-bay cs r)
 
 size-strip : {p end : ℕ} {s : Bays (List Cell) Fixed} → Places.Tiled p s end → p + sizes (flatten s) ≡ end
@@ -59,15 +61,15 @@ occurs-same h (k ∷ ks) = go (eqb h k) (occurs-same h ks)
 pub offsets-same : (h n : ℕ) → handlesFrom h n ≡ offsets h n
 unfolding offsets
 offsets-same h zero = refl
-offsets-same h (suc n) = ap (h ∷_) (offsets-same (h + 4) n)
+offsets-same h (suc n) = ap (h ∷_) (offsets-same (h + masterSize) n)
 
-pub masters-same : (m h : ℕ) → masters m h ≡ occurs h (offsets 16 m)
-masters-same m h = occurs-same h (handlesFrom 16 m) ∙ ap (occurs h) (offsets-same 16 m)
+pub masters-same : (m h : ℕ) → masters m h ≡ occurs h (offsets zoneHeader m)
+masters-same m h = occurs-same h (handlesFrom zoneHeader m) ∙ ap (occurs h) (offsets-same zoneHeader m)
 
 live-bay : (h : ℕ) (cs : List Cell) (r : List Block) → occurs h (handlesOf (flatBay cs r)) ≡ Counted.count h (items cs) + occurs h (handlesOf r)
 unfolding occurs handlesOf
 live-bay h [] r = omega arith
-live-bay h (gapCell n ∷ cs) r = live-bay h cs r
+live-bay h (free n ∷ cs) r = live-bay h cs r
 live-bay h (held e ∷ cs) r = go (eqb h (e .handle)) (live-bay h cs r)
   where
     go : (t : Bool) → occurs h (handlesOf (flatBay cs r)) ≡ Counted.count h (items cs) + occurs h (handlesOf r)
@@ -83,9 +85,9 @@ live-strip h (more b x s) = live-bay h b (fixed (x .bytes) ∷ flatten s) ∙ ap
 length-handles : (bs : List Block) → length (handlesOf bs) ≡ relocCount bs
 unfolding handlesOf relocCount
 length-handles [] = refl
-length-handles (free n ∷ bs) = length-handles bs
+length-handles (cell (free n) ∷ bs) = length-handles bs
 length-handles (fixed d ∷ bs) = length-handles bs
-length-handles (reloc h d ∷ bs) = ap suc (length-handles bs)
+length-handles (cell (held it) ∷ bs) = ap suc (length-handles bs)
 
 -- ---- as many handles as masters
 
@@ -100,12 +102,12 @@ sum-same [] f g e = refl
 sum-same (m ∷ ms) f g e = omega (arith, e m, sum-same ms f g e)
 
 -- a list that has each of the n offsets once, and nothing else, has n elements
-counted : (n : ℕ) (xs : List ℕ) → ((h : ℕ) → occurs h xs ≡ occurs h (offsets 16 n)) → length xs ≡ n
+counted : (n : ℕ) (xs : List ℕ) → ((h : ℕ) → occurs h xs ≡ occurs h (offsets zoneHeader n)) → length xs ≡ n
 counted n xs e =
-    sym (sum-occurs (offsets 16 n) xs (each-of _ xs (λ x l. omega (arith, e x, offset-le x 16 n))))
-    ∙ sum-same (offsets 16 n) (λ h. occurs h xs) (λ h. occurs h (offsets 16 n)) e
-    ∙ sum-occurs (offsets 16 n) (offsets 16 n) (each-of _ (offsets 16 n) (λ x l. omega (arith, offset-le x 16 n)))
-    ∙ length-offsets 16 n
+    sym (sum-occurs (offsets zoneHeader n) xs (each-of _ xs (λ x l. omega (arith, e x, offset-le x zoneHeader n))))
+    ∙ sum-same (offsets zoneHeader n) (λ h. occurs h xs) (λ h. occurs h (offsets zoneHeader n)) e
+    ∙ sum-occurs (offsets zoneHeader n) (offsets zoneHeader n) (each-of _ (offsets zoneHeader n) (λ x l. omega (arith, offset-le x zoneHeader n)))
+    ∙ length-offsets zoneHeader n
 
 -- ---- from bays to a line
 
@@ -121,7 +123,7 @@ pub record Whole (z : Zone) : Type 0 where
   pub clean : Clean z
 
 module _ (z : Zone) (w : Whole z) where
-  owns-line : (h : ℕ) → occurs h (handlesOf (flatten (z .bays))) + occurs h (z .chain) ≡ occurs h (offsets 16 (w .m))
+  owns-line : (h : ℕ) → occurs h (handlesOf (flatten (z .bays))) + occurs h (z .chain) ≡ occurs h (offsets zoneHeader (w .m))
   owns-line h = omega (arith, live-strip h (z .bays), occurs-same h (z .chain), masters-same (w .m) h, w .owned .owns h)
 
   pub count-line : count (inLine z) ≡ w .m
@@ -141,15 +143,15 @@ module _ (z : Zone) (w : Whole z) where
   bays-line = λ i. record { buf = z .buf; len = len-line i; chain = z .chain; bays = same i }
     where
       same : group (start (inLine z)) (flatten (z .bays)) ≡ z .bays
-      same = ap (λ (m : ℕ). group (16 + 4 * m) (flatten (z .bays))) count-line ∙ group-flatten (w .placed .tiled)
+      same = ap (λ (m : ℕ). group (zoneHeader + masterSize * m) (flatten (z .bays))) count-line ∙ group-flatten (w .placed .tiled)
 
-tiled-bay : {cs : List Cell} (r : List Block) → Sound cs → BayOk cs → baySize cs ≤ 1048576 → ((q : Bool) → Tiled q r) → Tiled false (flatBay cs r)
+tiled-bay : {cs : List Cell} (r : List Block) → Sound cs → BayOk cs → baySize cs ≤ longestZone → ((q : Bool) → Tiled q r) → Tiled false (flatBay cs r)
 tiled-bay r s-nil i l k = k false
 tiled-bay r (s-end b) i l k = (refl, omega (arith, b), b .by4, omega arith, k true)
 tiled-bay r (s-free b (s-held c s)) (i-cons d i) l k = (refl, omega (arith, b), b .by4, omega arith, (omega (arith, c), d .short, d .bytes, tiled-bay r s i (omega arith) k))
 tiled-bay r (s-held b s) (i-cons d i) l k = (omega (arith, b), d .short, d .bytes, tiled-bay r s i (omega arith) k)
 
-tiled-strip : {p end : ℕ} {s : Bays (List Cell) Fixed} → Places.Tiled p s end → end ≤ 1048576 → AllS Sound s → Every BayOk FixedOk s → Tiled false (flatten s)
+tiled-strip : {p end : ℕ} {s : Bays (List Cell) Fixed} → Places.Tiled p s end → end ≤ longestZone → AllS Sound s → Every BayOk FixedOk s → Tiled false (flatten s)
 tiled-strip (tile-last e) l d (e-last i) = tiled-bay [] d i (omega arith) (λ q. tt)
 tiled-strip (tile-more {b = b} {x = x} {s = s} e t) l d (e-more i q r) =
     tiled-bay (fixed (x .bytes) ∷ flatten s) (d .0) i (omega (arith, size-strip t)) (λ u. (q .by4, q .holds .short, q .holds .bytes, tiled-strip t l (d .1) r))
@@ -157,7 +159,7 @@ tiled-strip (tile-more {b = b} {x = x} {s = s} e t) l d (e-more i q r) =
 pub valid-line : (z : Zone) → Whole z → Valid (inLine z)
 valid-line z w = record {
   tiled = tiled-strip (w .placed .tiled) (w .bounded .limit) (w .sound) (w .clean .clean);
-  owned = λ h. owns-line z w h ∙ ap (λ (n : ℕ). occurs h (offsets 16 n)) (sym (count-line z w));
+  owned = λ h. owns-line z w h ∙ ap (λ (n : ℕ). occurs h (offsets zoneHeader n)) (sym (count-line z w));
   few = omega (arith, count-line z w, w .few);
   short = omega (arith, len-line z w, w .bounded .limit);
 }

@@ -1,8 +1,5 @@
 pub mod BaysLaws
-pub mod BayLaws
 pub mod Sums
-pub mod Sound
-pub mod Resize
 pub mod Own
 pub mod Found
 pub mod Walk
@@ -19,13 +16,10 @@ pub mod Bytes
 pub mod Stands
 pub mod Encoders
 pub mod InBuffer
-pub mod Pack
-pub mod AtBay
 pub mod Outcomes
 pub mod Initial
 pub mod Rig
 pub mod Numbers
-pub mod Choice
 pub mod Fits
 pub mod Matches
 pub mod Works

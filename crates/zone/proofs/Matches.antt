@@ -9,15 +9,16 @@ use lib.ListN.{length}
 use lib.Dec.{eqb}
 use Rattle.calls.specs.Calls.{Target, by-handle, by-pointer, Card}
 use Rattle.calls.specs.Bays.{Bays, last, more, over, orElse, findS, findF, sumS, maxS, concatS}
-use Rattle.calls.specs.State.{Item, get, card, Fixed, pointer, State, content, ownSum, liveCount}
+use Rattle.kinds.specs.Kinds.{Item}
+use Rattle.calls.specs.State.{get, card, Fixed, pointer, State, content, ownSum, liveCount}
 use Rattle.ledger.specs.Ledger.{Bay, Ledger, entriesOf, sumOf}
 use Rattle.ledger.specs.Ledger as Book
 use Rattle.ledger.proofs.Space.{liveIn}
-use Rattle.zone.specs.Bay.{Cell, items, baySum}
-use Rattle.zone.specs.Counted.{count, live}
+use Rattle.bay.specs.Bay.{Cell, items, baySum}
+use Rattle.bay.specs.Counted.{count, live}
 use Rattle.zone.specs.Work as Work
 use Rattle.zone.specs.Work.{Zone}
-use Rattle.zone.proofs.BayLaws.{perm-length, perm-map}
+use Rattle.bay.proofs.Perm.{perm-length, perm-map}
 use Rattle.zone.proofs.BaysLaws.{Like, like-last, like-more, maxS-like, sumS-like, concatS-like}
 use Rattle.zone.proofs.Fits.{Fits, Equal, same-sum, same-get, same-count}
 

@@ -6,24 +6,25 @@ use Prim.Native.Nat.{ℕ, _+_, _-_, _*_, _≤_}
 use native.Mathlib.Omega.{arith}
 use native.Mathlib.Nat.{add-zero, zero-add, add-assoc}
 use lib.ListN.{length, drop, length-drop}
-use lib.Seq.{take-take}
 use lib.Dec.{eqb}
-use Rattle.block_type.specs.Limits.{freeCode, fixedCode, relocCode, relocHeader}
+use Rattle.block_type.specs.Limits.{freeCode, fixedCode, relocCode, relocHeader, masterSize, zoneHeader, fixedHeader}
+use Rattle.bigendian.specs.BigEndian.{fromBE}
 use Rattle.format.specs.WellFormed.{headerOk, lengthField, firstField, mastersField, chainField, typeOf, sizeOf, handleOf, isFree, splitBlocks, zoneOf}
 use Rattle.format.specs.OneWalk.{blockOk, blocksOk, bodyOk}
 use Rattle.format.proofs.Bool.{and-left, and-right}
-use Rattle.format.proofs.Walk.{is-good, drop-take}
+use Rattle.format.proofs.Walk.{is-good, slice-take}
 use Rattle.format.proofs.OneWalk.{one-walk}
 use Rattle.format.proofs.Header.{header-facts}
 use Rattle.format.proofs.Live.{body-parts}
-use Rattle.structure.specs.Structure.{Structure, Block, free, fixed, reloc, size, byType, decodeBlock, decodeZone, decode}
+use Rattle.structure.specs.Structure.{Structure, Block, fixed, size, byType, decodeBlock, decodeZone, decode, cell}
 use Rattle.structure.proofs.Table.{by, size-dec}
 use Rattle.structure.proofs.Round.{heads}
 use Rattle.calls.specs.Calls.{Card}
 use Rattle.ledger.specs.Space.{Spot, spot}
 use Rattle.calls.specs.Bays.{Bays, last, more, concatS}
-use Rattle.zone.specs.Bay.{Cell, free as gapCell, held, items, baySize, baySum}
-use Rattle.calls.specs.State.{itemSize, Fixed, fsize, card}
+use Rattle.bay.specs.Bay.{Cell, free, held, items, baySize, baySum}
+use Rattle.kinds.specs.Kinds.{itemSize, item, itemIn}
+use Rattle.calls.specs.State.{Fixed, fsize, card}
 use Rattle.zone.specs.Group.{flatBay, flatten}
 use Rattle.zone.specs.Work.{Zone}
 use Rattle.zone.specs.Call.{inLine}
@@ -38,9 +39,9 @@ spotsS (last b) = []
 spotsS (more b x s) = spot (x .place) (fsize x) ∷ spotsS s
 
 abbrev isFixed : Block → Bool
-isFixed (free n) = false
+isFixed (cell (free n)) = false
 isFixed (fixed d) = true
-isFixed (reloc h d) = false
+isFixed (cell (held it)) = false
 
 -- the same of a structure's blocks, the first being at offset `at`
 abbrev spotsB : ℕ → List Block → List Spot
@@ -53,9 +54,9 @@ sumsS μ (last b) = μ b ∷ []
 sumsS μ (more b x s) = μ b ∷ sumsS μ s
 
 abbrev freeSize : Block → ℕ
-freeSize (free n) = n
+freeSize (cell (free n)) = n
 freeSize (fixed d) = 0
-freeSize (reloc h d) = 0
+freeSize (cell (held it)) = 0
 
 -- the same of a structure's blocks; n of this bay have been met
 abbrev sumsB : ℕ → List Block → List ℕ
@@ -65,9 +66,9 @@ sumsB n (b ∷ bs) = cond (isFixed b) (n ∷ sumsB 0 bs) (sumsB (n + freeSize b)
 -- handle and data size of each relocatable block, in address order
 abbrev cardsB : List Block → List Card
 cardsB [] = []
-cardsB (free n ∷ bs) = cardsB bs
+cardsB (cell (free n) ∷ bs) = cardsB bs
 cardsB (fixed d ∷ bs) = cardsB bs
-cardsB (reloc h d ∷ bs) = record { handle = h; amount = length d } ∷ cardsB bs
+cardsB (cell (held it) ∷ bs) = record { handle = (it .handle); amount = length (it .bytes) } ∷ cardsB bs
 
 -- ---- from bytes to blocks
 
@@ -76,7 +77,7 @@ module _ (z : List ℕ) (first : ℕ) where
   fixed-dec : (prev : Bool) (at : ℕ) (b : List ℕ) → blockOk z first prev at b ≡ true → isFixed (decodeBlock b) ≡ eqb (typeOf b) fixedCode
   unfolding decodeBlock
   fixed-dec prev at b g =
-      by z first prev at b g (λ k. isFixed (byType k (free (sizeOf b)) (fixed (drop 2 b)) (reloc (handleOf b) (drop 4 b))) ≡ eqb k fixedCode)
+      by z first prev at b g (λ k. isFixed (byType k (cell (free (sizeOf b))) (fixed (drop fixedHeader b)) (cell (held (itemIn b)))) ≡ eqb k fixedCode)
       (λ e. refl) (λ e. refl) (λ e. refl)
 
   -- the walk meets what the decoded blocks have
@@ -95,7 +96,7 @@ module _ (z : List ℕ) (first : ℕ) where
   free-dec : (prev : Bool) (at : ℕ) (b : List ℕ) → blockOk z first prev at b ≡ true → freeSize (decodeBlock b) ≡ cond (eqb (typeOf b) freeCode) (sizeOf b) 0
   unfolding decodeBlock
   free-dec prev at b g =
-      by z first prev at b g (λ k. freeSize (byType k (free (sizeOf b)) (fixed (drop 2 b)) (reloc (handleOf b) (drop 4 b))) ≡ cond (eqb k freeCode) (sizeOf b) 0)
+      by z first prev at b g (λ k. freeSize (byType k (cell (free (sizeOf b))) (fixed (drop fixedHeader b)) (cell (held (itemIn b)))) ≡ cond (eqb k freeCode) (sizeOf b) 0)
       (λ e. refl) (λ e. refl) (λ e. refl)
 
   sums-decs : (prev : Bool) (at n : ℕ) (bs : List (List ℕ)) → blocksOk z first prev at bs ≡ true → freeMet n bs ≡ sumsB n (map decodeBlock bs)
@@ -111,8 +112,8 @@ module _ (z : List ℕ) (first : ℕ) where
       → cond (eqb (typeOf b) relocCode) (record { handle = handleOf b; amount = sizeOf b - relocHeader } ∷ cardsB bs) (cardsB bs) ≡ cardsB (decodeBlock b ∷ bs)
   unfolding decodeBlock
   card-dec prev at b bs g =
-      by z first prev at b g (λ k. cond (eqb k relocCode) (record { handle = handleOf b; amount = sizeOf b - relocHeader } ∷ cardsB bs) (cardsB bs) ≡ cardsB (byType k (free (sizeOf b)) (fixed (drop 2 b)) (reloc (handleOf b) (drop 4 b)) ∷ bs))
-      (λ e. refl) (λ e. refl) (λ e. ap (λ (n : ℕ). record { handle = handleOf b; amount = n } ∷ cardsB bs) (ap (_- 4) (is-good z first prev at b g .whole) ∙ sym (length-drop 4 b)))
+      by z first prev at b g (λ k. cond (eqb k relocCode) (record { handle = handleOf b; amount = sizeOf b - relocHeader } ∷ cardsB bs) (cardsB bs) ≡ cardsB (byType k (cell (free (sizeOf b))) (fixed (drop fixedHeader b)) (cell (held (itemIn b))) ∷ bs))
+      (λ e. refl) (λ e. refl) (λ e. ap (λ (n : ℕ). record { handle = handleOf b; amount = n } ∷ cardsB bs) (ap (_- relocHeader) (is-good z first prev at b g .whole) ∙ sym (length-drop 4 b)))
 
   cards-decs : (prev : Bool) (at : ℕ) (bs : List (List ℕ)) → blocksOk z first prev at bs ≡ true → relocMet bs ≡ cardsB (map decodeBlock bs)
   unfolding blocksOk relocMet
@@ -126,7 +127,7 @@ module _ (z : List ℕ) (first : ℕ) where
 -- the cells of a bay are no fixed blocks
 spots-bay : (p : ℕ) (cs : List Cell) (r : List Block) → spotsB p (flatBay cs r) ≡ spotsB (p + baySize cs) r
 spots-bay p [] r = ap (λ (q : ℕ). spotsB q r) (sym (add-zero p))
-spots-bay p (gapCell n ∷ cs) r = spots-bay (p + n) cs r ∙ ap (λ (q : ℕ). spotsB q r) (add-assoc p n (baySize cs))
+spots-bay p (free n ∷ cs) r = spots-bay (p + n) cs r ∙ ap (λ (q : ℕ). spotsB q r) (add-assoc p n (baySize cs))
 spots-bay p (held e ∷ cs) r = spots-bay (p + itemSize e) cs r ∙ ap (λ (q : ℕ). spotsB q r) (add-assoc p (itemSize e) (baySize cs))
 
 -- each fixed block's place is its offset
@@ -139,7 +140,7 @@ spots-strip (tile-more {p = p} {b = b} {x = x} {s = s} e t) =
 
 sums-bay : (n : ℕ) (cs : List Cell) (r : List Block) → sumsB n (flatBay cs r) ≡ sumsB (n + baySum cs) r
 sums-bay n [] r = ap (λ (q : ℕ). sumsB q r) (sym (add-zero n))
-sums-bay n (gapCell k ∷ cs) r = sums-bay (n + k) cs r ∙ ap (λ (q : ℕ). sumsB q r) (add-assoc n k (baySum cs))
+sums-bay n (free k ∷ cs) r = sums-bay (n + k) cs r ∙ ap (λ (q : ℕ). sumsB q r) (add-assoc n k (baySum cs))
 sums-bay n (held e ∷ cs) r = sums-bay (n + 0) cs r ∙ ap (λ (q : ℕ). sumsB (q + baySum cs) r) (add-zero n)
 
 sums-strip : (s : Bays (List Cell) Fixed) → sumsB 0 (flatten s) ≡ sumsS baySum s
@@ -148,7 +149,7 @@ sums-strip (more b x s) = sums-bay 0 b (fixed (x .bytes) ∷ flatten s) ∙ ap�
 
 cards-bay : (cs : List Cell) (r : List Block) → cardsB (flatBay cs r) ≡ map card (items cs) ++ cardsB r
 cards-bay [] r = refl
-cards-bay (gapCell n ∷ cs) r = cards-bay cs r
+cards-bay (free n ∷ cs) r = cards-bay cs r
 cards-bay (held e ∷ cs) r = ap (card e ∷_) (cards-bay cs r)
 
 cards-strip : (s : Bays (List Cell) Fixed) → cardsB (flatten s) ≡ concatS (λ (b : List Cell). map card (items b)) s
@@ -159,17 +160,17 @@ cards-strip (more b x s) = cards-bay b (fixed (x .bytes) ∷ flatten s) ∙ ap (
 
 -- bkFst is read alike with and without the bytes beyond the zone
 first-zone : (bs : List ℕ) → 8 ≤ lengthField bs → firstField (zoneOf bs) ≡ firstField bs
-first-zone bs l = rw (drop-take 4 (lengthField bs) bs, take-take 4 (lengthField bs - 4) (drop 4 bs) (omega arith))
+first-zone bs l = ap fromBE (slice-take bs (lengthField bs) 4 4 l)
 
 module _ (bs : List ℕ) (z : Zone) (w : Whole z) (s : Stored bs z) where
   stored-walk : (headerOk bs && bodyOk (zoneOf bs) (firstField bs) (mastersField bs) (chainField bs)) ≡ true
   stored-walk = sym (one-walk bs) ∙ stored-well bs z w s
 
-  first-is : firstField bs ≡ 16 + 4 * w .m
+  first-is : firstField bs ≡ zoneHeader + masterSize * w .m
   first-is =
       ap firstField (s .split)
       ∙ heads (inLine z) (valid-line z w) (drop (z .len) bs) .is-first
-      ∙ ap (λ (m : ℕ). 16 + 4 * m) (count-line z w)
+      ∙ ap (λ (m : ℕ). zoneHeader + masterSize * m) (count-line z w)
 
   first-same : firstField (zoneOf bs) ≡ firstField bs
   first-same =

@@ -7,7 +7,7 @@ use lib.Dec.{eqb}
 use Rattle.calls.specs.Calls.{Call, allocate-relocatable, allocate-fixed, free-handle, free-pointer, read, write, view, size, roster, check, length-of, resize, compact, sums, enlarge, shrink}
 use Rattle.calls.specs.Bays.{lastS}
 use Rattle.calls.specs.State.{Out}
-use Rattle.zone.specs.Bay.{Cell, baySum}
+use Rattle.bay.specs.Bay.{Cell, baySum}
 use Rattle.zone.specs.Work.{Zone, work, strip}
 
 strip-number : (n : ℕ) (z : Zone) → (strip n z) .answer .number ≡ 0

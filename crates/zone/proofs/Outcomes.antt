@@ -6,10 +6,11 @@ use native.Mathlib.Omega.{arith}
 use Rattle.calls.specs.Calls.{compact}
 use Rattle.calls.specs.Bays.{Bays, last, more, mapS}
 use Rattle.zone.specs.PickBays.{AllS}
-use Rattle.calls.specs.State.{Item, total, Fixed}
-use Rattle.zone.specs.Bay.{Cell, baySum, gap, packed, compactBay}
+use Rattle.kinds.specs.Kinds.{Item}
+use Rattle.calls.specs.State.{total, Fixed}
+use Rattle.bay.specs.Bay.{Cell, baySum, gap, packed, compactBay}
 use Rattle.zone.specs.Work.{Zone, work}
-use Rattle.zone.proofs.BayLaws.{bsize-split, tidy-size, tidy-items}
+use Rattle.bay.proofs.Laws.{bsize-split, tidy-size, tidy-items}
 
 -- ---- compact: in every bay the relocatable blocks stand at the start, and one free block, or none, holds the rest
 

@@ -6,10 +6,10 @@ use Prim.Native.Nat.{ℕ}
 use native.Mathlib.Omega.{arith}
 use lib.Dec.{eqb}
 use borrow.Author.Tests.{eqb-true}
-use Rattle.zone.specs.Bay.{Cell, baySum, items, reshape}
+use Rattle.bay.specs.Bay.{Cell, baySum, items, reshape}
 use Rattle.calls.specs.State.{get}
-use Rattle.zone.specs.Counted.{count, roomFor}
-use Rattle.zone.proofs.Resize.{Shaped, reshape-shaped}
+use Rattle.bay.specs.Counted.{count, roomFor}
+use Rattle.bay.proofs.Resize.{Shaped, reshape-shaped}
 use Rattle.zone.specs.Search.{own}
 
 pub own-shaped : (h a : ℕ) (b : List Cell) → own h a b ≡ true → Shaped h a b (reshape h a b)

@@ -9,11 +9,13 @@ use lib.Dec.{leb, eqb}
 use borrow.Author.Tests.{leb-true}
 use Rattle.calls.specs.Bays.{Bays, last, more, mapS, onFixed, onLast, lastS}
 use Rattle.zone.specs.PickBays.{onLow}
-use Rattle.calls.specs.State.{Item, itemSize, alterFixed, pointer, Fixed, fsize, newItem, newFixed}
-use Rattle.zone.specs.Bay.{Cell, baySize, baySum, gap, joinBays, compactBay, put, takeHigh, release, edit, reshape, resized}
-use Rattle.zone.proofs.BayLaws.{Each, nothing, just, each-cond, each-over, put-keeps, cut-less, tidy-size, bsize-weld, bsize-gap, release-size, edit-size, cond-one}
-use Rattle.zone.proofs.Sums.{each-orElse, each-weaken}
-use Rattle.zone.proofs.Sound.{Block}
+use Rattle.kinds.specs.Kinds.{Item, itemSize}
+use Rattle.calls.specs.State.{alterFixed, pointer, Fixed, fsize, newItem, newFixed}
+use Rattle.bay.specs.Bay.{Cell, baySize, baySum, gap, joinBays, compactBay, put, takeHigh, release, edit, reshape, resized}
+use Rattle.bay.proofs.Each.{Each, nothing, just, each-cond, each-over, cond-one, each-orElse, each-weaken}
+use Rattle.bay.proofs.Holes.{put-keeps}
+use Rattle.bay.proofs.Laws.{cut-less, tidy-size, bsize-weld, bsize-gap, release-size, edit-size}
+use Rattle.bay.proofs.Sound.{Block}
 use Rattle.zone.specs.Search.{reaches, placeLow, placeHigh, joinAt, lookup, own}
 use Rattle.block_type.specs.Limits.{fixedHeader, firstBlock}
 use Rattle.zone.proofs.Own.{own-shaped}

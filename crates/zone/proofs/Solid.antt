@@ -7,14 +7,14 @@ use lib.ListN.{length, length-replicate}
 use borrow.Author.Tests.{leb-true}
 use Rattle.block_type.specs.Limits.{fixedHeader, up4}
 use Rattle.calls.specs.Bays.{Bays, lastS}
-use Rattle.calls.specs.State.{Item, itemSize, Fixed, fsize, newItem, newFixed, alterFixed}
-use Rattle.zone.specs.Bay.{Cell, baySum, gap, compactBay, put, takeHigh, release, edit, resized, reshape}
+use Rattle.kinds.specs.Kinds.{Item, itemSize}
+use Rattle.calls.specs.State.{Fixed, fsize, newItem, newFixed, alterFixed}
+use Rattle.bay.specs.Bay.{Cell, baySum, gap, compactBay, put, takeHigh, release, edit, resized, reshape}
 use Rattle.zone.specs.Work.{Zone}
 use Rattle.zone.specs.Search.{lookup, own, placeLow}
-use Rattle.zone.proofs.BayLaws.{Each}
-use Rattle.zone.proofs.Sums.{each-orElse, each-weaken}
-use Rattle.zone.proofs.Sound.{Block, Sound, s-nil, gap-sound, sum-by4, tidy-sound, put-sound, cut-sound, release-sound, weld-sound, edit-sound}
-use Rattle.zone.proofs.Resize.{resized-block, reshape-sound}
+use Rattle.bay.proofs.Each.{Each, each-orElse, each-weaken}
+use Rattle.bay.proofs.Sound.{Block, Sound, s-nil, gap-sound, sum-by4, tidy-sound, put-sound, cut-sound, release-sound, weld-sound, edit-sound}
+use Rattle.bay.proofs.Resize.{resized-block, reshape-sound}
 use Rattle.zone.proofs.Walk.{Closed, any}
 use Rattle.zone.proofs.Places.{alter-fsize}
 use Rattle.zone.proofs.Clean.{Every, every-low, every-high, every-join, every-map, every-fixed, every-last}
@@ -33,7 +33,7 @@ pub new-sized : (n end : ℕ) → Block n → Sized (newFixed n end)
 new-sized n end k = record { block = omega (arith, length-replicate {A = ℕ} (n - fixedHeader) 0, k) }
 
 put-low : (e : Item) → Block (itemSize e) → {s : Bays (List Cell) Fixed} → Every Sound Sized s → Each (Every Sound Sized) (placeLow e s)
-put-low e k g = every-low _ (put e) (λ b t p. put-sound e k (leb-true (itemSize e) (baySum b) t) p) g
+put-low e k g = every-low _ (put e) (λ b t p. put-sound e k p) g
 
 pub solid-closed : Closed Solid
 solid-closed = record {

@@ -10,11 +10,12 @@ use lib.Seq.{take-at, drop-at}
 use Rattle.calls.specs.Bays.{Bays, last, more, findS}
 use Rattle.zone.specs.PickBays.{AllS}
 use Rattle.zone.proofs.BaysLaws.{Both, absent, present, cond-both, orElse-both}
-use Rattle.zone.proofs.BayLaws.{Each, nothing, just}
-use Rattle.calls.specs.State.{is, Item, itemSize, get, Fixed, fsize, pointer, handlesFrom}
-use Rattle.zone.specs.Bay.{Cell, held, baySize, items}
-use Rattle.zone.proofs.Sound.{Block, Sound, s-nil, s-end, s-free, s-held}
-use Rattle.block_type.specs.Limits.{fixedHeader, firstBlock}
+use Rattle.bay.proofs.Each.{Each, nothing, just}
+use Rattle.kinds.specs.Kinds.{Item, itemSize}
+use Rattle.calls.specs.State.{is, get, Fixed, fsize, pointer, handlesFrom}
+use Rattle.bay.specs.Bay.{Cell, held, baySize, items}
+use Rattle.bay.proofs.Sound.{Block, Sound, s-nil, s-end, s-free, s-held}
+use Rattle.block_type.specs.Limits.{fixedHeader, firstBlock, masterSize, relocCode, typeUnit, zoneHeader}
 use Rattle.zone.specs.Work.{Zone}
 use Rattle.zone.proofs.Places.{Tiled, tile-last, tile-more, Placed}
 use Rattle.zone.proofs.Bytes.{big, freeBytes, itemBytes, cellBytes, fixedHead, fixedBytes, blockBytes, whereIn, whereS, nextOf, masterOf, masterBytes, headerBytes, zoneBytes}
@@ -68,7 +69,7 @@ weaken-both h absent = absent
 weaken-both h (present {a = x} {b = y} r) = present (h x y r)
 
 data-stand : (e : Item) → Stands (itemBytes e) 4 (e .bytes)
-data-stand e = record { front = big 2 (32768 + itemSize e / 2) ++ big 2 (e .handle); rest = []; split = simp append-nil; place = refl }
+data-stand e = record { front = big 2 (relocCode * typeUnit + itemSize e / 2) ++ big 2 (e .handle); rest = []; split = simp append-nil; place = refl }
 
 pub in-cells : (h p : ℕ) {cs : List Cell} → Sound cs → Both (At (cellBytes cs) p) (get h (items cs)) (whereIn h p cs)
 in-cells h p s-nil = absent
@@ -91,10 +92,10 @@ length-masters m z (h ∷ hs) = omega (arith, length-masters m z hs)
 
 length-handles : (h n : ℕ) → length (handlesFrom h n) ≡ n
 length-handles h zero = refl
-length-handles h (suc n) = ap suc (length-handles (h + 4) n)
+length-handles h (suc n) = ap suc (length-handles (h + masterSize) n)
 
 pub in-zone : {v : List ℕ} {at : ℕ} (m : ℕ) (z : Zone) → Stands (blockBytes (z .bays)) at v → Stands (zoneBytes m z) (firstBlock m + at) v
-in-zone m z s = rw (add-assoc 16 (4 * m) _) (stands-after (headerBytes m z) 16 refl (stands-after (masterBytes m z (handlesFrom 16 m)) (4 * m) (omega (arith, length-masters m z (handlesFrom 16 m), length-handles 16 m)) s))
+in-zone m z s = rw (add-assoc zoneHeader (4 * m) _) (stands-after (headerBytes m z) zoneHeader refl (stands-after (masterBytes m z (handlesFrom zoneHeader m)) (4 * m) (omega (arith, length-masters m z (handlesFrom zoneHeader m), length-handles zoneHeader m)) s))
 
 both-each : {A B : Type 0} {R : A → B → Type 0} {a : Option A} {b : Option B} (P : A → B → Type 0) (d : B) → ((x : A) (y : B) → R x y → P x y) → Both R a b → Each (λ (x : A). P x (Option·getD b d)) a
 both-each P d f absent = nothing
@@ -106,13 +107,13 @@ handle-stands m h z d =
     both-each (λ e q. Stands (zoneBytes m z) q (e .bytes)) (nextOf h (z .chain)) (λ e q a. rw (a .found) (in-zone m z (a .stands))) (in-blocks h (firstBlock m) (z .bays) d)
 
 -- a master stands at its handle
-pub master-stands : (m : ℕ) (z : Zone) (i : ℕ) → i < m → Stands (zoneBytes m z) (16 + 4 * i) (big 4 (masterOf m z (16 + 4 * i)))
-master-stands m z i l = stands-after (headerBytes m z) 16 refl (stands-before (blockBytes (z .bays)) (nth 16 m i (16 + 4 * i) l refl))
+pub master-stands : (m : ℕ) (z : Zone) (i : ℕ) → i < m → Stands (zoneBytes m z) (zoneHeader + masterSize * i) (big 4 (masterOf m z (zoneHeader + masterSize * i)))
+master-stands m z i l = stands-after (headerBytes m z) zoneHeader refl (stands-before (blockBytes (z .bays)) (nth zoneHeader m i (zoneHeader + masterSize * i) l refl))
   where
-    nth : (h n i k : ℕ) → i < n → h + 4 * i ≡ k → Stands (masterBytes m z (handlesFrom h n)) (4 * i) (big 4 (masterOf m z k))
+    nth : (h n i k : ℕ) → i < n → h + masterSize * i ≡ k → Stands (masterBytes m z (handlesFrom h n)) (4 * i) (big 4 (masterOf m z k))
     nth h zero i k l e = absurd (omega arith)
-    nth h (suc n) zero k l e = let q : k ≡ h = omega arith in rw q (stands-here (big 4 (masterOf m z h)) (masterBytes m z (handlesFrom (h + 4) n)))
-    nth h (suc n) (suc i) k l e = let q : 4 * suc i ≡ 4 + 4 * i = omega arith in rw q (stands-after (big 4 (masterOf m z h)) 4 refl (nth (h + 4) n i k (omega arith) (omega arith)))
+    nth h (suc n) zero k l e = let q : k ≡ h = omega arith in rw q (stands-here (big 4 (masterOf m z h)) (masterBytes m z (handlesFrom (h + masterSize) n)))
+    nth h (suc n) (suc i) k l e = let q : 4 * suc i ≡ 4 + 4 * i = omega arith in rw q (stands-after (big 4 (masterOf m z h)) 4 refl (nth (h + masterSize) n i k (omega arith) (omega arith)))
 
 -- what holds of each fixed block
 abbrev pub AllF : (Fixed → Type 0) → Bays (List Cell) Fixed → Type 0
@@ -152,8 +153,3 @@ blocks-length : {p end : ℕ} {s : Bays (List Cell) Fixed} → AllS Sound s → 
 blocks-length d (tile-last e) = omega (arith, length-cells d)
 blocks-length d (tile-more {b = b} {x = x} {s = s} e t) =
     omega (arith, length-append (cellBytes b) (fixedBytes x ++ blockBytes s), length-append (fixedBytes x) (blockBytes s), length-cells (d .0), blocks-length (d .1) t)
-
--- the zone's bytes are as many as its length
-pub zone-length : (m : ℕ) (z : Zone) → AllS Sound (z .bays) → Placed m z → length (zoneBytes m z) ≡ z .len
-zone-length m z d g =
-    omega (arith, length-append (masterBytes m z (handlesFrom 16 m)) (blockBytes (z .bays)), length-masters m z (handlesFrom 16 m), length-handles 16 m, blocks-length d (g .tiled))

@@ -1,4 +1,4 @@
--- What each function of Bays does to a sum over the bays. `Each` and the laws of options stand here too.
+-- What each function of Bays does to a sum over the bays.
 use mathlib.Core.Path.{_≡_, refl, ap, ap₂}
 use mathlib.Core.Bool.{Bool, true}
 use mathlib.Core.Option.{Option}
@@ -6,19 +6,7 @@ use Prim.Native.Nat.{ℕ, _+_, _≤_}
 use native.Mathlib.Omega.{arith}
 use Rattle.calls.specs.Bays.{Bays, last, more, orElse, mapS, onFixed, onLast, findS, sumS, lastS}
 use Rattle.zone.specs.PickBays.{onLow, onHigh, glue, onJoin, AllS}
-use Rattle.zone.proofs.BayLaws.{Each, nothing, just, each-over, each-cond}
-
-pub each-orElse : {A : Type 0} {P : A → Type 0} {a b : Option A} → Each P a → Each P b → Each P (orElse a b)
-each-orElse nothing q = q
-each-orElse (just p) q = just p
-
-pub each-weaken : {A : Type 0} {P Q : A → Type 0} {o : Option A} → ((a : A) → P a → Q a) → Each P o → Each Q o
-each-weaken h nothing = nothing
-each-weaken h (just {a = a} p) = just (h a p)
-
-pub each-and : {A : Type 0} {P Q : A → Type 0} {o : Option A} → Each P o → Each Q o → Each (λ (a : A). P a × Q a) o
-each-and nothing nothing = nothing
-each-and (just p) (just q) = just (p, q)
+use Rattle.bay.proofs.Each.{Each, nothing, just, each-over, each-cond, each-orElse, each-weaken}
 
 module _ {B F : Type 0} where
   pub onLow-sum : (μ : B → ℕ) (k : ℕ) (t : B → Bool) (f : B → B) → ((b : B) → t b ≡ true → μ (f b) ≡ k + μ b)

@@ -12,7 +12,8 @@ use Rattle.block_type.specs.Limits.{firstBlock}
 use Rattle.structure.specs.Structure.{encode}
 use Rattle.calls.specs.Calls.{Call, Answer, beside, secondOf, refused, told}
 use Rattle.calls.specs.Bays.{Bays, last, more}
-use Rattle.calls.specs.State.{Item, Fixed, fsize, Out}
+use Rattle.kinds.specs.Kinds.{Item}
+use Rattle.calls.specs.State.{Fixed, fsize, Out}
 use Rattle.calls.specs.Table.{refusalOf, first, order, badInitialize}
 use Rattle.calls.proofs.Never.{never-one, told-one}
 use Rattle.ledger.specs.Ledger as Book
@@ -21,13 +22,13 @@ use Rattle.ledger.specs.Space.{Spot, spot, fixedSpots, baySums, Request, reloca
 use Rattle.ledger.specs.Still.{Has, NotFreed, a-call}
 use Rattle.ledger.proofs.Space.{liveIn, space}
 use Rattle.ledger.proofs.Still.{step-has}
-use Rattle.zone.specs.Bay.{Cell, baySum}
-use Rattle.zone.specs.Counted.{live}
+use Rattle.bay.specs.Bay.{Cell, baySum}
+use Rattle.bay.specs.Counted.{live}
 use Rattle.zone.specs.Work as Work
 use Rattle.zone.specs.Work.{Zone, work, fresh}
 use Rattle.zone.specs.Call.{inLine, Result, call, initializeWith}
 use Rattle.zone.specs.Promise.{Alike, Promise, InitPromise}
-use Rattle.zone.proofs.BayLaws.{Each, nothing, just}
+use Rattle.bay.proofs.Each.{Each, nothing, just}
 use Rattle.zone.proofs.BaysLaws.{like-last, like-more}
 use Rattle.zone.proofs.Keep.{Whole}
 use Rattle.zone.proofs.Grouped.{single-live, work-whole, work-buffer}

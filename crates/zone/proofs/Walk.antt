@@ -13,17 +13,18 @@ use Rattle.bigendian.specs.BigEndian.{Bytes}
 use Rattle.block_type.specs.Limits.{relocHeader, relocLimit, fixedLimit, up4, fixedHeader, fixedNeed, relocNeed, longestZone}
 use Rattle.calls.specs.Calls.{Call, allocate-relocatable, allocate-fixed, free-handle, free-pointer, read, write, size, compact, sums, enlarge, shrink, Target, by-handle, by-pointer, view, roster, check, length-of, resize, beside, secondOf}
 use Rattle.calls.specs.Bays.{Bays, over, mapS, onFixed, onLast, findF, lastS, maxS}
-use Rattle.calls.specs.State.{Item, itemSize, Fixed, pointer, withBays, alterFixed, newItem, top, rest, ownSum}
+use Rattle.kinds.specs.Kinds.{Item, itemSize}
+use Rattle.calls.specs.State.{Fixed, pointer, withBays, alterFixed, newItem, top, rest, ownSum}
 use Rattle.calls.specs.Table.{below, isNone, isEmpty, refusalOf, causes, holdsIn, order}
 use Rattle.calls.proofs.First.{among, clear, or-left}
-use Rattle.zone.specs.Bay as Bay
-use Rattle.zone.specs.Bay.{Cell, baySum, items, release, gap, joinBays, put}
-use Rattle.zone.specs.Counted.{live}
+use Rattle.bay.specs.Bay as Bay
+use Rattle.bay.specs.Bay.{Cell, baySum, items, release, gap, joinBays, put}
+use Rattle.bay.specs.Counted.{live}
 use Rattle.zone.specs.Work as Work
 use Rattle.zone.specs.Work.{Zone, facts, work, freePointer, rewrite}
 use Rattle.zone.specs.Search.{lookup, placeLow, placeHigh, joinAt, resizeIn}
-use Rattle.zone.proofs.BayLaws.{Each, nothing, just}
-use Rattle.zone.proofs.Sound.{Block}
+use Rattle.bay.proofs.Each.{Each, nothing, just}
+use Rattle.bay.proofs.Sound.{Block}
 use Rattle.zone.proofs.Found.{Found, lost, got, low-found, high-found, join-found, resize-found, Named, unnamed, named, block-named}
 
 -- ---- a change of a block's bytes that keeps their number and leaves bytes

@@ -11,7 +11,7 @@ use Rattle.structure.specs.Structure.{Structure, start, len, encode, decode}
 use Rattle.calls.specs.Calls.{Call, Answer, told, refused}
 use Rattle.calls.specs.State.{Out}
 use Rattle.calls.specs.Table.{refusalOf, initRefusal}
-use Rattle.zone.specs.Bay.{Cell}
+use Rattle.bay.specs.Bay.{Cell}
 use Rattle.zone.specs.Group.{group, flatten}
 use Rattle.zone.specs.Work.{Zone, facts, work, fresh}
 

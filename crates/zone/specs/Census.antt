@@ -6,7 +6,8 @@ use Prim.Native.Nat.{ℕ, zero, suc, _+_, _/_, _^_}
 use lib.ListN.{replicate}
 use lib.Dec.{leb, ltb}
 use Rattle.format.specs.WellFormed.{wellFormed}
-use Rattle.structure.specs.Structure.{Block, free, fixed, reloc, decode}
+use Rattle.structure.specs.Structure.{Block, fixed, decode, cell}
+use Rattle.bay.specs.Bay.{free, held}
 
 -- the limits 2^i, n of them
 abbrev pub limitsFrom : ℕ → ℕ → List ℕ
@@ -34,9 +35,9 @@ countsOf (lo ∷ (hi ∷ ls)) ws = countIf (λ w. leb lo w && ltb w hi) ws ∷ c
 -- the sizes of the free blocks, in 2-byte words
 unfoldable pub freeWords : List Block → List ℕ
 freeWords [] = []
-freeWords (free n ∷ bs) = n / 2 ∷ freeWords bs
+freeWords (cell (free n) ∷ bs) = n / 2 ∷ freeWords bs
 freeWords (fixed d ∷ bs) = freeWords bs
-freeWords (reloc h d ∷ bs) = freeWords bs
+freeWords (cell (held it) ∷ bs) = freeWords bs
 
 pub record Counted : Type 0 where
   -- the refusal, 0 for done

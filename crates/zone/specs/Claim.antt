@@ -12,7 +12,8 @@ use Rattle.block_type.specs.Limits.{freeCode, fixedCode, relocCode, relocHeader
 use Rattle.format.specs.WellFormed.{lengthField, firstField, typeOf, sizeOf, handleOf, splitBlocks, masterAt, zoneOf, wellFormed}
 use Rattle.calls.specs.Calls.{Call, Card, Answer, beside, secondOf}
 use Rattle.calls.specs.Bays.{findS, findF}
-use Rattle.calls.specs.State.{Item, get, Fixed, pointer}
+use Rattle.kinds.specs.Kinds.{Item}
+use Rattle.calls.specs.State.{get, Fixed, pointer}
 use Rattle.ledger.specs.Ledger.{Ledger, Bay, cards, run, ledgerAfter, initial}
 use Rattle.ledger.specs.Still.{Has, NotFreed}
 use Rattle.ledger.specs.Space.{Spot, spot, fixedSpots, baySums, Request, callOf, earlier, fits}

@@ -1,12 +1,12 @@
 -- The blocks of a zone grouped into bays and fixed blocks, and flat again.
-use mathlib.Core.List.{List, [], _∷_}
+use mathlib.Core.List.{List, [], _∷_, _++_, map}
 use Prim.Native.Nat.{ℕ, _+_}
 use lib.ListN.{length}
-use Rattle.block_type.specs.Limits.{fixedHeader, relocHeader}
-use Rattle.structure.specs.Structure.{Block, free, fixed, reloc}
+use Rattle.block_type.specs.Limits.{fixedHeader}
+use Rattle.structure.specs.Structure.{Block, fixed, cell}
 use Rattle.calls.specs.Bays.{Bays, last, more}
 use Rattle.calls.specs.State.{Fixed}
-use Rattle.zone.specs.Bay.{Cell, free as gapCell, held}
+use Rattle.bay.specs.Bay.{Cell, cellSize}
 
 -- a block in front of the first bay
 abbrev pub inFront : Cell → Bays (List Cell) Fixed → Bays (List Cell) Fixed
@@ -16,14 +16,11 @@ inFront c (more b x s) = more (c ∷ b) x s
 -- the first block is at offset p
 abbrev pub group : ℕ → List Block → Bays (List Cell) Fixed
 group p [] = last []
-group p (free n ∷ bs) = inFront (gapCell n) (group (p + n) bs)
-group p (reloc h d ∷ bs) = inFront (held (record { handle = h; bytes = d })) (group (p + (relocHeader + length d)) bs)
+group p (cell c ∷ bs) = inFront c (group (p + cellSize c) bs)
 group p (fixed d ∷ bs) = more [] (record { place = p; bytes = d }) (group (p + (fixedHeader + length d)) bs)
 
 abbrev pub flatBay : List Cell → List Block → List Block
-flatBay [] r = r
-flatBay (gapCell n ∷ cs) r = free n ∷ flatBay cs r
-flatBay (held e ∷ cs) r = reloc (e .handle) (e .bytes) ∷ flatBay cs r
+flatBay cs r = map cell cs ++ r
 
 abbrev pub flatten : Bays (List Cell) Fixed → List Block
 flatten (last b) = flatBay b []

@@ -1,4 +1,3 @@
-pub mod Bay
 pub mod Work
 pub mod Group
 pub mod Call
@@ -11,7 +10,5 @@ pub mod Hardware
 pub mod Claim
 pub mod RigSheet
 pub mod ReelB
-pub mod Choice
-pub mod Counted
 pub mod PickBays
 pub mod Search

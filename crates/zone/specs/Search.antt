@@ -5,10 +5,11 @@ use mathlib.Core.List.{List, []}
 use Prim.Native.Nat.{ℕ}
 use lib.Dec.{leb, eqb}
 use Rattle.calls.specs.Bays.{Bays, orElse, mapS, findS}
-use Rattle.calls.specs.State.{Item, itemSize, get, Fixed, fsize, pointer, newFixed}
+use Rattle.kinds.specs.Kinds.{Item, itemSize}
+use Rattle.calls.specs.State.{get, Fixed, fsize, pointer, newFixed}
 use Rattle.zone.specs.PickBays.{onLow, onHigh, onJoin}
-use Rattle.zone.specs.Bay.{Cell, baySum, items, gap, joinBays, put, takeHigh, release, resized, reshape}
-use Rattle.zone.specs.Counted.{count, roomFor}
+use Rattle.bay.specs.Bay.{Cell, baySum, items, gap, joinBays, put, takeHigh, release, resized, reshape}
+use Rattle.bay.specs.Counted.{count, roomFor}
 use Rattle.zone.specs.Work.{Zone}
 
 abbrev pub lookup : ℕ → Zone → Option Item

@@ -5,12 +5,13 @@ use Prim.Native.Nat.{ℕ, _+_}
 use lib.Dec.{eqb}
 use Rattle.block_type.specs.Limits.{freeCode, fixedCode, relocCode}
 use Rattle.format.specs.WellFormed.{firstField, wellFormed}
-use Rattle.structure.specs.Structure.{Block, free, fixed, reloc, size, start, decode}
+use Rattle.structure.specs.Structure.{Block, fixed, size, start, decode, cell}
+use Rattle.bay.specs.Bay.{free, held}
 
 abbrev pub codeOf : Block → ℕ
-codeOf (free n) = freeCode
+codeOf (cell (free n)) = freeCode
 codeOf (fixed d) = fixedCode
-codeOf (reloc h d) = relocCode
+codeOf (cell (held it)) = relocCode
 
 -- a block's type, offset and size; 0 for each where there is none
 pub record Described : Type 0 where

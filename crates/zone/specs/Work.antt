@@ -9,9 +9,10 @@ use lib.Dec.{leb, eqb}
 use Rattle.block_type.specs.Limits.{up4, fixedNeed, zoneHeader, firstBlock, recordSize}
 use Rattle.calls.specs.Calls.{Target, by-handle, by-pointer, Call, allocate-relocatable, allocate-fixed, free-handle, free-pointer, resize, size, read, write, view, compact, sums, check, length-of, enlarge, shrink, roster, Card, toldTwo, shows, lists}
 use Rattle.calls.specs.Bays.{Bays, last, onLowest, mapS, onFixed, onLast, concatS, sumS, maxS, lastS}
-use Rattle.calls.specs.State.{Item, itemSize, get, newItem, sized, card, handlesFrom, Fixed, pointer, alterFixed, State, Out, says, done, withBays, cutHigh, joinAt, dataOf, ownSum, liveCount, top, rest}
+use Rattle.kinds.specs.Kinds.{Item, itemSize}
+use Rattle.calls.specs.State.{get, newItem, sized, card, handlesFrom, Fixed, pointer, alterFixed, State, Out, says, done, withBays, cutHigh, joinAt, dataOf, ownSum, liveCount, top, rest}
 use Rattle.calls.specs.Table.{Facts, factsOf, isNone}
-use Rattle.zone.specs.Bay.{Cell, baySum, items, gap, joinBays, compactBay, put, takeHigh, release, edit, reshape}
+use Rattle.bay.specs.Bay.{Cell, baySum, items, gap, joinBays, compactBay, put, takeHigh, release, edit, reshape}
 
 -- a zone's bay is its blocks in address order
 abbrev pub Zone : Type 0

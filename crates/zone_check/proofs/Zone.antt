@@ -6,6 +6,7 @@ use Prim.Native.Nat.{ℕ, _-_, _<_, _≤_}
 use native.Mathlib.Omega.{arith}
 use borrow.Author.Tests.{leb-true, le-leb, not-true, not-false}
 use lib.ListN.{length, take, drop}
+use Rattle.block_type.specs.Limits.{zoneHeader}
 use Rattle.format.proofs.Bool.{and-left, and-right, is-false}
 use Rattle.format.proofs.Header.{Fields, header-facts}
 use Rattle.zone_check.specs.Body.{Body}
@@ -13,7 +14,7 @@ use Rattle.format.specs.WellFormed.{headerOk, lengthField, firstField, mastersF
 use Rattle.format.proofs.OneWalk.{one-walk}
 use Rattle.format.specs.OneWalk.{links, blocksOk, bodyOk}
 
-pub header-long : (s : List ℕ) → headerOk s ≡ true → 16 ≤ length s
+pub header-long : (s : List ℕ) → headerOk s ≡ true → zoneHeader ≤ length s
 header-long s h = header-facts s h .long
 
 pub fields-law : (s : List ℕ) (l first m head : ℕ) → headerOk s ≡ true → l ≡ lengthField s → first ≡ firstField s → m ≡ mastersField s → head ≡ chainField s → Fields s l first m head

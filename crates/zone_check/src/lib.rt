@@ -3,6 +3,7 @@ ghost use mathlib.Core.Path.{_≡_};
 ghost use mathlib.Core.Bool.{true, false};
 ghost use Prim.Native.Nat.{_+_, _-_, _*_, _%_, _<_, _≤_};
 ghost use lib.ListN.{length, drop};
+ghost use Rattle.block_type.specs.Limits.{longestZone};
 ghost use Rattle.format.specs.WellFormed.{headerOk, splitBlocks, relocs, wellFormed, countOf};
 ghost use Rattle.format.specs.OneWalk.{links, blocksOk};
 ghost use Rattle.format.specs.Steps.{Fields};
@@ -15,7 +16,7 @@ pub struct Tally {
 
 // Goes from block to block: whether all obey the rules, and how many are relocatable.
 fn blocks_ok(z: &[u8], first: usize) -> Tally
-    requires { ⌜ (first ≤ length (now z)) × (first % 4 ≡ 0) × (length (now z) % 4 ≡ 0) × (length (now z) ≤ 1048576) ⌝ }
+    requires { ⌜ (first ≤ length (now z)) × (first % 4 ≡ 0) × (length (now z) % 4 ≡ 0) × (length (now z) ≤ longestZone) ⌝ }
     ensures { λ r. ⌜ (r .ok ≡ blocksOk (now (z .entry)) first false first (splitBlocks (drop first (now (z .entry))))) × (r .ok ≡ true → r .count ≡ relocs (splitBlocks (drop first (now (z .entry))))) ⌝ }
 {
     let mut at = first;
@@ -99,7 +100,7 @@ pub struct Checked {
 
 // The test of what follows the header, of a zone z with no bytes beyond.
 fn body(z: &[u8], first: usize, m: usize, head: usize) -> Checked
-    requires { ⌜ (first ≤ length (now z)) × (first % 4 ≡ 0) × (length (now z) % 4 ≡ 0) × (length (now z) ≤ 1048576) × (head < 4294967296) ⌝ }
+    requires { ⌜ (first ≤ length (now z)) × (first % 4 ≡ 0) × (length (now z) % 4 ≡ 0) × (length (now z) ≤ longestZone) × (head < 4294967296) ⌝ }
     ensures { λ r. ⌜ Body (now (z .entry)) first m head (r .ok) (r .count) ⌝ }
 {
     let t = blocks_ok(z, first);

@@ -1,10 +1,11 @@
-use Rattle.access.proofs.PlaceLaws.{place-no, place-low, place-yes, handle-fits, zone-long}
+use Rattle.access.proofs.PlaceLaws.{place-no, place-low, place-yes, handle-fits}
+use Rattle.access.proofs.Checked.{zone-8}
 use borrow.Author.Needs.{needs}
 use Rattle.access.proofs.place.Statement.{statement}
 use Rattle.access.proofs.place.Tie as tie
 
 get4-requires : tie.Need-get4-requires
-get4-requires c κs = search zone-long
+get4-requires c κs = search zone-8
 
 get4-requires-2 : tie.Need-get4-requires-2
 get4-requires-2 c κs = search handle-fits

@@ -1,14 +1,15 @@
-use Rattle.call_laws.proofs.Plan.{take-len}
-use Rattle.allocate_fixed.proofs.Call.{call-fits, call-site, call-sub, call-add, call-word, call-end, call-no}
+use Rattle.access.proofs.Checked.{take-len}
+use Rattle.call_laws.proofs.Frame.{frame-fits, frame-no}
+use Rattle.allocate_fixed.proofs.Call.{call-site, call-sub, call-add, call-word, call-end}
 use borrow.Author.Needs.{needs}
 use Rattle.allocate_fixed.proofs.allocate_fixed.Statement.{statement}
 use Rattle.allocate_fixed.proofs.allocate_fixed.Tie as tie
 
 slice-relend-prefix-place : tie.Need-slice-relend-prefix-place
-slice-relend-prefix-place c = search call-fits
+slice-relend-prefix-place c = search frame-fits
 
 slice-aggregate-place : tie.Need-slice-aggregate-place
-slice-aggregate-place c = search (take-len, call-fits)
+slice-aggregate-place c = search (take-len, frame-fits)
 
 place-requires : tie.Need-place-requires
 place-requires c κs = search call-site
@@ -26,7 +27,7 @@ returns : tie.Need-returns
 returns c = search call-end
 
 returns-2 : tie.Need-returns-2
-returns-2 c = search call-no
+returns-2 c = search frame-no
 
 pub allocate-fixed-spec : {M : Type 1} → statement M
 allocate-fixed-spec =

@@ -1,10 +1,10 @@
-use Rattle.allocate_fixed.proofs.Placed.{ask-bay, ask-sub, ask-word, ask-put, place-done}
+use Rattle.allocate_fixed.proofs.Placed.{ask-take, ask-sub, ask-word, ask-put, place-done}
 use borrow.Author.Needs.{needs}
 use Rattle.allocate_fixed.proofs.place.Statement.{statement}
 use Rattle.allocate_fixed.proofs.place.Tie as tie
 
 take-high-requires : tie.Need-take-high-requires
-take-high-requires c κs = search ask-bay
+take-high-requires c κs = search ask-take
 
 sub-put2 : tie.Need-sub-put2
 sub-put2 c = search ask-sub

@@ -1,6 +1,6 @@
-use Rattle.call_laws.proofs.Plan.{zone-8}
-use Rattle.take_high.proofs.Zone.{zone-row, zone-start, zone-short}
-use Rattle.allocate_fixed.proofs.Zone.{in-0, in-3, in-5}
+use Rattle.access.proofs.Checked.{zone-8}
+use Rattle.row.proofs.Zone.{zone-row, zone-start, zone-short}
+use Rattle.allocate_fixed.proofs.Call.{in-0, in-3, in-5}
 use borrow.Author.Needs.{needs}
 use Rattle.allocate_fixed.proofs.plan_in.Statement.{statement}
 use Rattle.allocate_fixed.proofs.plan_in.Tie as tie

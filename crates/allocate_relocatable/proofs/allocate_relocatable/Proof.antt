@@ -1,17 +1,18 @@
-use Rattle.call_laws.proofs.Plan.{take-len}
-use Rattle.allocate_relocatable.proofs.Call.{call-fits, call-site, call-word, call-end, call-no}
+use Rattle.call_laws.proofs.Frame.{frame-fits, frame-no}
+use Rattle.access.proofs.Checked.{take-len}
+use Rattle.allocate_relocatable.proofs.Call.{call-goes, call-word, call-end}
 use borrow.Author.Needs.{needs}
 use Rattle.allocate_relocatable.proofs.allocate_relocatable.Statement.{statement}
 use Rattle.allocate_relocatable.proofs.allocate_relocatable.Tie as tie
 
-slice-relend-prefix-place : tie.Need-slice-relend-prefix-place
-slice-relend-prefix-place c = search call-fits
+slice-relend-prefix-allocate-in : tie.Need-slice-relend-prefix-allocate-in
+slice-relend-prefix-allocate-in c = search frame-fits
 
-slice-aggregate-place : tie.Need-slice-aggregate-place
-slice-aggregate-place c = search (take-len, call-fits)
+slice-aggregate-allocate-in : tie.Need-slice-aggregate-allocate-in
+slice-aggregate-allocate-in c = search (take-len, frame-fits)
 
-place-requires : tie.Need-place-requires
-place-requires c κs = search call-site
+allocate-in-requires : tie.Need-allocate-in-requires
+allocate-in-requires c κs = search call-goes
 
 cast-value : tie.Need-cast-value
 cast-value c = search call-word
@@ -20,16 +21,16 @@ returns : tie.Need-returns
 returns c = search call-end
 
 returns-2 : tie.Need-returns-2
-returns-2 c = search call-no
+returns-2 c = search frame-no
 
 pub allocate-relocatable-spec : {M : Type 1} → statement M
 allocate-relocatable-spec =
     tie.close
     (tie.spec
     (λ c κs. search needs)
-    slice-relend-prefix-place
-    slice-aggregate-place
-    place-requires
+    slice-relend-prefix-allocate-in
+    slice-aggregate-allocate-in
+    allocate-in-requires
     cast-value
     (λ c. search needs)
     returns

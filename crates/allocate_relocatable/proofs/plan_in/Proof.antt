@@ -1,5 +1,5 @@
-use Rattle.call_laws.proofs.Plan.{zone-8, zone-14}
-use Rattle.allocate_relocatable.proofs.Zone.{in-0, in-3, in-4, in-5, zone-row, zone-start, zone-short, bay-here}
+use Rattle.access.proofs.Checked.{zone-8, zone-14}
+use Rattle.allocate_relocatable.proofs.Zone.{in-0, in-3, in-4, in-5, ask-row, ask-first, ask-limit, bay-here}
 use borrow.Author.Needs.{needs}
 use Rattle.allocate_relocatable.proofs.plan_in.Statement.{statement}
 use Rattle.allocate_relocatable.proofs.plan_in.Tie as tie
@@ -16,8 +16,8 @@ returns-2 c = search in-4
 get4-requires : tie.Need-get4-requires
 get4-requires c κs = search zone-8
 
-find-bay-requires : tie.Need-find-bay-requires
-find-bay-requires c κs = (search zone-row, search zone-start, search zone-short)
+find-low-requires : tie.Need-find-low-requires
+find-low-requires c κs = (search ask-row, search ask-first, search ask-limit)
 
 plan-bay-requires : tie.Need-plan-bay-requires
 plan-bay-requires c κs = search bay-here
@@ -43,7 +43,7 @@ plan-in-spec =
     (λ c. search needs)
     get4-requires
     (λ c. search needs)
-    find-bay-requires
+    find-low-requires
     plan-bay-requires
     returns-3
     (λ c κs. search needs)

@@ -1,5 +1,5 @@
 use Rattle.census.proofs.Laws.{census-1, census-0}
-use Rattle.tell.proofs.Opened.{has-header, has-zone, has-whole, take-len, bytes-of}
+use Rattle.access.proofs.Checked.{has-length, has-zone, has-whole, take-len, bytes-of}
 use borrow.Author.Needs.{needs}
 use Rattle.census.proofs.census.Statement.{statement}
 use Rattle.census.proofs.census.Tie as tie
@@ -8,7 +8,7 @@ returns : tie.Need-returns
 returns c = search census-1
 
 get4-requires : tie.Need-get4-requires
-get4-requires c κs = search has-header
+get4-requires c κs = search has-length
 
 slice-aggregate-count-in : tie.Need-slice-aggregate-count-in
 slice-aggregate-count-in c = search (take-len, has-zone)

@@ -2,14 +2,14 @@ use Prim.Native.Nat.{_-_, _≤_}
 use mathlib.Core.Logic.{⊎-elim}
 use native.Mathlib.Omega.{arith}
 use borrow.Author.Needs.{needs}
-use lib.ListN.{length}
-use Rattle.walk.specs.Walker.{Edge}
+use lib.ListN.{length, drop}
+use Rattle.row.specs.Row.{Row}
 use Rattle.census.proofs.Laws.{Tally, tally-start, tally-free, tally-used, tally-end}
 use Rattle.census.proofs.count_all.Statement.{statement}
 use Rattle.census.proofs.count_all.Tie as tie
 
 abbrev Inv-loop : tie.InvT-loop
-Inv-loop z first counts₀ p₀ counts p = (p ≤ length z) × Edge z first p × Tally z first p counts₀ counts
+Inv-loop z first counts₀ p₀ counts p = (p ≤ length z) × Row (drop p z) × Tally z first p counts₀ counts
 
 abbrev μ-loop : tie.MeasureT-loop
 μ-loop z first counts₀ p₀ counts p = length z - p

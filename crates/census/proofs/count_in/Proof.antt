@@ -1,16 +1,16 @@
 use mathlib.Core.Path.{refl}
-use Rattle.census.proofs.Laws.{in-law, zone-short, zeros-low}
-use Rattle.tell.proofs.Opened.{get-first}
-use Rattle.release.proofs.Reach.{zone-edge, zone-first}
+use Rattle.census.proofs.Laws.{in-law, zeros-low}
+use Rattle.access.proofs.Checked.{zone-8}
+use Rattle.row.proofs.Zone.{zone-row, zone-start, zone-short}
 use borrow.Author.Needs.{needs}
 use Rattle.census.proofs.count_in.Statement.{statement}
 use Rattle.census.proofs.count_in.Tie as tie
 
 get4-requires : tie.Need-get4-requires
-get4-requires c κs = search get-first
+get4-requires c κs = search zone-8
 
 count-all-requires : tie.Need-count-all-requires
-count-all-requires c κs = (search zone-edge, search zone-first, search zone-short, refl, λ k. zeros-low 19 k _)
+count-all-requires c κs = (search zone-row, search zone-start, search zone-short, refl, λ k. zeros-low 19 k _)
 
 returns : tie.Need-returns
 returns c = search in-law

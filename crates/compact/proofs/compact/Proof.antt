@@ -1,17 +1,18 @@
-use Rattle.call_laws.proofs.Plan.{take-len}
-use Rattle.compact.proofs.Call.{call-fits, call-zone, call-first, call-within, call-word, call-end, call-no}
+use Rattle.access.proofs.Checked.{take-len}
+use Rattle.call_laws.proofs.Frame.{frame-fits, frame-no}
+use Rattle.compact.proofs.Call.{call-zone, call-first, call-word, call-end}
 use borrow.Author.Needs.{needs}
 use Rattle.compact.proofs.compact.Statement.{statement}
 use Rattle.compact.proofs.compact.Tie as tie
 
 slice-relend-prefix-compact-all : tie.Need-slice-relend-prefix-compact-all
-slice-relend-prefix-compact-all c = search call-fits
+slice-relend-prefix-compact-all c = search frame-fits
 
 slice-aggregate-compact-all : tie.Need-slice-aggregate-compact-all
-slice-aggregate-compact-all c = search (take-len, call-fits)
+slice-aggregate-compact-all c = search (take-len, frame-fits)
 
 compact-all-requires : tie.Need-compact-all-requires
-compact-all-requires c κs = (search call-zone, search call-first, search call-within)
+compact-all-requires c κs = (search call-zone, search call-first)
 
 cast-value : tie.Need-cast-value
 cast-value c = search call-word
@@ -20,7 +21,7 @@ returns : tie.Need-returns
 returns c = search call-end
 
 returns-2 : tie.Need-returns-2
-returns-2 c = search call-no
+returns-2 c = search frame-no
 
 pub compact-spec : {M : Type 1} → statement M
 compact-spec =

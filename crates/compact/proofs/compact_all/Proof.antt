@@ -1,34 +1,36 @@
 use borrow.Author.Needs.{needs}
 use mathlib.Core.Path.{_≡_, refl}
-use Prim.Native.Nat.{_-_, _≤_}
+use Prim.Native.Nat.{suc, _-_, _≤_}
 use native.Mathlib.Omega.{arith}
 use lib.ListN.{length}
 use Rattle.structure.specs.Structure.{decodeZone}
-use Rattle.compact.specs.Going.{Going}
-use Rattle.compact.proofs.Loop.{going-at, going-start, going-step, going-most, going-bytes}
+use Rattle.compact.proofs.Loop.{Going, first-within, going-start, going-row, going-short, going-bay, going-turn, going-most, going-bytes}
 use Rattle.compact.proofs.compact_all.Statement.{statement}
 use Rattle.compact.proofs.compact_all.Tie as tie
 
 abbrev Inv-loop : tie.InvT-loop
-Inv-loop z₀ first o₀ best₀ z o best = (o ≤ length z) × (length z ≡ length z₀) × Going (decodeZone z₀) z o best
+Inv-loop z₀ first at₀ best₀ z at best = (at ≤ suc (length z)) × (length z ≡ length z₀) × Going (decodeZone z₀) z at best
 
 abbrev μ-loop : tie.MeasureT-loop
-μ-loop z₀ first o₀ best₀ z o best = length z - o
+μ-loop z₀ first at₀ best₀ z at best = suc (length z) - at
 
 loop-holds : tie.Need-loop-holds Inv-loop μ-loop
-loop-holds c = (omega arith, refl, search going-start)
+loop-holds c = (search first-within, refl, search going-start)
 
-one-bay-requires : tie.Need-one-bay-requires Inv-loop μ-loop
-one-bay-requires c κs = (search going-at, omega arith)
+read-bay-requires : tie.Need-read-bay-requires Inv-loop μ-loop
+read-bay-requires c κs = (search going-row, omega arith, search going-short)
+
+pack-requires : tie.Need-pack-requires Inv-loop μ-loop
+pack-requires c κs = search going-bay
 
 larger-of-requires : tie.Need-larger-of-requires Inv-loop μ-loop
 larger-of-requires c κs = search needs
 
 loop-less : tie.Need-loop-less Inv-loop μ-loop
-loop-less c = omega arith
+loop-less c = search needs
 
 loop-again : tie.Need-loop-again Inv-loop μ-loop
-loop-again c = (omega arith, omega arith, search going-step)
+loop-again c = (search needs, search needs, search going-turn)
 
 same-length : tie.Need-same-length Inv-loop μ-loop
 same-length c = omega arith
@@ -43,7 +45,8 @@ compact-all-spec =
     Inv-loop
     μ-loop
     loop-holds
-    one-bay-requires
+    read-bay-requires
+    pack-requires
     larger-of-requires
     loop-less
     loop-again

@@ -1,11 +1,12 @@
-use Rattle.call_laws.proofs.Plan.{has-length, has-first, has-zone, has-whole, bytes-of}
-use Rattle.compact.proofs.Call.{plan-no, plan-yes}
+use Rattle.access.proofs.Checked.{has-length, has-first, has-whole, bytes-of}
+use Rattle.call_laws.proofs.Frame.{plan-ill, plan-well}
+use Rattle.compact.proofs.Call.{in-0}
 use borrow.Author.Needs.{needs}
 use Rattle.compact.proofs.plan.Statement.{statement}
 use Rattle.compact.proofs.plan.Tie as tie
 
 returns : tie.Need-returns
-returns c = search plan-no
+returns c = search plan-ill
 
 get4-requires : tie.Need-get4-requires
 get4-requires c κs = search has-length
@@ -14,7 +15,7 @@ get4-requires-2 : tie.Need-get4-requires-2
 get4-requires-2 c κs = search has-first
 
 returns-2 : tie.Need-returns-2
-returns-2 c = search (plan-yes, has-zone, has-whole, bytes-of)
+returns-2 c = search (plan-well, in-0, has-whole, bytes-of)
 
 pub plan-spec : {M : Type 1} → statement M
 plan-spec =

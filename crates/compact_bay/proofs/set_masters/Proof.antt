@@ -3,6 +3,7 @@ use mathlib.Core.Path.{_≡_, refl}
 use Prim.Native.Nat.{_-_, _≤_}
 use native.Mathlib.Omega.{arith}
 use lib.ListN.{length, take, drop}
+use Rattle.block_type.specs.Limits.{longestZone}
 use Rattle.row.specs.Row.{Row, blocksOf}
 use Rattle.compact_bay.specs.Tidy.{IsLow, setAll}
 use Rattle.compact_bay.proofs.Pass.{masters-done, masters-step}
@@ -10,7 +11,7 @@ use Rattle.compact_bay.proofs.set_masters.Statement.{statement}
 use Rattle.compact_bay.proofs.set_masters.Tie as tie
 
 abbrev Inv-loop : tie.InvT-loop
-Inv-loop z₀ from to at₀ z at = (from ≤ at) × (at ≤ to) × (to ≤ length z) × (length z ≤ 1048576) × (length z ≡ length z₀) × Row (drop at (take to z)) × IsLow at (blocksOf (drop at (take to z))) × (setAll at (blocksOf (drop at (take to z))) z ≡ setAll from (blocksOf (drop from (take to z₀))) z₀)
+Inv-loop z₀ from to at₀ z at = (from ≤ at) × (at ≤ to) × (to ≤ length z) × (length z ≤ longestZone) × (length z ≡ length z₀) × Row (drop at (take to z)) × IsLow at (blocksOf (drop at (take to z))) × (setAll at (blocksOf (drop at (take to z))) z ≡ setAll from (blocksOf (drop from (take to z₀))) z₀)
 
 abbrev μ-loop : tie.MeasureT-loop
 μ-loop z₀ from to at₀ z at = to - at

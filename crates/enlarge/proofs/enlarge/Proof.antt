@@ -1,5 +1,6 @@
-use Rattle.call_laws.proofs.Plan.{take-len}
-use Rattle.enlarge.proofs.Call.{call-fits, call-old, call-idle, call-above, call-between, call-end, call-no}
+use Rattle.access.proofs.Checked.{take-len}
+use Rattle.call_laws.proofs.Frame.{frame-no}
+use Rattle.enlarge.proofs.Call.{call-fits, call-word, call-idle, call-between, call-end}
 use borrow.Author.Needs.{needs}
 use Rattle.enlarge.proofs.enlarge.Statement.{statement}
 use Rattle.enlarge.proofs.enlarge.Tie as tie
@@ -7,8 +8,8 @@ use Rattle.enlarge.proofs.enlarge.Tie as tie
 returns : tie.Need-returns
 returns c = search call-idle
 
-sub-old : tie.Need-sub-old
-sub-old c = search call-old
+add-n : tie.Need-add-n
+add-n c = search call-word
 
 slice-relend-prefix-extend : tie.Need-slice-relend-prefix-extend
 slice-relend-prefix-extend c = search call-fits
@@ -17,13 +18,13 @@ slice-aggregate-extend : tie.Need-slice-aggregate-extend
 slice-aggregate-extend c = search (take-len, call-fits)
 
 extend-requires : tie.Need-extend-requires
-extend-requires c κs = (search call-above, search call-between)
+extend-requires c κs = search call-between
 
 returns-2 : tie.Need-returns-2
 returns-2 c = search call-end
 
 returns-3 : tie.Need-returns-3
-returns-3 c = search call-no
+returns-3 c = search frame-no
 
 pub enlarge-spec : {M : Type 1} → statement M
 enlarge-spec =
@@ -32,7 +33,7 @@ enlarge-spec =
     (λ c κs. search needs)
     (λ c. search needs)
     returns
-    sub-old
+    add-n
     slice-relend-prefix-extend
     slice-aggregate-extend
     extend-requires

@@ -1,11 +1,12 @@
-use Rattle.call_laws.proofs.Plan.{has-length, has-zone, has-whole, take-len, bytes-of}
-use Rattle.enlarge.proofs.Call.{plan-no, plan-9, plan-yes}
+use Rattle.access.proofs.Checked.{has-length, has-zone, has-whole, take-len, bytes-of}
+use Rattle.call_laws.proofs.Frame.{plan-ill}
+use Rattle.enlarge.proofs.Call.{plan-9, plan-0}
 use borrow.Author.Needs.{needs}
 use Rattle.enlarge.proofs.enlarge_plan.Statement.{statement}
 use Rattle.enlarge.proofs.enlarge_plan.Tie as tie
 
 returns : tie.Need-returns
-returns c = search plan-no
+returns c = search plan-ill
 
 get4-requires : tie.Need-get4-requires
 get4-requires c κs = search has-length
@@ -17,7 +18,7 @@ last-free-requires : tie.Need-last-free-requires
 last-free-requires c κs = search (has-whole, bytes-of)
 
 returns-2 : tie.Need-returns-2
-returns-2 c = search plan-yes
+returns-2 c = search plan-0
 
 returns-3 : tie.Need-returns-3
 returns-3 c = search plan-9

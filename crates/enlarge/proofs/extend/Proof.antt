@@ -1,5 +1,5 @@
-use Rattle.enlarge.proofs.Call.{extend-law}
 use borrow.Author.Needs.{needs}
+use Rattle.enlarge.proofs.Call.{extend-law}
 use Rattle.enlarge.proofs.extend.Statement.{statement}
 use Rattle.enlarge.proofs.extend.Tie as tie
 

@@ -1,6 +1,7 @@
-use Rattle.call_laws.proofs.Plan.{zone-8}
-use Rattle.release.proofs.Reach.{zone-edge, zone-first}
-use Rattle.enlarge.proofs.Call.{tail-zone}
+use Rattle.walk.proofs.Zone.{zone-edge, zone-first}
+use Rattle.access.proofs.Checked.{zone-8}
+use Rattle.row.proofs.Zone.{zone-row, zone-start, zone-short}
+use Rattle.enlarge.proofs.Zone.{last-at, last-low}
 use borrow.Author.Needs.{needs}
 use Rattle.enlarge.proofs.last_free.Statement.{statement}
 use Rattle.enlarge.proofs.last_free.Tie as tie
@@ -8,11 +9,14 @@ use Rattle.enlarge.proofs.last_free.Tie as tie
 get4-requires : tie.Need-get4-requires
 get4-requires c κs = search zone-8
 
-low-requires : tie.Need-low-requires
-low-requires c κs = (search zone-edge, search zone-first)
+find-high-requires : tie.Need-find-high-requires
+find-high-requires c κs = (search zone-row, search zone-start, search zone-short)
+
+sub-result : tie.Need-sub-result
+sub-result c = search last-low
 
 returns : tie.Need-returns
-returns c = search tail-zone
+returns c = search last-at
 
 pub last-free-spec : {M : Type 1} → statement M
-last-free-spec = tie.close (tie.spec get4-requires (λ c. search needs) low-requires returns)
+last-free-spec = tie.close (tie.spec get4-requires (λ c. search needs) find-high-requires sub-result returns)

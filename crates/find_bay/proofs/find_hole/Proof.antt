@@ -3,6 +3,7 @@ use mathlib.Core.Path.{_≡_, refl}
 use Prim.Native.Nat.{_-_, _≤_}
 use native.Mathlib.Omega.{arith}
 use lib.ListN.{length, drop}
+use Rattle.block_type.specs.Limits.{longestZone}
 use Rattle.row.specs.Row.{Row, blocksOf}
 use Rattle.find_bay.specs.Find.{findHole}
 use Rattle.find_bay.proofs.FindLaws.{hole-hit, hole-next, hole-end}
@@ -10,7 +11,7 @@ use Rattle.find_bay.proofs.find_hole.Statement.{statement}
 use Rattle.find_bay.proofs.find_hole.Tie as tie
 
 abbrev Inv-loop : tie.InvT-loop
-Inv-loop s need at₀ at = (at ≤ length s) × (length s ≤ 1048576) × Row (drop at s) × (findHole need at (blocksOf (drop at s)) ≡ findHole need 0 (blocksOf s))
+Inv-loop s need at₀ at = (at ≤ length s) × (length s ≤ longestZone) × Row (drop at s) × (findHole need at (blocksOf (drop at s)) ≡ findHole need 0 (blocksOf s))
 
 abbrev μ-loop : tie.MeasureT-loop
 μ-loop s need at₀ at = length s - at

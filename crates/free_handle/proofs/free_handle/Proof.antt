@@ -1,23 +1,24 @@
-use Rattle.free_handle.proofs.Laws.{rel-fits, rel-zone, rel-span, rel-head, rel-handle, rel-long, rel-out, rel-no}
-use Rattle.call_laws.proofs.Plan.{take-len}
+use Rattle.access.proofs.Checked.{take-len}
+use Rattle.call_laws.proofs.Frame.{frame-fits, frame-no}
+use Rattle.free_handle.proofs.Laws.{call-ready, call-out}
 use borrow.Author.Needs.{needs}
 use Rattle.free_handle.proofs.free_handle.Statement.{statement}
 use Rattle.free_handle.proofs.free_handle.Tie as tie
 
 slice-relend-prefix-release : tie.Need-slice-relend-prefix-release
-slice-relend-prefix-release c = search rel-fits
+slice-relend-prefix-release c = search frame-fits
 
 slice-aggregate-release : tie.Need-slice-aggregate-release
-slice-aggregate-release c = search (take-len, rel-fits)
+slice-aggregate-release c = search (take-len, frame-fits)
 
 release-requires : tie.Need-release-requires
-release-requires c κs = (search rel-zone, search rel-span, search rel-head, search rel-handle, search rel-long)
+release-requires c κs = search call-ready
 
 returns : tie.Need-returns
-returns c = search rel-out
+returns c = search call-out
 
 returns-2 : tie.Need-returns-2
-returns-2 c = search rel-no
+returns-2 c = search frame-no
 
 pub free-handle-spec : {M : Type 1} → statement M
 free-handle-spec =

@@ -1,13 +1,12 @@
-use Rattle.free_handle.specs.Free.{planned}
 use native.Mathlib.Omega.{arith}
-use Rattle.free_handle.proofs.Laws.{plan-1, not-one, plan-number, plan-ready}
-use Rattle.call_laws.proofs.Plan.{has-length, has-zone, has-whole, take-len, bytes-of}
+use Rattle.call_laws.proofs.Frame.{plan-ill, plan-well}
+use Rattle.access.proofs.Checked.{has-length, has-zone, has-whole, take-len, bytes-of}
 use borrow.Author.Needs.{needs}
 use Rattle.free_handle.proofs.free_plan.Statement.{statement}
 use Rattle.free_handle.proofs.free_plan.Tie as tie
 
 returns : tie.Need-returns
-returns c = planned (search plan-1) (λ e. not-one e)
+returns c = search plan-ill
 
 get4-requires : tie.Need-get4-requires
 get4-requires c κs = search has-length
@@ -19,12 +18,13 @@ free-in-requires : tie.Need-free-in-requires
 free-in-requires c κs = (search (has-whole, bytes-of), omega arith)
 
 returns-2 : tie.Need-returns-2
-returns-2 c = planned (search plan-number) (search (plan-ready, has-zone))
+returns-2 c = search plan-well
 
 pub free-plan-spec : {M : Type 1} → statement M
 free-plan-spec =
     tie.close
     (tie.spec
+    (λ c κs. search needs)
     (λ c κs. search needs)
     returns
     get4-requires

@@ -1,5 +1,5 @@
-use Rattle.call_laws.proofs.Plan.{has-length, has-zone, has-whole, take-len, bytes-of}
-use Rattle.free_pointer.proofs.Call.{plan-ill, plan-well}
+use Rattle.access.proofs.Checked.{has-length, has-zone, has-whole, take-len, bytes-of}
+use Rattle.call_laws.proofs.Frame.{plan-ill, plan-well}
 use borrow.Author.Needs.{needs}
 use Rattle.free_pointer.proofs.free_plan.Statement.{statement}
 use Rattle.free_pointer.proofs.free_plan.Tie as tie
@@ -17,12 +17,13 @@ plan-in-requires : tie.Need-plan-in-requires
 plan-in-requires c κs = search (has-whole, bytes-of)
 
 returns-2 : tie.Need-returns-2
-returns-2 c = search (plan-well, bytes-of)
+returns-2 c = search plan-well
 
 pub free-plan-spec : {M : Type 1} → statement M
 free-plan-spec =
     tie.close
     (tie.spec
+    (λ c κs. search needs)
     (λ c κs. search needs)
     returns
     get4-requires

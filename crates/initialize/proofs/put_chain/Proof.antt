@@ -2,6 +2,7 @@ use mathlib.Core.Path.{_≡_, refl}
 use Prim.Native.Nat.{_+_, _*_, _%_, _≤_}
 use native.Mathlib.Omega.{arith}
 use lib.ListN.{length}
+use Rattle.block_type.specs.Limits.{masterSize, zoneHeader}
 use Rattle.bigendian.specs.BigEndian.{overwrite}
 use Rattle.initialize.specs.Fresh.{chainBytes}
 use Rattle.initialize.proofs.Write.{mastersFrom, masterOrNone, chain-none, chain-start, chain-next, chain-step, chain-end}
@@ -10,7 +11,7 @@ use Rattle.initialize.proofs.put_chain.Tie as tie
 
 abbrev Inv-loop : tie.InvT-loop
 Inv-loop z₀ m next₀ at₀ z next at =
-    (16 ≤ at) × (at % 4 ≡ 0) × (at ≤ 16 + 4 * m) × (length z ≡ length z₀) × (next ≡ masterOrNone m at) × (z ≡ overwrite z₀ at (chainBytes at (mastersFrom m at)))
+    (zoneHeader ≤ at) × (at % 4 ≡ 0) × (at ≤ zoneHeader + masterSize * m) × (length z ≡ length z₀) × (next ≡ masterOrNone m at) × (z ≡ overwrite z₀ at (chainBytes at (mastersFrom m at)))
 
 abbrev μ-loop : tie.MeasureT-loop
 μ-loop z₀ m next₀ at₀ z next at = at

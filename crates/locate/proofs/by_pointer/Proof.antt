@@ -6,7 +6,9 @@ use lib.ListN.{length, drop}
 use Rattle.row.specs.Row.{Row, blocksOf}
 use Rattle.calls.specs.Calls.{by-pointer}
 use Rattle.locate.specs.Locate.{placeAmong, dataAmong, targetPlace, targetData}
-use Rattle.locate.proofs.Laws.{zone-long, zone-start, zone-row, place-start, data-start, place-here, data-here, place-next, data-next, place-end, data-end}
+use Rattle.locate.proofs.Laws.{place-start, data-start, place-here, data-here, place-next, data-next, place-end, data-end}
+use Rattle.row.proofs.Zone.{zone-start, zone-row}
+use Rattle.access.proofs.Checked.{zone-8}
 use Rattle.locate.proofs.by_pointer.Statement.{statement}
 use Rattle.locate.proofs.by_pointer.Tie as tie
 
@@ -21,7 +23,7 @@ abbrev μ-loop : tie.MeasureT-loop
 μ-loop z p place at₀ at = length z - at
 
 get4-requires : tie.Need-get4-requires Inv-loop μ-loop
-get4-requires c κs = search zone-long
+get4-requires c κs = search zone-8
 
 cast-at : tie.Need-cast-at Inv-loop μ-loop
 cast-at c = search needs

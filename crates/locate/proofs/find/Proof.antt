@@ -1,4 +1,5 @@
-use Rattle.locate.proofs.Laws.{located-1, has-header, has-zone, has-whole, located-no, located-yes, take-len, bytes-of}
+use Rattle.locate.proofs.Laws.{located-1, located-no, located-yes}
+use Rattle.access.proofs.Checked.{has-length, has-zone, has-whole, take-len, bytes-of}
 use borrow.Author.Needs.{needs}
 use Rattle.locate.proofs.find.Statement.{statement}
 use Rattle.locate.proofs.find.Tie as tie
@@ -7,7 +8,7 @@ returns : tie.Need-returns
 returns c = search (located-1, bytes-of)
 
 get4-requires : tie.Need-get4-requires
-get4-requires c κs = search has-header
+get4-requires c κs = search has-length
 
 slice-aggregate-span-of : tie.Need-slice-aggregate-span-of
 slice-aggregate-span-of c = search (take-len, has-zone)

@@ -1,4 +1,4 @@
-use Rattle.locate.proofs.Laws.{bytes-of}
+use Rattle.access.proofs.Checked.{bytes-of}
 use Rattle.roster.proofs.Outcomes.{roster-promise}
 use borrow.Author.Needs.{needs}
 use Rattle.nafelode.proofs.roster.Statement.{statement}

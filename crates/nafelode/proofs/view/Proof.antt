@@ -1,4 +1,4 @@
-use Rattle.locate.proofs.Laws.{bytes-of}
+use Rattle.access.proofs.Checked.{bytes-of}
 use Rattle.nafelode.proofs.Laws.{view-promised}
 use Rattle.nafelode.proofs.ViewPlace.{part-start, part-length}
 use borrow.Author.Needs.{needs}

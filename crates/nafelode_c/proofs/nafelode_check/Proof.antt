@@ -1,4 +1,4 @@
-use Rattle.locate.proofs.Laws.{bytes-of}
+use Rattle.access.proofs.Checked.{bytes-of}
 use Rattle.nafelode_c.proofs.Laws.{check-yes, check-no}
 use Rattle.nafelode_c.proofs.Words.{count-word}
 use borrow.Author.Needs.{needs}

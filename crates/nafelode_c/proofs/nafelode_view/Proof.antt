@@ -1,4 +1,4 @@
-use Rattle.locate.proofs.Laws.{bytes-of}
+use Rattle.access.proofs.Checked.{bytes-of}
 use Rattle.nafelode_c.proofs.Laws.{view-named, start-word, view-ordered, length-word, offset-named, length-named, view-in-zone, view-in-buffer}
 use borrow.Author.Needs.{needs}
 use Rattle.nafelode_c.proofs.nafelode_view.Statement.{statement}

@@ -1,4 +1,4 @@
-use Rattle.locate.proofs.Laws.{bytes-of}
+use Rattle.access.proofs.Checked.{bytes-of}
 use Rattle.nafelode_c.proofs.Words.{next-word, offset-word, size-word}
 use borrow.Author.Needs.{needs}
 use Rattle.nafelode_c.proofs.nafelode_walker_step.Statement.{statement}

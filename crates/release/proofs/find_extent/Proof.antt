@@ -1,6 +1,7 @@
 use native.Mathlib.Omega.{arith}
 use Rattle.access.proofs.Size.{size-low}
-use Rattle.release.proofs.Reach.{zone-edge, zone-first, end-edge, end-word, high-end, high-free, high-used}
+use Rattle.walk.proofs.Zone.{zone-edge, zone-first}
+use Rattle.release.proofs.Reach.{end-edge, end-word, high-end, high-free, high-used}
 use borrow.Author.Needs.{needs}
 use Rattle.release.proofs.find_extent.Statement.{statement}
 use Rattle.release.proofs.find_extent.Tie as tie

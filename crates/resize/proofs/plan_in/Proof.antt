@@ -1,4 +1,4 @@
-use Rattle.call_laws.proofs.Plan.{zone-8}
+use Rattle.access.proofs.Checked.{zone-8}
 use Rattle.resize.proofs.Plans.{in-6, in-3, in-word, in-1, in-grows, in-bays}
 use borrow.Author.Needs.{needs}
 use Rattle.resize.proofs.plan_in.Statement.{statement}

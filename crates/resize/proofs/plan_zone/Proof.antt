@@ -1,5 +1,5 @@
 use native.Mathlib.Omega.{arith}
-use Rattle.call_laws.proofs.Plan.{has-length, has-zone, has-whole, take-len, bytes-of}
+use Rattle.access.proofs.Checked.{has-length, has-zone, has-whole, take-len, bytes-of}
 use Rattle.resize.proofs.Call.{plan-no, plan-yes}
 use borrow.Author.Needs.{needs}
 use Rattle.resize.proofs.plan_zone.Statement.{statement}

@@ -1,4 +1,4 @@
-use Rattle.call_laws.proofs.Plan.{take-len}
+use Rattle.access.proofs.Checked.{take-len}
 use Rattle.resize.proofs.Call.{call-fits, call-way, call-end, call-no}
 use borrow.Author.Needs.{needs}
 use Rattle.resize.proofs.resize.Statement.{statement}

@@ -1,4 +1,4 @@
-use Rattle.call_laws.proofs.Plan.{zone-8}
+use Rattle.access.proofs.Checked.{zone-8}
 use Rattle.resize_relocate.proofs.Carrying.{carry-zone, carry-handle, carry-live, carry-size, carry-at, carry-done}
 use borrow.Author.Needs.{needs}
 use Rattle.resize_relocate.proofs.carry.Statement.{statement}

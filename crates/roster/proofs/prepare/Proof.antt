@@ -1,5 +1,5 @@
 use Rattle.roster.proofs.Laws.{plan-1, plan-10, plan-0, count-word}
-use Rattle.tell.proofs.Opened.{has-header}
+use Rattle.access.proofs.Checked.{has-length}
 use borrow.Author.Needs.{needs}
 use Rattle.roster.proofs.prepare.Statement.{statement}
 use Rattle.roster.proofs.prepare.Tie as tie
@@ -14,7 +14,7 @@ cast-t8 : tie.Need-cast-t8
 cast-t8 c = search count-word
 
 get4-requires : tie.Need-get4-requires
-get4-requires c κs = search has-header
+get4-requires c κs = search has-length
 
 returns-3 : tie.Need-returns-3
 returns-3 c = search plan-0

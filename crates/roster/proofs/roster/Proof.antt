@@ -1,5 +1,5 @@
 use Rattle.roster.proofs.Laws.{plan-fits, plan-zone, plan-room, roster-done, roster-refused}
-use Rattle.tell.proofs.Opened.{take-len}
+use Rattle.access.proofs.Checked.{take-len}
 use borrow.Author.Needs.{needs}
 use Rattle.roster.proofs.roster.Statement.{statement}
 use Rattle.roster.proofs.roster.Tie as tie

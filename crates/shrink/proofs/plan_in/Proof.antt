@@ -1,6 +1,6 @@
-use Rattle.call_laws.proofs.Plan.{zone-8}
-use Rattle.take_high.proofs.Zone.{zone-row, zone-start, zone-short}
-use Rattle.shrink.proofs.Zone.{plan-done}
+use Rattle.access.proofs.Checked.{zone-8}
+use Rattle.row.proofs.Zone.{zone-row, zone-start, zone-short}
+use Rattle.shrink.proofs.Call.{plan-done}
 use borrow.Author.Needs.{needs}
 use Rattle.shrink.proofs.plan_in.Statement.{statement}
 use Rattle.shrink.proofs.plan_in.Tie as tie

@@ -1,17 +1,18 @@
-use Rattle.call_laws.proofs.Plan.{take-len}
-use Rattle.shrink.proofs.Call.{call-fits, call-site, call-word, call-end, call-no}
+use Rattle.access.proofs.Checked.{take-len}
+use Rattle.call_laws.proofs.Frame.{frame-fits, frame-no}
+use Rattle.shrink.proofs.Call.{call-none, call-site, call-word, call-end}
 use borrow.Author.Needs.{needs}
 use Rattle.shrink.proofs.shrink.Statement.{statement}
 use Rattle.shrink.proofs.shrink.Tie as tie
 
 returns : tie.Need-returns
-returns c = search call-no
+returns c = search call-none
 
 slice-relend-prefix-strip : tie.Need-slice-relend-prefix-strip
-slice-relend-prefix-strip c = search call-fits
+slice-relend-prefix-strip c = search frame-fits
 
 slice-aggregate-strip : tie.Need-slice-aggregate-strip
-slice-aggregate-strip c = search (take-len, call-fits)
+slice-aggregate-strip c = search (take-len, frame-fits)
 
 strip-requires : tie.Need-strip-requires
 strip-requires c κs = search call-site
@@ -21,6 +22,9 @@ cast-value c = search call-word
 
 returns-2 : tie.Need-returns-2
 returns-2 c = search call-end
+
+returns-3 : tie.Need-returns-3
+returns-3 c = search frame-no
 
 pub shrink-spec : {M : Type 1} → statement M
 shrink-spec =
@@ -34,4 +38,6 @@ shrink-spec =
     strip-requires
     cast-value
     (λ c. search needs)
-    returns-2)
+    returns-2
+    (λ c. search needs)
+    returns-3)

@@ -1,10 +1,10 @@
-use Rattle.shrink.proofs.Placed.{ask-bay, ask-sub, ask-word, ask-put, strip-done}
+use Rattle.shrink.proofs.Placed.{ask-take, ask-sub, ask-word, ask-put, strip-done}
 use borrow.Author.Needs.{needs}
 use Rattle.shrink.proofs.strip.Statement.{statement}
 use Rattle.shrink.proofs.strip.Tie as tie
 
 take-high-requires : tie.Need-take-high-requires
-take-high-requires c κs = search ask-bay
+take-high-requires c κs = search ask-take
 
 sub-put4 : tie.Need-sub-put4
 sub-put4 c = search ask-sub

@@ -1,5 +1,5 @@
-use Rattle.locate.proofs.Laws.{bytes-of}
-use Rattle.stretch_write.proofs.Laws.{take-len, write-long, write-room, write-done, write-no}
+use Rattle.access.proofs.Checked.{bytes-of, take-len}
+use Rattle.stretch_write.proofs.Laws.{write-long, write-room, write-done, write-no}
 use borrow.Author.Needs.{needs}
 use Rattle.stretch_write.proofs.write.Statement.{statement}
 use Rattle.stretch_write.proofs.write.Tie as tie

@@ -1,5 +1,5 @@
 use Rattle.tell.proofs.Laws.{length-1, length-0}
-use Rattle.tell.proofs.Opened.{has-header}
+use Rattle.access.proofs.Checked.{has-length}
 use borrow.Author.Needs.{needs}
 use Rattle.tell.proofs.length.Statement.{statement}
 use Rattle.tell.proofs.length.Tie as tie
@@ -8,7 +8,7 @@ returns : tie.Need-returns
 returns c = search length-1
 
 get4-requires : tie.Need-get4-requires
-get4-requires c κs = search has-header
+get4-requires c κs = search has-length
 
 returns-2 : tie.Need-returns-2
 returns-2 c = search length-0

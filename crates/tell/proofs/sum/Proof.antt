@@ -1,5 +1,5 @@
 use Rattle.tell.proofs.Laws.{sums-1, sums-0}
-use Rattle.tell.proofs.Opened.{has-header, has-zone, has-whole, take-len, bytes-of}
+use Rattle.access.proofs.Checked.{has-length, has-zone, has-whole, take-len, bytes-of}
 use borrow.Author.Needs.{needs}
 use Rattle.tell.proofs.sum.Statement.{statement}
 use Rattle.tell.proofs.sum.Tie as tie
@@ -8,7 +8,7 @@ returns : tie.Need-returns
 returns c = search sums-1
 
 get4-requires : tie.Need-get4-requires
-get4-requires c κs = search has-header
+get4-requires c κs = search has-length
 
 slice-aggregate-sum-in : tie.Need-slice-aggregate-sum-in
 slice-aggregate-sum-in c = search (take-len, has-zone)

@@ -1,15 +1,15 @@
 use Rattle.tell.proofs.Laws.{sums-zone}
-use Rattle.tell.proofs.Opened.{get-first}
-use Rattle.release.proofs.Reach.{zone-edge, zone-first}
+use Rattle.access.proofs.Checked.{zone-8}
+use Rattle.row.proofs.Zone.{zone-row, zone-start, zone-short}
 use borrow.Author.Needs.{needs}
 use Rattle.tell.proofs.sum_in.Statement.{statement}
 use Rattle.tell.proofs.sum_in.Tie as tie
 
 get4-requires : tie.Need-get4-requires
-get4-requires c κs = search get-first
+get4-requires c κs = search zone-8
 
 sums-from-requires : tie.Need-sums-from-requires
-sums-from-requires c κs = (search zone-edge, search zone-first)
+sums-from-requires c κs = search (zone-row, zone-start, zone-short)
 
 returns : tie.Need-returns
 returns c = search sums-zone

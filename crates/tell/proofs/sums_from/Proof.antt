@@ -1,59 +1,30 @@
-use mathlib.Core.Path.{_≡_, refl}
-use Prim.Native.Nat.{_+_, _-_, _≤_}
 use borrow.Author.Needs.{needs}
+use Prim.Native.Nat.{suc, _-_, _≤_}
 use native.Mathlib.Omega.{arith}
-use lib.ListN.{length}
-use Rattle.walk.specs.Walker.{blocksAt, Edge, freeTotal}
-use Rattle.tell.specs.Largest.{largestOf}
-use Rattle.tell.proofs.Laws.{largest-step, total-step, sums-end}
+use lib.ListN.{length, drop}
+use Rattle.block_type.specs.Limits.{longestZone}
+use Rattle.row.specs.Row.{Row}
+use Rattle.tell.proofs.Totals.{Met, met-none, met-more, met-all, total-within, total-word}
 use Rattle.tell.proofs.sums_from.Statement.{statement}
 use Rattle.tell.proofs.sums_from.Tie as tie
 
 abbrev Inv-loop : tie.InvT-loop
-Inv-loop z first p₀ cur₀ best₀ total₀ p cur best total = (p ≤ length z) × (total + cur ≤ p) × Edge z first p × (largestOf cur best (blocksAt z p) ≡ largestOf 0 0 (blocksAt z first)) × (total + cur + freeTotal (blocksAt z p) ≡ freeTotal (blocksAt z first))
+Inv-loop z first at₀ total₀ best₀ at total best = (total ≤ at) × (at ≤ suc (length z)) × (length z ≤ longestZone) × Row (drop at z) × Met z first at total best
 
 abbrev μ-loop : tie.MeasureT-loop
-μ-loop z first p₀ cur₀ best₀ total₀ p cur best total = length z - p
+μ-loop z first at₀ total₀ best₀ at total best = suc (length z) - at
 
 loop-holds : tie.Need-loop-holds Inv-loop μ-loop
-loop-holds c = (omega arith, omega arith, search needs, refl, omega arith)
+loop-holds c = (omega arith, omega arith, omega arith, search needs, search met-none)
 
-step-requires : tie.Need-step-requires Inv-loop μ-loop
-step-requires c κs = (search needs, omega arith)
-
-after-requires : tie.Need-after-requires Inv-loop μ-loop
-after-requires c κs = (search needs, search needs, omega arith, omega arith)
-
-add-p : tie.Need-add-p Inv-loop μ-loop
-add-p c = omega arith
-
-loop-less : tie.Need-loop-less Inv-loop μ-loop
-loop-less c = omega arith
+add-total : tie.Need-add-total Inv-loop μ-loop
+add-total c = search total-word
 
 loop-again : tie.Need-loop-again Inv-loop μ-loop
-loop-again c = (omega arith, omega arith, search needs, search largest-step, search total-step)
-
-larger-requires : tie.Need-larger-requires Inv-loop μ-loop
-larger-requires c κs = search needs
-
-add-all : tie.Need-add-all Inv-loop μ-loop
-add-all c = omega arith
+loop-again c = (search total-within, omega arith, omega arith, search needs, search met-more)
 
 returns : tie.Need-returns Inv-loop μ-loop
-returns c = search sums-end
+returns c = search met-all
 
 pub sums-from-spec : {M : Type 1} → statement M
-sums-from-spec =
-    tie.close
-    (tie.spec
-    Inv-loop
-    μ-loop
-    loop-holds
-    step-requires
-    after-requires
-    add-p
-    loop-less
-    loop-again
-    larger-requires
-    add-all
-    returns)
+sums-from-spec = tie.close (tie.spec Inv-loop μ-loop loop-holds (λ c κs. search needs) add-total (λ c κs. search needs) (λ c. search needs) loop-again returns)

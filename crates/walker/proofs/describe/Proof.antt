@@ -2,15 +2,15 @@ use borrow.Author.Needs.{needs}
 use mathlib.Core.Path.{_≡_, refl}
 use Prim.Native.Nat.{_-_, _≤_}
 use native.Mathlib.Omega.{arith}
-use lib.ListN.{length}
-use Rattle.walk.specs.Walker.{blocksAt, Edge}
+use lib.ListN.{length, drop}
+use Rattle.row.specs.Row.{Row, blocksOf}
 use Rattle.zone.specs.Walker.{describe}
 use Rattle.walker.proofs.Laws.{describe-here, describe-step, describe-end}
 use Rattle.walker.proofs.describe.Statement.{statement}
 use Rattle.walker.proofs.describe.Tie as tie
 
 abbrev Inv-loop : tie.InvT-loop
-Inv-loop z first at p₀ p = (p ≤ length z) × Edge z first p × (describe at p (blocksAt z p) ≡ describe at first (blocksAt z first))
+Inv-loop z first at p₀ p = (p ≤ length z) × Row (drop p z) × (describe at p (blocksOf (drop p z)) ≡ describe at first (blocksOf (drop first z)))
 
 abbrev μ-loop : tie.MeasureT-loop
 μ-loop z first at p₀ p = length z - p

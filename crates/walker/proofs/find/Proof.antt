@@ -1,15 +1,15 @@
 use Rattle.walker.proofs.Laws.{find-law, find-ends}
-use Rattle.tell.proofs.Opened.{get-first}
-use Rattle.release.proofs.Reach.{zone-edge, zone-first}
+use Rattle.access.proofs.Checked.{zone-8}
+use Rattle.row.proofs.Zone.{zone-row, zone-start}
 use borrow.Author.Needs.{needs}
 use Rattle.walker.proofs.find.Statement.{statement}
 use Rattle.walker.proofs.find.Tie as tie
 
 get4-requires : tie.Need-get4-requires
-get4-requires c κs = search get-first
+get4-requires c κs = search zone-8
 
 describe-requires : tie.Need-describe-requires
-describe-requires c κs = (search zone-edge, search zone-first)
+describe-requires c κs = search (zone-row, zone-start)
 
 returns : tie.Need-returns
 returns c = (search find-law, search find-ends)

@@ -42,8 +42,7 @@ use denote.Triple.Table.{entered, cited}
 use denote.Triple.Walked.{says, Stays, stay-none, stay-none-slice, walkOf, goes-none, goes-none-slice, Walks, ends-at, walked, walk-meets}
 use denote.Triple.Clauses.{ensured, lasts}
 use denote.Exit.{yes}
-use Rattle.zone.specs.Walker.{walkStep}
-use Rattle.zone.specs.Walker.{walked as answered}
+use Rattle.zone.specs.Walker.{walkStep, walked as answered}
 use Rattle.walker.specs.declared.Walker.{Walker}
 use Rattle.walker.specs.declared.Report.{Report}
 use Rattle.walker.specs.declared.Moved.{Moved}

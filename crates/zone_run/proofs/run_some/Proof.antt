@@ -1,6 +1,6 @@
 use borrow.Author.Needs.{needs}
 use native.Mathlib.Omega.{arith}
-use Rattle.call_laws.proofs.Plan.{take-len}
+use Rattle.access.proofs.Checked.{take-len}
 use Rattle.zone_run.proofs.Loop.{continues}
 use Rattle.zone_run.proofs.run_some.Statement.{statement}
 use Rattle.zone_run.proofs.run_some.Tie as tie

@@ -1,6 +1,6 @@
 use native.Mathlib.Omega.{arith}
 use Rattle.walker.proofs.Laws.{go-1, go-0}
-use Rattle.tell.proofs.Opened.{has-header, has-zone, has-whole, take-len, bytes-of}
+use Rattle.access.proofs.Checked.{has-length, has-zone, has-whole, take-len, bytes-of}
 use borrow.Author.Needs.{needs}
 use Rattle.walker.proofs.Walker.go.Statement.{statement}
 use Rattle.walker.proofs.Walker.go.Tie as tie
@@ -9,7 +9,7 @@ returns : tie.Need-returns
 returns c = search go-1
 
 get4-requires : tie.Need-get4-requires
-get4-requires c κs = search has-header
+get4-requires c κs = search has-length
 
 slice-aggregate-find : tie.Need-slice-aggregate-find
 slice-aggregate-find c = search (take-len, has-zone)

@@ -1,4 +1,5 @@
-use Rattle.walker.proofs.Laws.{start-1, start-0, has-first}
+use Rattle.walker.proofs.Laws.{start-1, start-0}
+use Rattle.access.proofs.Checked.{has-first}
 use borrow.Author.Needs.{needs}
 use Rattle.walker.proofs.Walker.start.Statement.{statement}
 use Rattle.walker.proofs.Walker.start.Tie as tie

@@ -1,0 +1,71 @@
+-- What is known of a buffer that the check has passed: its header is there, and the bytes up to its length are a zone.
+use mathlib.Core.Path.{_≡_, sym, ap, _∙_}
+use mathlib.Core.List.{List}
+use mathlib.Core.Bool.{Bool, true, false, not}
+use Prim.Native.Nat.{ℕ, _≤_}
+use native.Mathlib.Omega.{arith}
+use mir.Val.{Fits}
+use mir.Syntax.{w8}
+use borrow.Author.Tests.{not-false}
+use lib.ListN.{length, getD, take, length-take}
+use Rattle.bigendian.specs.BigEndian.{fromBE, slice, Bytes}
+use Rattle.format.specs.WellFormed.{wellFormed, zoneOf, lengthField, firstField, mastersField, chainField}
+use Rattle.format.specs.Steps.{Fields}
+use Rattle.format.proofs.Bool.{and-left}
+use Rattle.format.proofs.Header.{header-facts}
+use Rattle.format.proofs.Walk.{slice-take}
+use Rattle.structure.specs.Structure.{decode, len}
+use Rattle.structure.proofs.Table.{whole, len-is}
+use Rattle.access.specs.Edit.{IsZone, is-zone}
+use Rattle.access.proofs.Zone.{whole-of}
+
+-- ---- slices
+
+-- what is known of a slice, in the form that a search finds it in
+pub bytes-of : (s : List ℕ) → ((i : ℕ) → Fits w8 (getD s i 0)) → Bytes s
+bytes-of s f i = f i .fits
+
+pub take-len : (l : ℕ) (s : List ℕ) → l ≤ length s → l ≡ length (take l s)
+take-len l s h = omega (arith, length-take l s)
+
+-- ---- the buffer
+
+pub fields-of : (s : List ℕ) → wellFormed s ≡ true → Fields s (lengthField s) (firstField s) (mastersField s) (chainField s)
+unfolding wellFormed
+fields-of s h = header-facts s (and-left _ _ h)
+
+-- the first block's offset, read in the zone or in the buffer
+pub first-of : (s : List ℕ) → wellFormed s ≡ true → firstField (zoneOf s) ≡ firstField s
+first-of s h = let f = fields-of s h in ap fromBE (slice-take s (lengthField s) 4 4 (omega arith))
+
+-- the length of the structure is the length in the header
+pub length-is : (s : List ℕ) → Bytes s → wellFormed s ≡ true → len (decode s) ≡ lengthField s
+unfolding decode
+length-is s y h =
+    let w = whole s y h in
+    omega (arith, len-is (zoneOf s) w, w .all, length-take (lengthField s) s, fields-of s h .room)
+
+module _ (s : List ℕ) (ok : Bool) (e : ok ≡ wellFormed s) (q : not ok ≡ false) where
+  pub is-well : wellFormed s ≡ true
+  is-well = sym e ∙ not-false ok q
+
+  pub has-length : 4 ≤ length s
+  has-length = omega (arith, fields-of s is-well .long)
+
+  pub has-first : 8 ≤ length s
+  has-first = omega (arith, fields-of s is-well .long)
+
+  module _ (l : ℕ) (el : l ≡ fromBE (slice s 0 4)) where
+    pub has-zone : l ≤ length s
+    has-zone = omega (arith, fields-of s is-well .room)
+
+    pub has-whole : Bytes s → IsZone (take l s)
+    has-whole y = is-zone s y is-well (ap (λ (k : ℕ). take k s) (sym el))
+
+-- ---- the zone
+
+pub zone-14 : (z : List ℕ) → IsZone z → 14 ≤ length z
+zone-14 z i = omega (arith, whole-of z i .long)
+
+pub zone-8 : (z : List ℕ) → IsZone z → 8 ≤ length z
+zone-8 z i = omega (arith, whole-of z i .long)

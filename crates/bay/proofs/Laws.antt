@@ -1,0 +1,120 @@
+-- What each call does to a bay: its size, and its items up to order.
+use mathlib.Core.Path.{_≡_, refl, ap, ap₂, _∙_}
+use mathlib.Core.Bool.{cond}
+use mathlib.Core.List.{List, [], _∷_, _++_, map, append-nil, List·Permᴰ}
+use Prim.Native.Nat.{ℕ, zero, suc, _+_, _-_, _<_, _≤_}
+use native.Mathlib.Omega.{arith}
+use lib.ListN.{length}
+use lib.Dec.{leb}
+use borrow.Author.Tests.{leb-true}
+use Rattle.kinds.specs.Kinds.{Item, headerOf, itemSize}
+use Rattle.calls.specs.State.{is, total, alter}
+use Rattle.bay.specs.Bay.{Cell, free, held, baySize, baySum, items, gap, packed, joinBays, compactBay, trim, takeHigh, release, edit}
+use Rattle.bay.specs.Counted.{remove}
+use Rattle.bay.proofs.Each.{Each, nothing, just, each-over, each-cond, each-getD, cond-ap, cond-one}
+
+pub bsize-split : (cs : List Cell) → baySize cs ≡ baySum cs + total (items cs)
+bsize-split [] = refl
+bsize-split (free n ∷ cs) = omega (arith, bsize-split cs)
+bsize-split (held e ∷ cs) = omega (arith, bsize-split cs)
+
+pub bsize-gap : (n : ℕ) (cs : List Cell) → baySize (gap n cs) ≡ n + baySize cs
+bsize-gap zero cs = omega arith
+bsize-gap (suc n) [] = refl
+bsize-gap (suc n) (free k ∷ cs) = omega arith
+bsize-gap (suc n) (held e ∷ cs) = refl
+
+pub gap-one : (n : ℕ) → 0 < n → gap n [] ≡ free n ∷ []
+gap-one zero l = absurd (omega arith)
+gap-one (suc n) l = refl
+
+pub items-gap : (n : ℕ) (cs : List Cell) → items (gap n cs) ≡ items cs
+items-gap zero cs = refl
+items-gap (suc n) [] = refl
+items-gap (suc n) (free k ∷ cs) = refl
+items-gap (suc n) (held e ∷ cs) = refl
+
+pub bsize-packed : (es : List Item) (t : List Cell) → baySize (packed es t) ≡ total es + baySize t
+bsize-packed [] t = omega arith
+bsize-packed (e ∷ es) t = omega (arith, bsize-packed es t)
+
+pub items-packed : (es : List Item) (t : List Cell) → items (packed es t) ≡ es ++ items t
+items-packed [] t = refl
+items-packed (e ∷ es) t = ap (e ∷_) (items-packed es t)
+
+pub bsize-weld : (cs t : List Cell) → baySize (joinBays cs t) ≡ baySize cs + baySize t
+bsize-weld [] t = omega arith
+bsize-weld (free n ∷ cs) t = omega (arith, bsize-gap n (joinBays cs t), bsize-weld cs t)
+bsize-weld (held e ∷ cs) t = omega (arith, bsize-weld cs t)
+
+pub items-weld : (cs t : List Cell) → items (joinBays cs t) ≡ items cs ++ items t
+items-weld [] t = refl
+items-weld (free n ∷ cs) t = items-gap n (joinBays cs t) ∙ items-weld cs t
+items-weld (held e ∷ cs) t = ap (e ∷_) (items-weld cs t)
+
+pub bsize-append : (a b : List Cell) → baySize (a ++ b) ≡ baySize a + baySize b
+bsize-append [] b = omega arith
+bsize-append (c ∷ a) b = omega (arith, bsize-append a b)
+
+pub bsum-append : (a b : List Cell) → baySum (a ++ b) ≡ baySum a + baySum b
+bsum-append [] b = omega arith
+bsum-append (free n ∷ a) b = omega (arith, bsum-append a b)
+bsum-append (held e ∷ a) b = bsum-append a b
+
+pub items-append : (a b : List Cell) → items (a ++ b) ≡ items a ++ items b
+items-append [] b = refl
+items-append (free n ∷ a) b = items-append a b
+items-append (held e ∷ a) b = ap (e ∷_) (items-append a b)
+
+-- the bay keeps its size, and its items are those of the list es, up to order
+pub record Keeps (n : ℕ) (es : List Item) (cs : List Cell) : Type 0 where
+  pub size : baySize cs ≡ n
+  pub perm : List·Permᴰ (items cs) es
+
+pub tidy-size : (cs : List Cell) → baySize (compactBay cs) ≡ baySize cs
+tidy-size cs = omega (arith, bsize-packed (items cs) (gap (baySum cs) []), bsize-gap (baySum cs) [], bsize-split cs)
+
+pub tidy-items : (cs : List Cell) → items (compactBay cs) ≡ items cs
+tidy-items cs = simp (items-packed, items-gap, append-nil)
+
+-- n bytes less, and the same items
+pub record Less (n : ℕ) (cs ds : List Cell) : Type 0 where
+  pub size : baySize ds + n ≡ baySize cs
+  pub same : items ds ≡ items cs
+
+pub trim-less : (n : ℕ) (cs : List Cell) → Each (Less n cs) (trim n cs)
+trim-less n [] = nothing
+trim-less n (free k ∷ []) = each-cond (leb n k) (λ h. just (record { size = omega (arith, leb-true n k h, bsize-gap (k - n) []); same = items-gap (k - n) [] })) nothing
+trim-less n (free k ∷ (c ∷ cs)) = each-over (free k ∷_) (λ a p. record { size = omega (arith, p .size); same = p .same }) (trim-less n (c ∷ cs))
+trim-less n (held e ∷ cs) = each-over (held e ∷_) (λ a p. record { size = omega (arith, p .size); same = ap (e ∷_) (p .same) }) (trim-less n cs)
+
+pub cut-less : (n : ℕ) (cs : List Cell) → n ≤ baySum cs → Less n cs (takeHigh n cs)
+cut-less n cs h =
+    each-getD (trim-less n cs)
+    (record {
+      size = omega (arith, bsize-packed (items cs) (gap (baySum cs - n) []), bsize-gap (baySum cs - n) [], bsize-split cs);
+      same = simp (items-packed, items-gap, append-nil);
+    })
+
+pub release-size : (h : ℕ) (cs : List Cell) → baySize (release h cs) ≡ baySize cs
+release-size h [] = refl
+release-size h (free n ∷ cs) = bsize-gap n (release h cs) ∙ ap (n +_) (release-size h cs)
+release-size h (held e ∷ cs) = cond-one baySize (is h e) (bsize-gap (itemSize e) (release h cs) ∙ ap (itemSize e +_) (release-size h cs)) (ap (itemSize e +_) (release-size h cs))
+
+pub release-items : (h : ℕ) (cs : List Cell) → items (release h cs) ≡ remove h (items cs)
+release-items h [] = refl
+release-items h (free n ∷ cs) = items-gap n (release h cs) ∙ release-items h cs
+release-items h (held e ∷ cs) = cond-ap items (is h e) (items-gap (itemSize e) (release h cs) ∙ release-items h cs) (ap (e ∷_) (release-items h cs))
+
+pub edit-items : (h : ℕ) (f : List ℕ → List ℕ) (cs : List Cell) → items (edit h f cs) ≡ map (alter h f) (items cs)
+edit-items h f [] = refl
+edit-items h f (free n ∷ cs) = edit-items h f cs
+edit-items h f (held e ∷ cs) = ap (alter h f e ∷_) (edit-items h f cs)
+
+pub alter-size : (h : ℕ) (f : List ℕ → List ℕ) (e : Item) → ((b : List ℕ) → length (f b) ≡ length b) → itemSize (alter h f e) ≡ itemSize e
+alter-size h f e q = cond-one itemSize (is h e) (ap (headerOf e +_) (q (e .bytes))) refl
+
+pub edit-size : (h : ℕ) (f : List ℕ → List ℕ) → ((b : List ℕ) → length (f b) ≡ length b) → (cs : List Cell) → baySize (edit h f cs) ≡ baySize cs
+edit-size h f q [] = refl
+edit-size h f q (free n ∷ cs) = ap (n +_) (edit-size h f q cs)
+edit-size h f q (held e ∷ cs) = ap₂ _+_ (alter-size h f e q) (edit-size h f q cs)

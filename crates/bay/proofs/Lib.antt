@@ -1,0 +1,11 @@
+pub mod Each
+pub mod Laws
+pub mod Perm
+pub mod Holes
+pub mod Sound
+pub mod Resize
+pub mod Choice
+pub mod CellBytes
+pub mod BayBytes
+pub mod SoundLaws
+pub mod Free

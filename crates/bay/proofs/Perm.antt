@@ -1,0 +1,75 @@
+-- Items in another order: their total, how many there are, searches among them.
+use mathlib.Core.Path.{_≡_, refl, ap, ap₂, _∙_}
+use mathlib.Core.Bool.{Bool, true, false, cond}
+use mathlib.Core.Option.{some}
+use mathlib.Core.List.{List, [], _∷_, map, List·Permᴰ, List·Permᴰ·nil, List·Permᴰ·cons, List·Permᴰ·swap, List·Permᴰ·trans, Permᴰ·refl}
+use Prim.Native.Nat.{ℕ, suc, _+_, _≤_}
+use native.Mathlib.Omega.{arith}
+use lib.ListN.{length}
+use Rattle.kinds.specs.Kinds.{Item, itemSize}
+use Rattle.calls.specs.State.{is, total, get}
+use Rattle.bay.specs.Counted.{remove, count}
+
+pub perm-total : {a b : List Item} → List·Permᴰ a b → total a ≡ total b
+perm-total List·Permᴰ·nil = refl
+perm-total (List·Permᴰ·cons e p) = ap₂ _+_ (ap itemSize e) (perm-total p)
+perm-total (List·Permᴰ·swap e f) = omega (arith, ap itemSize e, ap itemSize f)
+perm-total (List·Permᴰ·trans p q) = perm-total p ∙ perm-total q
+
+pub perm-length : {X : Type 0} {a b : List X} → List·Permᴰ a b → length a ≡ length b
+perm-length List·Permᴰ·nil = refl
+perm-length (List·Permᴰ·cons e p) = ap suc (perm-length p)
+perm-length (List·Permᴰ·swap e q) = refl
+perm-length (List·Permᴰ·trans p q) = perm-length p ∙ perm-length q
+
+pub perm-map : {X Y : Type 0} (f : X → Y) {a b : List X} → List·Permᴰ a b → List·Permᴰ (map f a) (map f b)
+perm-map f List·Permᴰ·nil = List·Permᴰ·nil
+perm-map f (List·Permᴰ·cons e p) = List·Permᴰ·cons (ap f e) (perm-map f p)
+perm-map f (List·Permᴰ·swap e q) = List·Permᴰ·swap (ap f e) (ap f q)
+perm-map f (List·Permᴰ·trans p q) = List·Permᴰ·trans (perm-map f p) (perm-map f q)
+
+pub cond-perm : (t : Bool) {a b a′ b′ : List Item} → List·Permᴰ a b → List·Permᴰ a′ b′ → List·Permᴰ (cond t a a′) (cond t b b′)
+cond-perm true p q = p
+cond-perm false p q = q
+
+remove-swap : (t u : Bool) (x y : Item) (l : List Item) → List·Permᴰ (cond t (cond u l (y ∷ l)) (x ∷ cond u l (y ∷ l))) (cond u (cond t l (x ∷ l)) (y ∷ cond t l (x ∷ l)))
+remove-swap true true x y l = Permᴰ·refl _
+remove-swap true false x y l = Permᴰ·refl _
+remove-swap false true x y l = Permᴰ·refl _
+remove-swap false false x y l = List·Permᴰ·swap refl refl
+
+pub perm-remove : (h : ℕ) {a b : List Item} → List·Permᴰ a b → List·Permᴰ (remove h a) (remove h b)
+perm-remove h List·Permᴰ·nil = List·Permᴰ·nil
+perm-remove h (List·Permᴰ·cons {a = x} e p) = rw (← e) (cond-perm (is h x) (perm-remove h p) (List·Permᴰ·cons refl (perm-remove h p)))
+perm-remove h (List·Permᴰ·swap {a = x} {b = y} {l = l} e q) = rw (← e, ← q) (remove-swap (is h x) (is h y) x y (remove h l))
+perm-remove h (List·Permᴰ·trans p q) = List·Permᴰ·trans (perm-remove h p) (perm-remove h q)
+
+pub perm-count : (h : ℕ) {a b : List Item} → List·Permᴰ a b → count h a ≡ count h b
+perm-count h List·Permᴰ·nil = refl
+perm-count h (List·Permᴰ·cons {a = x} e p) = rw (← e, perm-count h p)
+perm-count h (List·Permᴰ·swap {a = x} {b = y} {l = l} e q) = rw (← e, ← q) (both (is h x) (is h y) (count h l))
+  where
+    both : (t u : Bool) (n : ℕ) → cond t (suc (cond u (suc n) n)) (cond u (suc n) n) ≡ cond u (suc (cond t (suc n) n)) (cond t (suc n) n)
+    both true true n = refl
+    both true false n = refl
+    both false true n = refl
+    both false false n = refl
+perm-count h (List·Permᴰ·trans p q) = perm-count h p ∙ perm-count h q
+
+-- where no handle stands twice, order does not matter to a search
+pub perm-get : (h : ℕ) {a b : List Item} → List·Permᴰ a b → count h a ≤ 1 → get h a ≡ get h b
+perm-get h List·Permᴰ·nil d = refl
+perm-get h (List·Permᴰ·cons {a = x} {l₁ = l} {l₂ = m} e p) d = rw (← e) (here (is h x) (λ k. perm-get h p k) d)
+  where
+    here : (t : Bool) → (count h l ≤ 1 → get h l ≡ get h m) → cond t (suc (count h l)) (count h l) ≤ 1 → cond t (some x) (get h l) ≡ cond t (some x) (get h m)
+    here true f d = refl
+    here false f d = f d
+perm-get h (List·Permᴰ·swap {a = x} {b = y} {l = l} e q) d = rw (← e, ← q) (both (is h x) (is h y) d)
+  where
+    both : (t u : Bool) → cond t (suc (cond u (suc (count h l)) (count h l))) (cond u (suc (count h l)) (count h l)) ≤ 1
+        → cond t (some x) (cond u (some y) (get h l)) ≡ cond u (some y) (cond t (some x) (get h l))
+    both true true d = absurd (omega arith)
+    both true false d = refl
+    both false true d = refl
+    both false false d = refl
+perm-get h (List·Permᴰ·trans p q) d = perm-get h p d ∙ perm-get h q (rw (perm-count h p) at d)

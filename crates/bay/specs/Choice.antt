@@ -1,0 +1,45 @@
+-- Laws of one bay that are said of blocks in their places, and not by the functions that compute them: which hole is taken, when a block
+-- grows where it stands, and when a bay is compacted. (They are theorems about the definitions of `Bay`: nobody has to believe them.)
+use mathlib.Core.Path.{_≡_}
+use mathlib.Core.Option.{none}
+use mathlib.Core.List.{List, [], _∷_, _++_, map}
+use Prim.Native.Nat.{ℕ, _+_, _-_, _≤_, _<_}
+use lib.ListN.{length}
+use Rattle.kinds.specs.Kinds.{Item, itemSize}
+use Rattle.calls.specs.State.{get}
+use Rattle.bay.specs.Bay.{Cell, free, held, baySum, items, gap, compactBay, put, takeHigh, resized, reshape}
+
+-- every free block is smaller than n
+pub data Smaller (n : ℕ) : List Cell → Type 0 where
+  no-cell : Smaller n []
+  a-hole : {k : ℕ} {cs : List Cell} → k < n → Smaller n cs → Smaller n (free k ∷ cs)
+  a-block : {e : Item} {cs : List Cell} → Smaller n cs → Smaller n (held e ∷ cs)
+
+-- relocatable blocks one after the other, and one free block at the end (none for 0)
+abbrev pub inOrder : List Item → ℕ → List Cell
+inOrder es n = map held es ++ gap n []
+
+-- "the lowest free block that is big enough, from its low end; if none is, the bay is compacted first": every other block stays where
+-- it is, unless no free block is big enough
+pub record WhichHole : Type 0 where
+  pub lowest : (e : Item) (before after : List Cell) (k : ℕ) → Smaller (itemSize e) before → itemSize e ≤ k
+      → put e (before ++ (free k ∷ after)) ≡ before ++ (held e ∷ gap (k - itemSize e) after)
+  pub compacted : (e : Item) (cs : List Cell) → Smaller (itemSize e) cs → put e cs ≡ map held (items cs) ++ (held e ∷ gap (baySum cs - itemSize e) [])
+
+-- "For a ≤ b the tail is freed and merged. Else .. into the free block right after it if that has at least a − b bytes": no other block moves
+pub record GrowsInPlace : Type 0 where
+  pub smaller : (e : Item) (a : ℕ) (before after : List Cell) → get (e .handle) (items before) ≡ none → a ≤ length (e .bytes)
+      → reshape (e .handle) a (before ++ (held e ∷ after)) ≡ before ++ (held (resized a e) ∷ gap (length (e .bytes) - a) after)
+  pub larger : (e : Item) (a k : ℕ) (before after : List Cell) → get (e .handle) (items before) ≡ none → length (e .bytes) < a → a - length (e .bytes) ≤ k
+      → reshape (e .handle) a (before ++ (held e ∷ (free k ∷ after))) ≡ before ++ (held (resized a e) ∷ gap (k - (a - length (e .bytes))) after)
+
+-- "If its last block is free and big enough, the high end of that; else after compacting": a bay whose last block is free and big enough is
+-- not compacted, and every other one is
+pub record TakesTheEnd : Type 0 where
+  pub high-end : (n k : ℕ) (before : List Cell) → n ≤ k → takeHigh n (before ++ (free k ∷ [])) ≡ before ++ gap (k - n) []
+  pub too-small : (n k : ℕ) (before : List Cell) → k < n → takeHigh n (before ++ (free k ∷ [])) ≡ inOrder (items before) (baySum before + k - n)
+  pub not-free : (n : ℕ) (before : List Cell) (e : Item) → takeHigh n (before ++ (held e ∷ [])) ≡ inOrder (items before ++ (e ∷ [])) (baySum before - n)
+
+-- "its relocatable blocks go to its start in old order, one free block holds the rest (none for 0)"
+abbrev pub FreeAtTheEnd : Type 0
+FreeAtTheEnd = (cs : List Cell) → compactBay cs ≡ inOrder (items cs) (baySum cs)

@@ -1,0 +1,1 @@
+// One bay of a zone: definitions and laws alone.

@@ -1,0 +1,4 @@
+pub mod At
+pub mod Found
+pub mod Places
+pub mod Read

@@ -1,0 +1,166 @@
+// The bays of a zone's bytes: one walk over a bay, and the searches for a bay.
+use block_type::BlockType;
+ghost use mathlib.Core.Path.{_≡_};
+ghost use mathlib.Core.Bool.{cond};
+ghost use Prim.Native.Nat.{_≤_};
+ghost use lib.ListN.{length, drop};
+ghost use lib.Dec.{eqb};
+ghost use Rattle.block_type.specs.Limits.{freeCode, longestZone};
+ghost use Rattle.row.specs.Row.{Row};
+ghost use Rattle.bays.specs.Places.{baysAt, bayN, lowBay, highBay, ownBay, betterBay};
+ghost use Rattle.bays.specs.Read.{Read};
+
+// A bay by its first offset, its end, its sum, and the free bytes at its end.
+pub struct Bay {
+    pub found: bool,
+    pub start: usize,
+    pub end: usize,
+    pub sum: usize,
+    pub tail: usize,
+}
+
+// What a block of type k and n bytes adds to its bay's sum.
+fn free_part(k: u8, n: usize) -> usize
+    ensures { λ r. ⌜ (r ≡ cond (eqb k freeCode) n 0) × (r ≤ n) ⌝ }
+{
+    if k == BlockType::FREE_CODE {
+        return n;
+    }
+    0
+}
+
+// A bay that has been walked over; `next` is where the next one begins, or one more than the bytes' number behind the last.
+pub struct BayRead {
+    pub end: usize,
+    pub sum: usize,
+    pub tail: usize,
+    pub next: usize,
+}
+
+// The walk over the bay that begins at p.
+pub fn read_bay(z: &[u8], p: usize) -> BayRead
+    requires { ⌜ Row (drop p (now z)) × (p ≤ length (now z)) × (length (now z) ≤ longestZone) ⌝ }
+    ensures { λ r. ⌜ Read (now (z .entry)) p (r .end) (r .sum) (r .tail) (r .next) ⌝ }
+{
+    let mut at = p;
+    let mut sum = 0;
+    let mut tail = 0;
+    while at < z.len() {
+        let n = row::step(z, at);
+        let k = block_check::type_at(z, at);
+        if k == BlockType::FIXED_CODE {
+            return BayRead {
+                end: at,
+                sum,
+                tail,
+                next: at + n,
+            };
+        }
+        tail = free_part(k, n);
+        sum += tail;
+        at += n;
+    }
+    BayRead {
+        end: at,
+        sum,
+        tail,
+        next: at + 1,
+    }
+}
+
+// The lowest bay whose sum reaches need.
+pub fn find_low(z: &[u8], first: usize, need: usize) -> Bay
+    requires { ⌜ Row (drop first (now z)) × (first ≤ length (now z)) × (length (now z) ≤ longestZone) ⌝ }
+    ensures { λ r. ⌜ bayN (r .found) (r .start) (r .end) (r .sum) (r .tail) ≡ lowBay need first (baysAt (now (z .entry)) first) ⌝ }
+{
+    let mut at = first;
+    while at <= z.len() {
+        let b = read_bay(z, at);
+        if need <= b.sum {
+            return Bay {
+                found: true,
+                start: at,
+                end: b.end,
+                sum: b.sum,
+                tail: b.tail,
+            };
+        }
+        at = b.next;
+    }
+    Bay {
+        found: false,
+        start: 0,
+        end: 0,
+        sum: 0,
+        tail: 0,
+    }
+}
+
+// The bay from `start` to `end` in the place of w where its sum reaches need.
+fn better(w: Bay, need: usize, start: usize, end: usize, sum: usize, tail: usize) -> Bay
+    ensures { λ r. ⌜ bayN (r .found) (r .start) (r .end) (r .sum) (r .tail) ≡ betterBay need (bayN (w .found) (w .start) (w .end) (w .sum) (w .tail)) start end sum tail ⌝ }
+{
+    if need <= sum {
+        return Bay {
+            found: true,
+            start,
+            end,
+            sum,
+            tail,
+        };
+    }
+    w
+}
+
+// The highest bay whose sum reaches need.
+pub fn find_high(z: &[u8], first: usize, need: usize) -> Bay
+    requires { ⌜ Row (drop first (now z)) × (first ≤ length (now z)) × (length (now z) ≤ longestZone) ⌝ }
+    ensures { λ r. ⌜ bayN (r .found) (r .start) (r .end) (r .sum) (r .tail) ≡ highBay need first (baysAt (now (z .entry)) first) ⌝ }
+{
+    let mut best = Bay {
+        found: false,
+        start: 0,
+        end: 0,
+        sum: 0,
+        tail: 0,
+    };
+    let mut at = first;
+    while at <= z.len() {
+        let b = read_bay(z, at);
+        let end = b.end;
+        let sum = b.sum;
+        let tail = b.tail;
+        best = better(best, need, at, end, sum, tail);
+        at = b.next;
+    }
+    best
+}
+
+// The bay of the block at offset t: the first that ends above t, or else the last.
+pub fn find_own(z: &[u8], first: usize, t: usize) -> Bay
+    requires { ⌜ Row (drop first (now z)) × (first ≤ length (now z)) × (length (now z) ≤ longestZone) ⌝ }
+    ensures { λ r. ⌜ bayN (r .found) (r .start) (r .end) (r .sum) (r .tail) ≡ ownBay t first (baysAt (now (z .entry)) first) ⌝ }
+{
+    let mut start = first;
+    let mut b = read_bay(z, first);
+    while b.next <= z.len() {
+        if t < b.end {
+            return Bay {
+                found: true,
+                start,
+                end: b.end,
+                sum: b.sum,
+                tail: b.tail,
+            };
+        }
+        start = b.next;
+        b = read_bay(z, start);
+    }
+    Bay {
+        found: true,
+        start,
+        end: b.end,
+        sum: b.sum,
+        tail: b.tail,
+    }
+}

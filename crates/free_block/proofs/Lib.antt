@@ -1,0 +1,7 @@
+pub mod Walk
+pub mod Hole
+pub mod Parts
+pub mod Bytes
+pub mod Between
+pub mod Found
+pub mod Around

@@ -1,0 +1,28 @@
+-- What the plan of a free by handle hands over, and what the call leaves.
+use mathlib.Core.Path.{_≡_}
+use mathlib.Core.List.{List, _∷_}
+use Prim.Native.Nat.{ℕ}
+use Rattle.bigendian.specs.BigEndian.{fromBE, slice}
+use Rattle.kinds.specs.Kinds.{Item, masterOf}
+use Rattle.bay.specs.Bay.{held, release}
+use Rattle.structure.specs.Structure.{Structure, start, decodeZone, cell}
+use Rattle.access.specs.Edit.{placeIn}
+use Rattle.calls.specs.Bays.{mapS}
+use Rattle.zone.specs.Group.{group, flatten}
+use Rattle.free_block.specs.Around.{Freeing}
+use Rattle.free_handle.specs.declared.FreePlan.{FreePlan}
+
+-- the structure without the block of handle h, which is the chain's head then
+abbrev pub freed : ℕ → Structure → Structure
+freed h s = record { chain = h ∷ s .chain; blocks = flatten (mapS (release h) (group (start s) (s .blocks))) }
+
+pub record ReadyIn (z : List ℕ) (h head from at end to : ℕ) : Type 0 where
+  pub live : placeIn z h ≡ 0 → ⊥
+  pub block : Item
+  pub its : masterOf block ≡ h
+  pub freeing : Freeing z (freed h (decodeZone z) .blocks) (cell (held block)) from at end to
+  pub is-head : head ≡ fromBE (slice z 12 2)
+
+-- the plan p of freeing h in the zone z is ready
+abbrev pub Ready : List ℕ → ℕ → FreePlan → Type 0
+Ready z h p = ReadyIn z h (p .head) (p .from) (p .at) (p .end) (p .to)

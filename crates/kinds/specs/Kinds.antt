@@ -1,0 +1,43 @@
+-- The kinds of movable blocks. All that differs between kinds stands here: type code, header, master. There is one kind, the relocatable block.
+use mathlib.Core.List.{List}
+use Prim.Native.Nat.{ℕ, _+_, _<_}
+use lib.ListN.{length, drop}
+use Rattle.bigendian.specs.BigEndian.{toBE}
+use Rattle.block_type.specs.Limits.{relocCode, relocHeader, handleRange}
+use Rattle.format.specs.WellFormed.{handleOf}
+
+-- a relocatable block by its handle and its data
+pub record Item : Type 0 where
+  pub handle : ℕ
+  pub bytes : List ℕ
+
+abbrev pub item : ℕ → List ℕ → Item
+item h d = record { handle = h; bytes = d }
+
+-- "2 relocatable"
+abbrev pub codeOf : Item → ℕ
+codeOf e = relocCode
+
+-- "data from byte 4"
+abbrev pub headerOf : Item → ℕ
+headerOf e = relocHeader
+
+-- the header behind type and size: "then the handle (2 bytes)"
+abbrev pub tagOf : Item → List ℕ
+tagOf e = toBE 2 (e .handle)
+
+-- the master that holds "the offset of the block's first data byte"
+abbrev pub masterOf : Item → ℕ
+masterOf e = e .handle
+
+-- "for each handle, 4 plus data size"
+abbrev pub itemSize : Item → ℕ
+itemSize e = headerOf e + length (e .bytes)
+
+-- what a movable block's bytes hold
+abbrev pub itemIn : List ℕ → Item
+itemIn b = item (handleOf b) (drop relocHeader b)
+
+-- a header has room for its numbers: the handle has 2 bytes
+abbrev pub ItemOk : Item → Type 0
+ItemOk e = masterOf e < handleRange

@@ -1,0 +1,1 @@
+// The kinds of movable blocks: definitions and laws alone.

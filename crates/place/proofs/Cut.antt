@@ -1,0 +1,117 @@
+-- The writes that cut a block out of a free one, for a block of any kind whose data are zero.
+use mathlib.Core.Path.{_≡_, refl, sym, ap, ap₂, _∙_}
+use mathlib.Core.List.{List, [], _∷_, _++_, append-assoc, append-nil}
+use Prim.Native.Nat.{ℕ, zero, suc, _+_, _-_, _*_, _/_, _<_, _≤_}
+use native.Mathlib.Omega.{arith}
+use lib.ListN.{length, take, drop, replicate, length-replicate, length-append, length-take, length-drop, take-append-drop}
+use lib.Seq.{drop-drop, take-take, drop-append-add}
+use Rattle.block_type.specs.Limits.{freeHeader, relocCode, relocHeader, typeUnit}
+use Rattle.bigendian.specs.BigEndian.{toBE, slice, overwrite}
+use Rattle.bigendian.proofs.Laws.{length-toBE}
+use Rattle.bigendian.proofs.Overwrite.{take-write, drop-write}
+use Rattle.format.proofs.Walk.{drop-take}
+use Rattle.kinds.specs.Kinds.{Item, codeOf, headerOf, tagOf, itemSize}
+use Rattle.kinds.proofs.KindLaws.{tag-long, facts}
+use Rattle.bay.specs.Bay.{free, held, gap}
+use Rattle.bay.specs.Bytes.{encodeCell}
+use Rattle.bay.specs.Sound.{bytesOf}
+use Rattle.bay.proofs.BayBytes.{gap-some, gap-none}
+use Rattle.place.specs.Fit.{blank, Fit}
+
+-- a write right behind a write
+write-more : (z u v : List ℕ) (at k : ℕ) → k ≡ at + length u → k + length v ≤ length z → overwrite (overwrite z at u) k v ≡ overwrite z at (u ++ v)
+write-more z u v at k e l =
+    let h : at ≤ length z = omega arith in
+    let f : k + length v ≡ at + length (u ++ v) = rw length-append (omega arith) in
+    rw (drop-write z at (k + length v) u (omega arith) l, f, e, take-write z at (length u) u h refl, append-assoc (take at z) u v)
+
+-- what stands behind a write may be counted to it
+write-pad : (z u v : List ℕ) (at k n : ℕ) → k ≡ at + length u → slice z k n ≡ v → k + n ≤ length z → overwrite z at u ≡ overwrite z at (u ++ v)
+write-pad z u v at k n e ev l =
+    let lv : length v ≡ n = rw (← ev) (simp (length-take, length-drop) (omega arith)) in
+    let f : at + length (u ++ v) ≡ k + n = rw length-append (omega arith) in
+    let s : drop (at + length u) z ≡ v ++ drop (k + n) z =
+    sym (take-append-drop n (drop (at + length u) z)) ∙ (rw (← e, ev, drop-drop)) in
+    rw (s, f) (simp append-assoc)
+
+drop-zeros : (k n : ℕ) → drop {A = ℕ} k (replicate n 0) ≡ replicate (n - k) 0
+drop-zeros zero n = let e : n - 0 ≡ n = omega arith in rw e
+drop-zeros (suc k) zero = refl′ (suc k)
+  where
+    refl′ : (k : ℕ) → [] ≡ replicate {A = ℕ} (0 - k) 0
+    refl′ k = let e : 0 - k ≡ 0 = omega arith in rw e
+drop-zeros (suc k) (suc n) = let e : suc n - suc k ≡ n - k = omega arith in rw e (drop-zeros k n)
+
+take-zeros : (k n : ℕ) → k ≤ n → take {A = ℕ} k (replicate n 0) ≡ replicate k 0
+take-zeros zero n l = refl
+take-zeros (suc k) zero l = let x : ⊥ = omega arith in absurd x
+take-zeros (suc k) (suc n) l = ap (λ (t : List ℕ). 0 ∷ t) (take-zeros k n (omega arith))
+
+-- a free block is zero behind its header
+free-zeros : (z : List ℕ) (at n i k : ℕ) → slice z at n ≡ encodeCell (free n) → freeHeader ≤ i → i + k ≤ n → slice z (at + i) k ≡ replicate k 0
+free-zeros z at n i k e h l =
+    let t = toBE 4 (n / 2) in
+    let lt = length-toBE 4 (n / 2) in
+    let j : i ≡ length t + (i - freeHeader) = omega arith in
+    let d : drop i (encodeCell (free n)) ≡ replicate (n - freeHeader - (i - freeHeader)) 0 =
+    ap (λ (x : ℕ). drop x (encodeCell (free n))) j ∙ drop-append-add t (replicate (n - freeHeader) 0) (i - freeHeader) ∙ drop-zeros (i - freeHeader) (n - freeHeader) in
+    rw (← drop-drop i at z, ← take-take k (n - i) (drop i (drop at z)) (omega arith), ← drop-take i n (drop at z), e, d) (take-zeros k (n - freeHeader - (i - freeHeader)) (omega arith))
+
+-- ---- a block of any kind
+
+module _ (z z₁ z₂ : List ℕ) (at n need h : ℕ) (x : Fit z at n need h) (e : Item) (en : itemSize e ≡ need) (ez : e .bytes ≡ replicate (need - headerOf e) 0)
+    (e₁ : z₁ ≡ overwrite z at (toBE 2 (codeOf e * typeUnit + need / 2))) (e₂ : z₂ ≡ overwrite z₁ (at + 2) (tagOf e)) where
+  abbrev head : List ℕ
+  head = toBE 2 (codeOf e * typeUnit + need / 2)
+
+  long-head : length head ≡ 2
+  long-head = length-toBE 2 (codeOf e * typeUnit + need / 2)
+
+  new-is : encodeCell (held e) ≡ head ++ (tagOf e ++ replicate (need - headerOf e) 0)
+  new-is = ap₂ (λ (k : ℕ) (d : List ℕ). toBE 2 (codeOf e * typeUnit + k / 2) ++ (tagOf e ++ d)) en ez
+
+  long : length (encodeCell (held e)) ≡ need
+  long =
+      ap length new-is ∙ length-append head (tagOf e ++ replicate (need - headerOf e) 0)
+      ∙ omega (arith, long-head, length-append (tagOf e) (replicate {A = ℕ} (need - headerOf e) 0), length-replicate {A = ℕ} (need - headerOf e) 0, tag-long e)
+
+  -- the block's header and its zeros
+  placed : z₂ ≡ overwrite z at (encodeCell (held e))
+  placed =
+      let lu : length (head ++ tagOf e) ≡ headerOf e = rw length-append (omega (arith, long-head, tag-long e)) in
+      e₂ ∙ (rw e₁ (write-more z head (tagOf e) at (at + 2) (omega (arith, long-head)) (omega (arith, tag-long e, x .fits, x .inside))))
+      ∙ write-pad z (head ++ tagOf e) (replicate (need - headerOf e) 0) at (at + headerOf e) (need - headerOf e) (omega arith)
+      (free-zeros z at n (headerOf e) (need - headerOf e) (x .bytes) (facts e .low) (omega (arith, x .fits))) (omega (arith, x .fits, x .inside))
+      ∙ ap (λ (y : List ℕ). overwrite z at y) (append-assoc head (tagOf e) (replicate (need - headerOf e) 0) ∙ sym new-is)
+
+  all : n ≤ need → z₂ ≡ overwrite z at (bytesOf (held e ∷ gap (n - need) []))
+  unfolding bytesOf
+  all k = placed ∙ ap (λ (y : List ℕ). overwrite z at y) (sym (rw (gap-none (n - need) (omega arith), append-nil)))
+
+  part : (z₃ : List ℕ) → need < n → z₃ ≡ overwrite z₂ (at + need) (toBE 4 ((n - need) / 2)) → z₃ ≡ overwrite z at (bytesOf (held e ∷ gap (n - need) []))
+  unfolding bytesOf
+  part z₃ k e₃ =
+      let new = encodeCell (held e) in
+      let r = n - need in
+      let v = toBE 4 (r / 2) in
+      let lr = long in
+      let lv = length-toBE 4 (r / 2) in
+      let lu : length (new ++ v) ≡ need + freeHeader = rw length-append (omega arith) in
+      let g : bytesOf (gap r []) ≡ v ++ replicate (r - freeHeader) 0 = gap-some r (omega arith) in
+      e₃ ∙ (rw placed (write-more z new v at (at + need) (omega arith) (omega (arith, x .inside, x .size .four, x .four-n))))
+      ∙ write-pad z (new ++ v) (replicate (r - freeHeader) 0) at (at + (need + freeHeader)) (r - freeHeader) (omega arith)
+      (free-zeros z at n (need + freeHeader) (r - freeHeader) (x .bytes) (omega arith) (omega (arith, x .size .four, x .four-n))) (omega (arith, x .inside, x .size .four, x .four-n))
+      ∙ ap (λ (y : List ℕ). overwrite z at y) (append-assoc new v (replicate (r - freeHeader) 0) ∙ ap (λ (y : List ℕ). new ++ y) (sym g))
+
+-- ---- a relocatable block
+
+pub blank-size : (need h : ℕ) → relocHeader ≤ need → itemSize (blank need h) ≡ need
+blank-size need h l = omega (arith, length-replicate {A = ℕ} (need - relocHeader) 0)
+
+module _ (z z₁ z₂ : List ℕ) (at n need h : ℕ) (x : Fit z at n need h)
+    (e₁ : z₁ ≡ overwrite z at (toBE 2 (relocCode * typeUnit + need / 2))) (e₂ : z₂ ≡ overwrite z₁ (at + 2) (toBE 2 h)) where
+  pub cut-all : n ≤ need → z₂ ≡ overwrite z at (bytesOf (held (blank need h) ∷ gap (n - need) []))
+  cut-all k = all z z₁ z₂ at n need h x (blank need h) (blank-size need h (x .size .low)) refl e₁ e₂ k
+
+  pub cut-part : (z₃ : List ℕ) → need < n → z₃ ≡ overwrite z₂ (at + need) (toBE 4 ((n - need) / 2)) → z₃ ≡ overwrite z at (bytesOf (held (blank need h) ∷ gap (n - need) []))
+  cut-part z₃ k e₃ = part z z₁ z₂ at n need h x (blank need h) (blank-size need h (x .size .low)) refl e₁ e₂ z₃ k e₃

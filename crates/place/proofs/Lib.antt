@@ -1,0 +1,5 @@
+pub mod Holes
+pub mod Cut
+pub mod Placed
+pub mod RoomLaws
+pub mod InBay

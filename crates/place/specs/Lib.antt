@@ -1,0 +1,3 @@
+pub mod Hole
+pub mod Fit
+pub mod Room

@@ -1,0 +1,59 @@
+// A movable block's place in a bay: the free block that is chosen for it, and the writes that cut it out of that.
+use block_type::BlockType;
+ghost use mathlib.Core.Path.{_≡_};
+ghost use mathlib.Core.List.{[], _∷_};
+ghost use Prim.Native.Nat.{_-_, _≤_};
+ghost use lib.ListN.{length};
+ghost use Rattle.bigendian.specs.BigEndian.{overwrite};
+ghost use Rattle.block_type.specs.Limits.{longestZone};
+ghost use Rattle.bay.specs.Bay.{held, gap, holes, choose};
+ghost use Rattle.bay.specs.Sound.{bytesOf, cellsOf, IsBay};
+ghost use Rattle.place.specs.Hole.{holeN, holeAt};
+ghost use Rattle.place.specs.Fit.{blank, Fit};
+
+pub struct Hole {
+    pub found: bool,
+    pub at: usize,
+    pub size: usize,
+}
+
+// The free block of a bay that is chosen for need bytes, by its offset in the bay.
+pub fn find_hole(s: &[u8], need: usize) -> Hole
+    requires { ⌜ IsBay (now s) × (length (now s) ≤ longestZone) ⌝ }
+    ensures { λ r. ⌜ holeN (r .found) (r .at) (r .size) ≡ holeAt (choose need (holes (cellsOf (now (s .entry))))) ⌝ }
+{
+    let mut at = 0;
+    while at < s.len() {
+        let n = slide::step(s, at);
+        let k = block_check::type_at(s, at);
+        if (k == BlockType::FREE_CODE) & (need <= n) {
+            return Hole {
+                found: true,
+                at,
+                size: n,
+            };
+        }
+        at += n;
+    }
+    Hole {
+        found: false,
+        at: 0,
+        size: 0,
+    }
+}
+
+// A block of need bytes with handle h from the low end of the free block of n bytes at `at`; the rest of that stays free.
+pub fn cut_block(z: &mut [u8], at: usize, n: usize, need: usize, h: usize)
+    requires { ⌜ Fit (now z) at n need h ⌝ }
+    ensures { λ _. ⌜ now (z .exit) ≡ overwrite (now (z .entry)) at (bytesOf (held (blank need h) ∷ gap (n - need) [])) ⌝ }
+{
+    bigendian::put2(
+        z,
+        at,
+        (BlockType::RELOCATABLE_CODE as usize * 16384 + need / 2) as u32,
+    );
+    bigendian::put2(z, at + 2, h as u32);
+    if need < n {
+        bigendian::put4(z, at + need, ((n - need) / 2) as u32);
+    }
+}

@@ -1,0 +1,17 @@
+-- What the plan of a shrink hands over: how much is stripped, and where there is something, the last bay.
+use mathlib.Core.Path.{_≡_}
+use mathlib.Core.List.{List}
+use Prim.Native.Nat.{ℕ, _<_}
+use Rattle.structure.specs.Structure.{decodeZone}
+use Rattle.access.specs.Edit.{IsZone}
+use Rattle.shrink.specs.Stripped.{strips, Site}
+use Rattle.shrink.specs.declared.Plan.{Plan}
+
+pub record ReadyIn (z : List ℕ) (k n a e sum tail : ℕ) : Type 0 where
+  pub zone : IsZone z
+  pub is-strip : n ≡ strips (decodeZone z) k
+  pub site : 0 < n → Site z n a e sum tail
+
+-- the plan p in the zone z is ready
+abbrev pub Ready : List ℕ → ℕ → Plan → Type 0
+Ready z k p = ReadyIn z k (p .strip) (p .start) (p .end) (p .sum) (p .tail)

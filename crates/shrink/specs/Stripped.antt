@@ -1,0 +1,30 @@
+-- A structure without the last bytes of its last bay.
+use mathlib.Core.Path.{_≡_}
+use mathlib.Core.List.{List}
+use Prim.Native.Nat.{ℕ, _*_, _/_, _%_, _≤_, min}
+use Rattle.block_type.specs.Limits.{freeHeader}
+use Rattle.structure.specs.Structure.{Structure, start, len, decodeZone}
+use Rattle.access.specs.Edit.{IsZone}
+use Rattle.calls.specs.Bays.{Bays, onLast, lastS}
+use Rattle.calls.specs.State.{Fixed}
+use Rattle.bay.specs.Bay.{Cell, baySum, takeHigh}
+use Rattle.zone.specs.Group.{group, flatten}
+use Rattle.bays.specs.Found.{FoundLast}
+
+abbrev pub baysOf : Structure → Bays (List Cell) Fixed
+baysOf s = group (start s) (s .blocks)
+
+-- "the lesser of k rounded down to a multiple of 4 and the last bay's sum"
+abbrev pub strips : Structure → ℕ → ℕ
+strips s k = min (k / 4 * 4) (baySum (lastS (baysOf s)))
+
+abbrev pub stripped : ℕ → Structure → Structure
+stripped n s = record { chain = s .chain; blocks = flatten (onLast (takeHigh n) (baysOf s)) }
+
+-- the last bay of the zone z, of which n bytes are stripped: it starts at a and ends at e
+pub record Site (z : List ℕ) (n a e sum tail : ℕ) : Type 0 where
+  pub zone : IsZone z
+  pub found : FoundLast (start (decodeZone z)) (len (decodeZone z)) (takeHigh n) (baysOf (decodeZone z)) a e sum tail
+  pub low : freeHeader ≤ n
+  pub fits : n ≤ baySum (lastS (baysOf (decodeZone z)))
+  pub four : n % 4 ≡ 0

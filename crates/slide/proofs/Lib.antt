@@ -1,0 +1,4 @@
+pub mod Part
+pub mod MasterLaws
+pub mod Change
+pub mod Compact

@@ -1,0 +1,3 @@
+pub mod Slide
+pub mod ZoneBay
+pub mod Masters

@@ -1,3 +1,0 @@
-pub mod High
-pub mod Taken
-pub mod Highest
