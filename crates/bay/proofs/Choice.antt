@@ -67,7 +67,7 @@ which-hole = record {
 
 -- ---- growth in place
 
-here-after : (h a : ℕ) (before cs : List Cell) → get h (items before) ≡ none → growHere h a (before ++ cs) ≡ over (before ++_) (growHere h a cs)
+pub here-after : (h a : ℕ) (before cs : List Cell) → get h (items before) ≡ none → growHere h a (before ++ cs) ≡ over (before ++_) (growHere h a cs)
 here-after h a [] cs e = over-id (growHere h a cs)
 here-after h a (free k ∷ before) cs e = ap (over (free k ∷_)) (here-after h a before cs e) ∙ over-cons (free k) before (growHere h a cs)
 here-after h a (held d ∷ before) cs e = go (is h d) e (λ q. here-after h a before cs q)
@@ -77,7 +77,7 @@ here-after h a (held d ∷ before) cs e = go (is h d) e (λ q. here-after h a be
     go true q f = absurd (false≢true (ap isNone q))
     go false q f = ap (over (held d ∷_)) (f q) ∙ over-cons (held d) before (growHere h a cs)
 
-at-handle : (e : Item) (a : ℕ) (cs : List Cell) → growHere (e .handle) a (held e ∷ cs) ≡ inPlace e a cs
+pub at-handle : (e : Item) (a : ℕ) (cs : List Cell) → growHere (e .handle) a (held e ∷ cs) ≡ inPlace e a cs
 at-handle e a cs = rw (eq-eqb (e .handle) (e .handle) refl)
 
 smaller-here : (e : Item) (a : ℕ) (after : List Cell) → a ≤ length (e .bytes) → inPlace e a after ≡ some (held (resized a e) ∷ gap (length (e .bytes) - a) after)

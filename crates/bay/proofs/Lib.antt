@@ -9,3 +9,4 @@ pub mod CellBytes
 pub mod BayBytes
 pub mod SoundLaws
 pub mod Free
+pub mod Reshape

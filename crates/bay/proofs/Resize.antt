@@ -20,7 +20,7 @@ use Rattle.bay.proofs.Sound.{Block, Sound, s-nil, s-end, s-free, s-held
 pub length-sized : (a : ℕ) (l : List ℕ) → length (sized a l) ≡ a
 length-sized a l = simp (length-append, length-take, length-replicate) (omega arith)
 
-alter-none : (h : ℕ) (f : List ℕ → List ℕ) (es : List Item) → count h es ≡ 0 → map (alter h f) es ≡ es
+pub alter-none : (h : ℕ) (f : List ℕ → List ℕ) (es : List Item) → count h es ≡ 0 → map (alter h f) es ≡ es
 alter-none h f [] q = refl
 alter-none h f (e ∷ es) q = go (is h e) refl q (λ k. alter-none h f es k)
   where

@@ -4,3 +4,4 @@ pub mod Sound
 pub mod Choice
 pub mod Counted
 pub mod Ends
+pub mod Lead

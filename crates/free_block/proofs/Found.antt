@@ -149,14 +149,14 @@ module _ (z : List ℕ) (i : IsZone z) (first : ℕ) (ef : first ≡ firstField 
       high-part = ap firstPart end-blocks ∙ first-cells (a .high) (a .post) (a .post-used)
 
       -- the place of the block with its free neighbours
-      pub freeing : (from to : ℕ) → Extended z prev t end from to → Freeing z bs′ b from t end to
-      freeing from to x =
-          let f : from ≡ cond (isFree (drop prev z)) prev at = x .from-is ∙ ap (cond (isFree (drop prev z)) prev) (sym stops) in
-          record {
-            zone = i;
-            around = a;
-            at-is = et;
-            end-is = ee;
-            from-is = ap₂ (λ (x y : ℕ). x + y) f (sym low-part) ∙ p .passed .free-before ∙ stops;
-            to-is = x .to-is ∙ ap (end +_) high-part;
-          }
+      module _ (from to : ℕ) (x : Extended z prev t end from to) where
+        pub from-low : from + endFree (a .low) ≡ t
+        from-low =
+            let f : from ≡ cond (isFree (drop prev z)) prev at = x .from-is ∙ ap (cond (isFree (drop prev z)) prev) (sym stops) in
+            ap₂ (λ (x y : ℕ). x + y) f (sym low-part) ∙ p .passed .free-before ∙ stops
+
+        pub to-high : to ≡ end + startFree (a .high)
+        to-high = x .to-is ∙ ap (end +_) high-part
+
+        pub freeing : Freeing z bs′ b from t end to
+        freeing = record { zone = i; around = a; at-is = et; end-is = ee; from-is = from-low; to-is = to-high }

@@ -57,12 +57,12 @@ module _ (h : ℕ) (d : Structure) where
 -- ---- its block among the blocks
 
 -- bays without the handle stay as they are
-none-released : (h : ℕ) (s : Bays (List Cell) Fixed) → AllS Sound s → live h s ≡ 0 → mapS (release h) s ≡ s
+pub none-released : (h : ℕ) (s : Bays (List Cell) Fixed) → AllS Sound s → live h s ≡ 0 → mapS (release h) s ≡ s
 none-released h (last b) d l = ap last (release-none h d l)
 none-released h (more b x s) d l = ap₂ (λ (c : List Cell) (t : Bays (List Cell) Fixed). more c x t) (release-none h (d .0) (omega arith)) (none-released h s (d .1) (omega arith))
 
 -- the block in the first bay, whatever stands behind that
-around-own : (h : ℕ) (e : Item) (b : List Cell) (r : List Block) → firstPart r ≡ 0 → Released h e b → Around (flatBay b r) (flatBay (release h b) r) (cell (held e))
+abbrev pub around-own : (h : ℕ) (e : Item) (b : List Cell) (r : List Block) → firstPart r ≡ 0 → Released h e b → Around (flatBay b r) (flatBay (release h b) r) (cell (held e))
 around-own h e b r q d =
     around-same
     (ap (λ (c : List Cell). flatBay c r) (d .parts) ∙ ap (_++ r) (map-append (d .low) (held e ∷ d .high)) ∙ append-assoc (map cell (d .low)) (map cell (held e ∷ d .high)) r)

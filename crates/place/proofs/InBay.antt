@@ -4,6 +4,7 @@ use mathlib.Core.Bool.{true, true≢false}
 use mathlib.Core.List.{List, [], _∷_, _++_, map, map-append, append-assoc, append-nil}
 use Prim.Native.Nat.{ℕ, zero, suc, _+_, _-_, _≤_}
 use native.Mathlib.Omega.{arith}
+use Rattle.block_type.specs.Limits.{masterSize}
 use Rattle.bigendian.specs.BigEndian.{toBE, slice, overwrite}
 use Rattle.kinds.specs.Kinds.{Item, masterOf, itemSize}
 use Rattle.bay.specs.Bay.{Cell, free, held, baySize, gap, Hole, fill}
@@ -51,24 +52,28 @@ module _ (s : Structure) (v : Valid s) (before after : List Block) (bay : List C
   apart : (k : ℕ) → gap k (x .after) ≡ gap k [] ++ x .after
   apart k = gap-apart k (x .after) after (tiled-right _ pre (cell (free (x .size)) ∷ post) (subst (Tiled _) parts-are (v .tiled)) .4)
 
-  module _ (h : ℕ) (ks : List ℕ) (linked : s .chain ≡ h ∷ ks) where
-    pub fill-fit : (need : ℕ) → Size need → need ≤ x .size → Fit (encode s) at (x .size) need h
-    unfolding bytesOf
-    fill-fit need z l =
-        let n = x .size in
-        let b = zone-bay s v pre post (free n ∷ []) parts-are in
-        let w = cells-sound s v pre post (free n ∷ []) parts-are in
-        let m : start s + sizes pre + (n + 0) - (start s + sizes pre) ≡ n = omega arith in
-        let p : slice (encode s) (start s + sizes pre) n ≡ encodeCell (free n) ++ [] = subst (λ (k : ℕ). slice (encode s) (start s + sizes pre) k ≡ encodeCell (free n) ++ []) m (part-is s v pre post (free n ∷ []) parts-are) in
-        record {
-          inside = omega (arith, b .inside, at-is);
-          short = b .short;
-          below = omega (arith, head-low s v h ks linked .1);
-          size = z;
-          fits = l;
-          four-n = w .0 .1;
-          bytes = rw at-is (p ∙ append-nil (encodeCell (free n)));
-        }
+  -- h is any master
+  pub room-fit : (h need : ℕ) → h + masterSize ≤ start s → Size need → need ≤ x .size → Fit (encode s) at (x .size) need h
+  unfolding bytesOf
+  room-fit h need m z l =
+      let n = x .size in
+      let b = zone-bay s v pre post (free n ∷ []) parts-are in
+      let w = cells-sound s v pre post (free n ∷ []) parts-are in
+      let k : start s + sizes pre + (n + 0) - (start s + sizes pre) ≡ n = omega arith in
+      let p : slice (encode s) (start s + sizes pre) n ≡ encodeCell (free n) ++ [] = subst (λ (k : ℕ). slice (encode s) (start s + sizes pre) k ≡ encodeCell (free n) ++ []) k (part-is s v pre post (free n ∷ []) parts-are) in
+      record {
+        inside = omega (arith, b .inside, at-is);
+        short = b .short;
+        below = omega arith;
+        size = z;
+        fits = l;
+        four-n = w .0 .1;
+        bytes = rw at-is (p ∙ append-nil (encodeCell (free n)));
+      }
+
+  -- h is the chain's head
+  pub fill-fit : (h : ℕ) (ks : List ℕ) → s .chain ≡ h ∷ ks → (need : ℕ) → Size need → need ≤ x .size → Fit (encode s) at (x .size) need h
+  fill-fit h ks linked need z l = room-fit h need (head-low s v h ks linked .1) z l
 
   module _ (e : Item) (ks : List ℕ) (linked : s .chain ≡ masterOf e ∷ ks) (ok : Sound1 (held e)) (fits : itemSize e ≤ x .size) where
     pub fill-placed : settled (overwrite (encode s) 12 (toBE 2 (headOf ks))) at (held e ∷ gap (x .size - itemSize e) []) ≡ encode (record { chain = ks; blocks = before ++ (map cell (fill e x) ++ after) })

@@ -65,7 +65,7 @@ module _ {f : List Cell → List Cell} where
   at-left at-here = refl
   at-left (at-later {c = c} {x = x} {pre = pre} a) = last-behind false (map cell c) (x .bytes) pre ∙ at-left a
 
-  at-right : {u u′ : Bays (List Cell) Fixed} {pre : List Block} {b : List Cell} {post : List Block} → At f u u′ pre b post → firstFree post ≡ false
+  pub at-right : {u u′ : Bays (List Cell) Fixed} {pre : List Block} {b : List Cell} {post : List Block} → At f u u′ pre b post → firstFree post ≡ false
   at-right at-last = refl
   at-right at-here = refl
   at-right (at-later a) = at-right a

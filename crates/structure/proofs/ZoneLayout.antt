@@ -93,7 +93,7 @@ pub lay-same : {l l′ f f′ m m′ c c′ : ℕ} {vs vs′ r r′ : List ℕ} 
 lay-same a b c d e f = rw (a, b, c, d, e, f)
 
 -- one value of the masters changes
-pub values-set : (f f′ : ℕ → ℕ) (h k n i : ℕ) → h ≡ k + 4 * i → i < n → ((g : ℕ) → (g ≡ h → ⊥) → f′ g ≡ f g) → map f′ (offsets k n) ≡ set (map f (offsets k n)) i (f′ h)
+pub values-set : (f f′ : ℕ → ℕ) (h k n i : ℕ) → h ≡ k + masterSize * i → i < n → ((g : ℕ) → (g ≡ h → ⊥) → f′ g ≡ f g) → map f′ (offsets k n) ≡ set (map f (offsets k n)) i (f′ h)
 unfolding offsets
 values-set f f′ h k zero i e l s = let x : ⊥ = omega arith in absurd x
 values-set f f′ h k (suc n) zero e l s =

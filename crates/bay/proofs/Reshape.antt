@@ -1,0 +1,114 @@
+-- A bay in which a block has got another size: where the block stands, or laid out as compacted.
+use mathlib.Core.Path.{_≡_, refl, sym, ap, ap₂, _∙_}
+use mathlib.Core.Bool.{Bool, true, false, cond}
+use mathlib.Core.Option.{Option, none, some, Option·getD}
+use mathlib.Core.List.{List, [], _∷_, _++_, map, append-nil, append-assoc, map-append}
+use Prim.Native.Nat.{ℕ, zero, suc, _+_, _-_, _≤_, _<_}
+use native.Mathlib.Omega.{arith}
+use lib.ListN.{length}
+use lib.Dec.{leb}
+use borrow.Author.Tests.{leb-true, leb-false, lt-leb, eq-eqb}
+use Rattle.calls.specs.Bays.{over}
+use Rattle.kinds.specs.Kinds.{Item}
+use Rattle.calls.specs.State.{is, total, alter, get, sized}
+use Rattle.bay.specs.Bay.{Cell, free, held, baySize, baySum, items, gap, packed, resized, inPlace, growHere, reshape}
+use Rattle.bay.specs.Counted.{count}
+use Rattle.bay.specs.Lead.{leadFree, pastLead}
+use Rattle.bay.proofs.Laws.{items-append, bsize-split}
+use Rattle.bay.proofs.Sound.{Sound, s-nil, s-end, s-free, s-held}
+use Rattle.bay.proofs.Choice.{packed-is, here-after, at-handle, grows-in-place}
+use Rattle.bay.proofs.Resize.{length-sized, alter-none}
+
+get-none : (h : ℕ) (es : List Item) → count h es ≡ 0 → get h es ≡ none
+get-none h [] q = refl
+get-none h (e ∷ es) q = go (is h e) q (get-none h es)
+  where
+    go : (t : Bool) → cond t (suc (count h es)) (count h es) ≡ 0 → (count h es ≡ 0 → get h es ≡ none) → cond t (some e) (get h es) ≡ none
+    go true p r = absurd (omega arith)
+    go false p r = r p
+
+-- ---- free bytes in front of sound cells: what follows a free block is not free
+
+gap-held : (n : ℕ) (e : Item) (cs : List Cell) → gap n (held e ∷ cs) ≡ gap n [] ++ (held e ∷ cs)
+gap-held zero e cs = refl
+gap-held (suc n) e cs = refl
+
+gap-apart : (n : ℕ) {k : ℕ} {cs : List Cell} → Sound (free k ∷ cs) → gap n cs ≡ gap n [] ++ cs
+gap-apart n (s-end b) = sym (append-nil (gap n []))
+gap-apart n (s-free {e = e} {cs = cs} b s) = gap-held n e cs
+
+gap-some : (n : ℕ) (cs : List Cell) → 0 < n → gap n [] ++ cs ≡ free n ∷ cs
+gap-some zero cs l = let x : ⊥ = omega arith in absurd x
+gap-some (suc n) cs l = refl
+
+gap-free : (n k : ℕ) (cs : List Cell) → 0 < k → gap n (free k ∷ cs) ≡ gap (n + k) [] ++ cs
+gap-free zero k cs l = let e : k ≡ 0 + k = omega arith in ap (λ (i : ℕ). free i ∷ cs) e ∙ sym (gap-some (0 + k) cs (omega arith))
+gap-free (suc n) k cs l = sym (gap-some (suc n + k) cs (omega arith))
+
+pub gap-lead : (n : ℕ) {cs : List Cell} → Sound cs → gap n cs ≡ gap (n + leadFree cs) [] ++ pastLead cs
+gap-lead n s-nil = let e : n ≡ n + 0 = omega arith in ap (λ (k : ℕ). gap k []) e ∙ sym (append-nil (gap (n + 0) []))
+gap-lead n (s-end {n = k} b) = gap-free n k [] (b .some-bytes)
+gap-lead n (s-free {n = k} {e = e} {cs = cs} b s) = gap-free n k (held e ∷ cs) (b .some-bytes)
+gap-lead n (s-held {e = e} {cs = cs} b s) = let q : n ≡ n + 0 = omega arith in gap-held n e cs ∙ ap (λ (k : ℕ). gap k [] ++ (held e ∷ cs)) q
+
+-- ---- the block e between the cells u and w
+
+module _ (e : Item) (a : ℕ) (u w : List Cell) (first : count (e .handle) (items u) ≡ 0) where
+  abbrev h : ℕ
+  h = e .handle
+
+  abbrev b : ℕ
+  b = length (e .bytes)
+
+  -- there is room right behind it
+  pub reshape-here : Sound w → a ≤ b + leadFree w → reshape h a (u ++ (held e ∷ w)) ≡ u ++ (held (resized a e) ∷ (gap (b + leadFree w - a) [] ++ pastLead w))
+  reshape-here s l = go (leb a b) refl
+    where
+      larger : {cs : List Cell} → Sound cs → b < a → a ≤ b + leadFree cs → reshape h a (u ++ (held e ∷ cs)) ≡ u ++ (held (resized a e) ∷ (gap (b + leadFree cs - a) [] ++ pastLead cs))
+      larger s-nil k m = absurd (omega arith)
+      larger (s-held c t) k m = absurd (omega arith)
+      larger (s-end {n = n} c) k m =
+          let q : n - (a - b) ≡ b + n - a = omega arith in
+          grows-in-place .larger e a n u [] (get-none h (items u) first) k (omega arith) ∙ ap (λ (t : List Cell). u ++ (held (resized a e) ∷ t)) (gap-apart (n - (a - b)) (s-end {n = n} c) ∙ ap (λ (i : ℕ). gap i [] ++ []) q)
+      larger (s-free {n = n} {e = d} {cs = cs} c t) k m =
+          let q : n - (a - b) ≡ b + n - a = omega arith in
+          grows-in-place .larger e a n u (held d ∷ cs) (get-none h (items u) first) k (omega arith)
+          ∙ ap (λ (t : List Cell). u ++ (held (resized a e) ∷ t)) (gap-held (n - (a - b)) d cs ∙ ap (λ (i : ℕ). gap i [] ++ (held d ∷ cs)) q)
+
+      go : (t : Bool) → leb a b ≡ t → reshape h a (u ++ (held e ∷ w)) ≡ u ++ (held (resized a e) ∷ (gap (b + leadFree w - a) [] ++ pastLead w))
+      go true k =
+          let q : b - a + leadFree w ≡ b + leadFree w - a = omega (arith, leb-true a b k) in
+          grows-in-place .smaller e a u w (get-none h (items u) first) (leb-true a b k)
+          ∙ ap (λ (t : List Cell). u ++ (held (resized a e) ∷ t)) (gap-lead (b - a) s ∙ ap (λ (n : ℕ). gap n [] ++ pastLead w) q)
+      go false k = larger s (leb-false a b k) l
+
+  -- there is not: the bay is laid out
+  no-room : (cs : List Cell) → b + leadFree cs < a → inPlace e a cs ≡ none
+  no-room [] l = rw (lt-leb a b (omega arith))
+  no-room (held d ∷ cs) l = rw (lt-leb a b (omega arith))
+  no-room (free k ∷ cs) l = rw (lt-leb a b (omega arith), lt-leb (a - b) k (omega arith))
+
+  total-append : (xs ys : List Item) → total (xs ++ ys) ≡ total xs + total ys
+  total-append [] ys = omega arith
+  total-append (x ∷ xs) ys = omega (arith, total-append xs ys)
+
+  alter-one : alter h (sized a) e ≡ resized a e
+  alter-one = rw (eq-eqb h h refl)
+
+  pub reshape-laid : count h (items w) ≡ 0 → b + leadFree w < a → a - b ≤ baySum (u ++ (held e ∷ w))
+      → reshape h a (u ++ (held e ∷ w)) ≡ map held (items u) ++ (held (resized a e) ∷ (map held (items w) ++ gap (baySum (u ++ (held e ∷ w)) - (a - b)) []))
+  reshape-laid last l m =
+      let cs = u ++ (held e ∷ w) in
+      let es = map (alter h (sized a)) (items cs) in
+      let none-here : growHere h a cs ≡ none = here-after h a u (held e ∷ w) (get-none h (items u) first) ∙ ap (over (u ++_)) (at-handle e a w ∙ no-room w l) in
+      let i : items cs ≡ items u ++ (e ∷ items w) = items-append u (held e ∷ w) in
+      let es-are : es ≡ items u ++ (resized a e ∷ items w) =
+      ap (map (alter h (sized a))) i ∙ map-append (alter h (sized a)) (items u) (e ∷ items w)
+      ∙ ap₂ (λ (x y : List Item). x ++ y) (alter-none h (sized a) (items u) first) (ap₂ (λ (x : Item) (y : List Item). x ∷ y) alter-one (alter-none h (sized a) (items w) last)) in
+      let n : baySize cs - total es ≡ baySum cs - (a - b) =
+      omega (arith, ap total es-are, total-append (items u) (resized a e ∷ items w), bsize-split cs, ap total i, total-append (items u) (e ∷ items w), length-sized a (e .bytes)) in
+      ap (λ (o : Option (List Cell)). Option·getD o (packed es (gap (baySize cs - total es) []))) none-here
+      ∙ packed-is es (gap (baySize cs - total es) [])
+      ∙ ap₂ (λ (x : List Item) (k : ℕ). map held x ++ gap k []) es-are n
+      ∙ ap (λ (x : List Cell). x ++ gap (baySum cs - (a - b)) []) (map-append held (items u) (resized a e ∷ items w))
+      ∙ append-assoc (map held (items u)) (held (resized a e) ∷ map held (items w)) (gap (baySum cs - (a - b)) [])

@@ -1,0 +1,13 @@
+pub mod Slots
+pub mod Choice
+pub mod Beside
+pub mod Moved
+pub mod Writes
+pub mod Itself
+pub mod Data
+pub mod OldPlace
+pub mod Carrying
+pub mod Carried
+pub mod AsZone
+pub mod Zone
+pub mod Target

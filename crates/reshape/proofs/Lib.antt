@@ -1,0 +1,13 @@
+pub mod Own
+pub mod Parts
+pub mod Room
+pub mod Still
+pub mod Here
+pub mod Stays
+pub mod Grown
+pub mod GrownBay
+pub mod Grow
+pub mod LaidBay
+pub mod Tidied
+pub mod LaidOut
+pub mod Plan

@@ -1,0 +1,107 @@
+-- The block of a handle among the blocks of a valid structure, and those blocks with it at another size where it stands.
+use mathlib.Core.Path.{_≡_, sym, ap, _∙_, subst}
+use mathlib.Core.Bool.{Bool, true, false, true≢false}
+use mathlib.Core.List.{List, [], _∷_, _++_, map, map-append, append-assoc}
+use Prim.Native.Nat.{ℕ, _+_, _-_, _≤_}
+use native.Mathlib.Omega.{arith}
+use lib.ListN.{length, drop}
+use lib.Seq.{drop-drop, drop-at}
+use Rattle.structure.proofs.Append.{sizes-append}
+use Rattle.calls.specs.Bays.{onLowest}
+use Rattle.bay.specs.Bay.{Cell, free, held, baySize, items, gap, resized, reshape}
+use Rattle.bay.specs.Counted.{count}
+use Rattle.bay.specs.Lead.{leadFree, pastLead}
+use Rattle.bay.proofs.Laws.{bsize-gap}
+use Rattle.bay.proofs.Sound.{Sound, s-nil, s-end, s-free, s-held}
+use Rattle.bay.proofs.Reshape.{gap-lead, reshape-here}
+use Rattle.structure.specs.Structure.{Block, cell, Structure, sizes, start, len, encode}
+use Rattle.structure.specs.Valid.{Tiled, Valid}
+use Rattle.structure.proofs.Round.{rest-is}
+use Rattle.row.specs.Row as Row
+use Rattle.row.proofs.Laws.{bytes-append, bytes-long, sound-left, sound-right}
+use Rattle.zone.specs.Group.{flatten}
+use Rattle.zone.specs.Work.{has}
+use Rattle.zone.proofs.GroupLaws.{flatten-group}
+use Rattle.bays.proofs.At.{at-old, at-new}
+use Rattle.surgery.proofs.Sound.{valid-sound, tiled-right}
+use Rattle.surgery.proofs.Replace.{sizes-parts}
+use Rattle.settle.proofs.Cells.{all-sizes}
+use Rattle.reshape.specs.Own.{baysOf, Own, bayOf, dataAt}
+
+-- cells that stand in a valid structure are sound
+tiled-sound : (p : Bool) (cs : List Cell) (r : List Block) → Tiled p (map cell cs ++ r) → Sound cs
+tiled-sound p [] r t = s-nil
+tiled-sound p (free n ∷ []) r t = s-end {n = n} (omega (arith, t .1, t .2))
+tiled-sound p (free n ∷ (free k ∷ cs)) r t = absurd (true≢false (t .4 .0))
+tiled-sound p (free n ∷ (held e ∷ cs)) r t = s-free {n = n} (omega (arith, t .1, t .2)) (tiled-sound true (held e ∷ cs) r (t .4))
+tiled-sound p (held e ∷ cs) r t = s-held {e = e} (omega (arith, t .0)) (tiled-sound false cs r (t .3))
+
+-- cells of a bay among the blocks: those on the left, then c and g, then those on the right
+regroup : (before after : List Block) (l g r : List Cell) (c : Cell)
+    → before ++ (map cell (l ++ (c ∷ (g ++ r))) ++ after) ≡ (before ++ map cell l) ++ (map cell (c ∷ g) ++ (map cell r ++ after))
+regroup before after l g r c = rw (map-append cell l (c ∷ (g ++ r)), map-append cell g r) (simp append-assoc)
+
+module _ (s : Structure) (v : Valid s) (h : ℕ) (o : Own h (baysOf s)) where
+  abbrev pub pre : List Block
+  pre = o .before ++ map cell (o .left)
+
+  abbrev pub rest : List Block
+  rest = map cell (pastLead (o .right)) ++ o .after
+
+  abbrev old : List Cell
+  old = held (o .mine) ∷ gap (leadFree (o .right)) []
+
+  pub in-bay : s .blocks ≡ o .before ++ (map cell (bayOf o) ++ o .after)
+  in-bay = sym (flatten-group (start s) (s .blocks)) ∙ at-old (o .at (λ (b : List Cell). b))
+
+  split : s .blocks ≡ pre ++ (cell (held (o .mine)) ∷ (map cell (o .right) ++ o .after))
+  split = in-bay ∙ regroup (o .before) (o .after) (o .left) [] (o .right) (held (o .mine))
+
+  right-sound : Sound (o .right)
+  right-sound = tiled-sound false (o .right) (o .after) (tiled-right false pre (cell (held (o .mine)) ∷ (map cell (o .right) ++ o .after)) (subst (Tiled false) split (v .tiled)) .3)
+
+  -- the free bytes right behind the block counted to it
+  pub parts : s .blocks ≡ pre ++ (map cell old ++ rest)
+  parts =
+      let n : 0 + leadFree (o .right) ≡ leadFree (o .right) = omega arith in
+      in-bay ∙ ap (λ (cs : List Cell). o .before ++ (map cell (o .left ++ (held (o .mine) ∷ cs)) ++ o .after)) (gap-lead 0 right-sound ∙ ap (λ (k : ℕ). gap k [] ++ pastLead (o .right)) n)
+      ∙ regroup (o .before) (o .after) (o .left) (gap (leadFree (o .right)) []) (pastLead (o .right)) (held (o .mine))
+
+  pub pre-sizes : sizes pre ≡ sizes (o .before) + baySize (o .left)
+  pre-sizes = sizes-append (o .before) (map cell (o .left)) ∙ ap (sizes (o .before) +_) (sym (all-sizes (o .left)))
+
+  -- they lie inside the zone
+  pub parts-end : dataAt (start s) o + length (o .mine .bytes) + leadFree (o .right) ≤ len s
+  parts-end = omega (arith, pre-sizes, ap sizes parts, sizes-parts pre (map cell old) rest, all-sizes old, bsize-gap (leadFree (o .right)) [])
+
+  -- ---- with a data bytes
+
+  pub parts-new : (a : ℕ) → a ≤ length (o .mine .bytes) + leadFree (o .right)
+      → flatten (onLowest (has h) (reshape h a) (baysOf s)) ≡ pre ++ (map cell (held (resized a (o .mine)) ∷ gap (length (o .mine .bytes) + leadFree (o .right) - a) []) ++ rest)
+  parts-new a l =
+      let w : reshape h a (bayOf o) ≡ o .left ++ (held (resized a (o .mine)) ∷ (gap (length (o .mine .bytes) + leadFree (o .right) - a) [] ++ pastLead (o .right))) =
+      ap (λ (k : ℕ). reshape k a (bayOf o)) (o .its) ∙ reshape-here (o .mine) a (o .left) (o .right) (subst (λ (k : ℕ). count k (items (o .left)) ≡ 0) (o .its) (o .first)) right-sound l in
+      at-new (o .at (reshape h a)) ∙ ap (λ (cs : List Cell). o .before ++ (map cell cs ++ o .after)) w
+      ∙ regroup (o .before) (o .after) (o .left) (gap (length (o .mine .bytes) + leadFree (o .right) - a) []) (pastLead (o .right)) (held (resized a (o .mine)))
+
+  -- ---- what stands behind the block
+
+  abbrev behind : List Block
+  behind = map cell (o .right) ++ o .after
+
+  all-sound : Row.Sound (pre ++ (cell (held (o .mine)) ∷ behind))
+  all-sound = subst Row.Sound split (valid-sound s v)
+
+  pub behind-sound : Row.Sound behind
+  behind-sound = sound-right pre (cell (held (o .mine)) ∷ behind) all-sound .1
+
+  pub behind-bytes : (p : ℕ) → p ≡ dataAt (start s) o + length (o .mine .bytes) → drop p (encode s) ≡ Row.bytesOf behind
+  unfolding sizes
+  behind-bytes p e =
+      let front = pre ++ (cell (held (o .mine)) ∷ []) in
+      let q : s .blocks ≡ front ++ behind = split ∙ sym (append-assoc pre (cell (held (o .mine)) ∷ []) behind) in
+      let so : Row.Sound front = sound-left front behind (subst Row.Sound q (valid-sound s v)) in
+      let z : p ≡ start s + sizes front = omega (arith, pre-sizes, sizes-append pre (cell (held (o .mine)) ∷ [])) in
+      ap (λ (k : ℕ). drop k (encode s)) z ∙ sym (drop-drop (sizes front) (start s) (encode s))
+      ∙ ap (drop (sizes front)) (rest-is s v ∙ ap (λ (bs : List Block). Row.bytesOf bs) q ∙ bytes-append front behind)
+      ∙ drop-at (Row.bytesOf front) (Row.bytesOf behind) (sizes front) (bytes-long front so)
