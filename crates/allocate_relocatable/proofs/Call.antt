@@ -15,11 +15,12 @@ use Rattle.calls.specs.State.{newItem, top, rest}
 use Rattle.zone.specs.Group.{flatten}
 use Rattle.zone.specs.Work.{placeLow}
 use Rattle.zone.specs.Call.{result, call}
+use Rattle.bays.specs.Places.{baysOf}
 use Rattle.place.specs.Fit.{blank}
 use Rattle.call_laws.specs.Frame.{Does, Planned}
 use Rattle.call_laws.proofs.Outcome.{none-lent}
 use Rattle.call_laws.proofs.Frame.{frame-ready, frame-done}
-use Rattle.allocate_relocatable.specs.Ready.{allocated, baysOf, GoingIn, ReadyIn}
+use Rattle.allocate_relocatable.specs.Ready.{allocated, GoingIn, ReadyIn}
 use Rattle.allocate_relocatable.proofs.Placed.{below-end}
 
 -- the size of the new block
@@ -46,7 +47,7 @@ module _ (s : List ℕ) (c number l need h next a e at n : ℕ) (t : Bool)
       record {
         passed = is-ready .passed (length s);
         answer = ap (λ (ls : List ℕ). told 0 (top ls)) (call-goes .in-bay .is-chain);
-        line = ap (λ (i : Item). record { chain = rest (d .chain); blocks = flatten (placeLow i (baysOf (take l s))) }) (new-is (top (d .chain)) c need (is-ready .is-need));
+        line = ap (λ (i : Item). record { chain = rest (d .chain); blocks = flatten (placeLow i (baysOf (decodeZone (take l s)))) }) (new-is (top (d .chain)) c need (is-ready .is-need));
       }
 
   pub call-end : (y : List ℕ) → ((i : ℕ) → Fits w8 (getD s i 0)) → y ≡ encode (allocated need (decodeZone (take l s))) → result (told 0 h) (y ++ drop l s) ≡ call (allocate-relocatable c) s

@@ -31,33 +31,8 @@ use Rattle.zone.proofs.Run.{well-whole}
 use Rattle.call_laws.proofs.Outcome.{step, none-lent}
 use Rattle.call_laws.proofs.Accepted.{Accepted, accepted, cleared, answered, after}
 use Rattle.call_laws.proofs.Named.{size-there, view-there}
+use Rattle.call_laws.proofs.Placed.{low-found}
 use Rattle.allocate_relocatable.proofs.Call.{need-is}
-
-pub get-none : (h : ℕ) (es : List Item) → count h es ≡ 0 → get h es ≡ none
-get-none h [] e = refl
-get-none h (i ∷ es) e = go (is h i) e (get-none h es)
-  where
-    go : (t : Bool) → cond t (suc (count h es)) (count h es) ≡ 0 → (count h es ≡ 0 → get h es ≡ none) → cond t (some i) (get h es) ≡ none
-    go true e f = let x : ⊥ = omega arith in absurd x
-    go false e f = f e
-
-module _ (i : Item) where
-  abbrev find : Bays (List Cell) Fixed → Option Item
-  find s = findS (λ (b : List Cell). get (i .handle) (items b)) s
-
-  put-found : (b : List Cell) → count (i .handle) (items b) ≡ 0 → itemSize i ≤ baySum b → get (i .handle) (items (put i b)) ≡ some i
-  put-found b e l =
-      let p = put-keeps i b l .perm in
-      let k : count (i .handle) (i ∷ items b) ≡ suc (count (i .handle) (items b)) = rw (eq-eqb (i .handle) (i .handle) refl) in
-      perm-get (i .handle) p (omega (arith, perm-count (i .handle) p, k)) ∙ (rw (eq-eqb (i .handle) (i .handle) refl))
-
-  -- a new handle is found where it has been put
-  pub low-found : (s : Bays (List Cell) Fixed) → live (i .handle) s ≡ 0 → Each (λ (u : Bays (List Cell) Fixed). find u ≡ some i) (placeLow i s)
-  low-found (last b) e = each-cond (leb (itemSize i) (baySum b)) (λ t. just (put-found b e (leb-true (itemSize i) (baySum b) t))) nothing
-  low-found (more b x s) e =
-      each-cond (leb (itemSize i) (baySum b))
-      (λ t. just (ap (λ (o : Option Item). orElse o (find s)) (put-found b (omega arith) (leb-true (itemSize i) (baySum b) t))))
-      (each-over (more b x) (λ u q. ap (λ (o : Option Item). orElse o (find u)) (get-none (i .handle) (items b) (omega arith)) ∙ q) (low-found s (omega arith)))
 
 -- what is asked of the buffer that an allocation leaves
 abbrev asked : ℕ → List ℕ → (ℕ → Call) → Answer
@@ -97,7 +72,7 @@ module _ (s : List ℕ) (c : ℕ) (y : Bytes s) (e : (call (allocate-relocatable
   found : content items (by-handle h) (next .bays) ≡ some (i .bytes)
   found =
       let need : below (maxS baySum (z .bays)) (itemSize i) ≡ false = rw (need-is h c) (or-left _ _ (cleared a 5 refl)) in
-      ap (over (λ (i : Item). i .bytes)) (each-got {Q = λ (u : Bays (List Cell) Fixed). find i u ≡ some i} (total-low baySum (itemSize i) (put i) (z .bays)) need (low-found i (z .bays) fresh))
+      ap (over (λ (i : Item). i .bytes)) (each-got {Q = λ (u : Bays (List Cell) Fixed). findS (λ (b : List Cell). get h (items b)) u ≡ some i} (total-low baySum (itemSize i) (put i) (z .bays)) need (low-found i (z .bays) fresh))
 
   tell : (b : ℕ → Call) → asked c s b ≡ (step (b h) next) .answer
   tell b = ap (λ (g : Answer). (call (b (g .value)) ((call (allocate-relocatable c) s) .bytes)) .answer) (answered a y) ∙ after a y none-lent (b h)

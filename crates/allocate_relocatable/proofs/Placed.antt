@@ -15,6 +15,7 @@ use Rattle.bay.specs.Bay.{Cell, free, held, baySize, gap, compactBay, Hole, fil
 use Rattle.bay.specs.Sound.{Sound1}
 use Rattle.zone.specs.Group.{flatten}
 use Rattle.zone.specs.Work.{placeLow}
+use Rattle.bays.specs.Places.{baysOf}
 use Rattle.bays.proofs.At.{at-new}
 use Rattle.slide.specs.ZoneBay.{bayCells, ZoneBay, settled}
 use Rattle.settle.proofs.Compact.{compact-settled}
@@ -22,7 +23,7 @@ use Rattle.settle.proofs.Tidy.{bay-valid, bay-start}
 use Rattle.place.specs.Fit.{blank, Size, Fit}
 use Rattle.place.proofs.Cut.{blank-size}
 use Rattle.place.proofs.InBay.{fill-fit, fill-placed}
-use Rattle.allocate_relocatable.specs.Ready.{allocated, baysOf, BayIn, GoingIn}
+use Rattle.allocate_relocatable.specs.Ready.{allocated, BayIn, GoingIn}
 use Rattle.allocate_relocatable.proofs.Bay.{whole, valid, is-z, blocks-are, parts, bay-in, cells-in, master}
 
 -- ---- in a free block of a bay, by offsets
@@ -87,7 +88,7 @@ module _ (z : List ℕ) (need h next a e at n : ℕ) (t : Bool) (x : GoingIn z n
   left =
       ap (λ (cs : List Cell). encode (record { chain = b .ks; blocks = before ++ (map cell cs ++ after) })) (sym (x .room .filled))
       ∙ ap (λ (bs : List Block). encode (record { chain = b .ks; blocks = bs })) (sym (at-new (b .found .at)))
-      ∙ ap (λ (ls : List ℕ). encode (record { chain = rest ls; blocks = flatten (placeLow (blank need (top ls)) (baysOf z)) })) (sym (b .is-chain))
+      ∙ ap (λ (ls : List ℕ). encode (record { chain = rest ls; blocks = flatten (placeLow (blank need (top ls)) (baysOf (decodeZone z))) })) (sym (b .is-chain))
 
   -- in the bay as it is
   module _ (f : t ≡ false) where

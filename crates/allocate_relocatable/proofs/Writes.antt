@@ -1,9 +1,8 @@
 -- The writes of a new block: the chain's head, its bytes, its master.
-use mathlib.Core.Path.{_≡_, refl, sym, ap, _∙_}
+use mathlib.Core.Path.{_≡_, sym, ap, _∙_}
 use mathlib.Core.List.{List, [], _∷_}
-use Prim.Native.Nat.{ℕ, zero, suc, _+_, _-_, _≤_}
+use Prim.Native.Nat.{ℕ, _+_, _-_, _≤_}
 use native.Mathlib.Omega.{arith}
-use borrow.Author.Tests.{ne-eqb}
 use lib.ListN.{length, take}
 use Rattle.block_type.specs.Limits.{relocHeader, zoneHeader}
 use Rattle.bigendian.specs.BigEndian.{toBE, overwrite}
@@ -11,7 +10,8 @@ use Rattle.bigendian.proofs.Laws.{length-toBE}
 use Rattle.bigendian.proofs.Overwrite.{write-length, drop-write}
 use Rattle.bay.specs.Bay.{held, gap}
 use Rattle.bay.specs.Sound.{bytesOf}
-use Rattle.slide.specs.ZoneBay.{setOne, setAll, settled}
+use Rattle.slide.specs.ZoneBay.{settled}
+use Rattle.slide.proofs.One.{set-one}
 use Rattle.place.specs.Fit.{blank, Fit}
 
 -- the chain's head lies before the block
@@ -29,15 +29,8 @@ carve-fit z z₁ at n need h next x l e =
       bytes = rw e (ap (take n) (drop-write z 12 at (toBE 2 next) (omega (arith, x .below)) (omega (arith, x .inside))) ∙ x .bytes);
     }
 
--- a free block has no master
-set-gap : (p k : ℕ) (z : List ℕ) → setAll p (gap k []) z ≡ z
-unfolding setAll setOne
-set-gap p zero z = refl
-set-gap p (suc k) z = refl
-
 pub carve-done : (z z₁ z₂ z₃ : List ℕ) (at n need h next : ℕ) → zoneHeader ≤ h → z₁ ≡ overwrite z 12 (toBE 2 next) → z₂ ≡ overwrite z₁ at (bytesOf (held (blank need h) ∷ gap (n - need) []))
     → z₃ ≡ overwrite z₂ h (toBE 4 (at + relocHeader)) → z₃ ≡ settled (overwrite z 12 (toBE 2 next)) at (held (blank need h) ∷ gap (n - need) [])
-unfolding settled setAll setOne
 carve-done z z₁ z₂ z₃ at n need h next l e₁ e₂ e₃ =
     e₃ ∙ ap (λ (y : List ℕ). overwrite y h (toBE 4 (at + relocHeader))) (e₂ ∙ ap (λ (y : List ℕ). overwrite y at (bytesOf (held (blank need h) ∷ gap (n - need) []))) e₁)
-    ∙ sym (set-gap _ (n - need) _ ∙ (rw (ne-eqb h 0 (λ q. omega arith))))
+    ∙ sym (set-one (overwrite z 12 (toBE 2 next)) at (n - need) (blank need h) (omega arith))

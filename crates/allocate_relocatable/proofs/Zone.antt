@@ -1,5 +1,5 @@
 -- The plan in a zone: which cause refuses the call, or the lowest bay whose sum reaches the need.
-use mathlib.Core.Path.{_≡_, refl, sym, ap, ap₂, _∙_, subst}
+use mathlib.Core.Path.{_≡_, refl, sym, ap, _∙_, subst}
 use mathlib.Core.Bool.{Bool, true, false, not}
 use mathlib.Core.List.{List, [], _∷_}
 use Prim.Native.Nat.{ℕ, _<_, _≤_}
@@ -24,15 +24,15 @@ use Rattle.calls.specs.State.{Fixed}
 use Rattle.calls.specs.Table.{cause, isEmpty, first, order, refusalOf}
 use Rattle.bay.specs.Bay.{Cell, baySum, put}
 use Rattle.zone.specs.Work.{facts, placeLow}
-use Rattle.bays.specs.Places.{BayN, bayN, baysAt, lowBay}
+use Rattle.bays.specs.Places.{baysOf, bayN, baysAt, lowBay}
 use Rattle.bays.specs.Found.{Found}
-use Rattle.bays.proofs.Low.{low-is, low-found}
-use Rattle.bays.proofs.Zone.{ZoneBays, zone-bays}
+use Rattle.bays.proofs.Low.{low-found}
+use Rattle.bays.proofs.Zone.{ZoneBays, zone-bays, zone-reach}
 use Rattle.place.specs.Fit.{blank}
 use Rattle.place.proofs.Cut.{blank-size}
 use Rattle.place.proofs.Placed.{head-low}
 use Rattle.call_laws.specs.Frame.{zoneAt, PlannedIn, refuses, goes}
-use Rattle.allocate_relocatable.specs.Ready.{baysOf, BayIn, GoingIn, ReadyIn}
+use Rattle.allocate_relocatable.specs.Ready.{BayIn, GoingIn, ReadyIn}
 
 module _ (z : List ℕ) (c : ℕ) where
   abbrev s : Structure
@@ -44,7 +44,7 @@ module _ (z : List ℕ) (c : ℕ) where
   asks t ls u = first order (cause 1 false ∷ cause 3 (not t) ∷ cause 4 (isEmpty ls) ∷ cause 5 (not u) ∷ [])
 
   abbrev fits : Bool
-  fits = leb (relocNeed c) (maxS baySum (baysOf z))
+  fits = leb (relocNeed c) (maxS baySum (baysOf (decodeZone z)))
 
   asked : {t u : Bool} {ls : List ℕ} → leb c relocLimit ≡ t → s .chain ≡ ls → fits ≡ u → (buf : ℕ) → refusalOf (allocate-relocatable c) (facts true (zoneAt buf z)) ≡ asks t ls u
   asked p q r buf = λ j. asks (p j) (q j) (r j)
@@ -90,15 +90,14 @@ module _ (z : List ℕ) (c : ℕ) (l : c ≤ relocLimit) (i : IsZone z) (k : ℕ
   ask-limit = zb .short
 
   module _ (need a e sum tail : ℕ) (f : Bool) (en : need ≡ relocNeed c) (q : bayN f a e sum tail ≡ lowBay need first (baysAt z first)) where
-    reach : leb (relocNeed c) (maxS baySum (baysOf z)) ≡ f
-    reach =
-        ap₂ (λ (m : ℕ) (b : Bays (List Cell) Fixed). leb m (maxS baySum b)) (sym en) (sym (zb .bays)) ∙ sym (low-is need first (baysAt z first)) ∙ ap (λ (b : BayN). b .found) (sym q)
+    reach : leb (relocNeed c) (maxS baySum (baysOf (decodeZone z))) ≡ f
+    reach = ap (λ (m : ℕ). leb m (maxS baySum (baysOf (decodeZone z)))) (sym en) ∙ zone-reach z i first ef need f a e sum tail q
 
-    is-found : f ≡ true → Found (itemSize (blank need k)) (start (decodeZone z)) (length z) (put (blank need k)) (baysOf z) (placeLow (blank need k) (baysOf z)) a e sum tail
+    is-found : f ≡ true → Found (itemSize (blank need k)) (start (decodeZone z)) (length z) (put (blank need k)) (baysOf (decodeZone z)) (placeLow (blank need k) (baysOf (decodeZone z))) a e sum tail
     is-found t =
         let b : need ≡ itemSize (blank need k) = sym (blank-size need k (omega arith)) in
         let p : first ≡ start (decodeZone z) = ef ∙ sym (start-is z (whole-of z i)) in
-        subst (λ (o : ℕ). Found (itemSize (blank need k)) o (length z) (put (blank need k)) (baysOf z) (placeLow (blank need k) (baysOf z)) a e sum tail) p
+        subst (λ (o : ℕ). Found (itemSize (blank need k)) o (length z) (put (blank need k)) (baysOf (decodeZone z)) (placeLow (blank need k) (baysOf (decodeZone z))) a e sum tail) p
         (subst (λ (u : Bays (List Cell) Fixed). Found (itemSize (blank need k)) first (length z) (put (blank need k)) u (placeLow (blank need k) u) a e sum tail) (zb .bays)
         (low-found (itemSize (blank need k)) (length z) (put (blank need k)) f a e sum tail t (baysAt z first) first (zb .tiled) (q ∙ ap (λ (m : ℕ). lowBay m first (baysAt z first)) b)))
 

@@ -15,6 +15,7 @@ use Rattle.calls.specs.Table.{refusalOf}
 use Rattle.bay.specs.Bay.{Cell, put}
 use Rattle.zone.specs.Group.{group, flatten}
 use Rattle.zone.specs.Work.{facts, placeLow}
+use Rattle.bays.specs.Places.{baysOf}
 use Rattle.bays.specs.Found.{Found}
 use Rattle.place.specs.Fit.{blank, Size}
 use Rattle.place.specs.Room.{Room}
@@ -23,11 +24,7 @@ use Rattle.allocate_relocatable.specs.declared.Plan.{Plan}
 
 -- the structure with a new block of need bytes in the lowest bay whose sum reaches them, the chain's head being its handle
 abbrev pub allocated : ℕ → Structure → Structure
-allocated need s = record { chain = rest (s .chain); blocks = flatten (placeLow (blank need (top (s .chain))) (group (start s) (s .blocks))) }
-
--- the bays of the zone z
-abbrev pub baysOf : List ℕ → Bays (List Cell) Fixed
-baysOf z = group (start (decodeZone z)) (decodeZone z .blocks)
+allocated need s = record { chain = rest (s .chain); blocks = flatten (placeLow (blank need (top (s .chain))) (baysOf s)) }
 
 -- the chain's head is h, and the bay from a to e with this sum is the one for need bytes
 pub record BayIn (z : List ℕ) (need h a e sum : ℕ) : Type 0 where
@@ -36,7 +33,7 @@ pub record BayIn (z : List ℕ) (need h a e sum : ℕ) : Type 0 where
   pub is-chain : decodeZone z .chain ≡ h ∷ ks
   pub size : Size need
   pub tail : ℕ
-  pub found : Found (itemSize (blank need h)) (start (decodeZone z)) (length z) (put (blank need h)) (baysOf z) (placeLow (blank need h) (baysOf z)) a e sum tail
+  pub found : Found (itemSize (blank need h)) (start (decodeZone z)) (length z) (put (blank need h)) (baysOf (decodeZone z)) (placeLow (blank need h) (baysOf (decodeZone z))) a e sum tail
 
 -- and there is room for them at `at`; the chain goes on with `next`
 pub record GoingIn (z : List ℕ) (need h next a e at n : ℕ) (tidy : Bool) : Type 0 where

@@ -76,24 +76,10 @@ fn plan_bay(z: &[u8], need: usize, h: usize, start: usize, end: usize, sum: usiz
     ensures { λ r. ⌜ (r .number ≡ 0) × (r .need ≡ need) × Going (now (z .entry)) r ⌝ }
 {
     let next = bigendian::get4(z, h);
-    let hole = place::find_hole(&z[start..end], need);
-    let found = hole.found;
-    let at = hole.at;
-    let size = hole.size;
-    if found {
-        return Plan {
-            number: 0,
-            len: 0,
-            need,
-            handle: h,
-            next,
-            start,
-            end,
-            at: start + at,
-            size,
-            tidy: false,
-        };
-    }
+    let s = place::find_room(z, need, start, end, sum);
+    let at = s.at;
+    let size = s.size;
+    let tidy = s.tidy;
     Plan {
         number: 0,
         len: 0,
@@ -102,9 +88,9 @@ fn plan_bay(z: &[u8], need: usize, h: usize, start: usize, end: usize, sum: usiz
         next,
         start,
         end,
-        at: end - sum,
-        size: sum,
-        tidy: true,
+        at,
+        size,
+        tidy,
     }
 }
 

@@ -13,19 +13,11 @@ use Rattle.kinds.specs.Kinds.{Item}
 use Rattle.calls.specs.State.{is, total, alter, get, sized}
 use Rattle.bay.specs.Bay.{Cell, free, held, baySize, baySum, items, gap, packed, resized, inPlace, growHere, reshape}
 use Rattle.bay.specs.Counted.{count}
-use Rattle.bay.specs.Lead.{leadFree, pastLead}
+use Rattle.bay.specs.Ends.{startFree, pastStart}
 use Rattle.bay.proofs.Laws.{items-append, bsize-split}
 use Rattle.bay.proofs.Sound.{Sound, s-nil, s-end, s-free, s-held}
 use Rattle.bay.proofs.Choice.{packed-is, here-after, at-handle, grows-in-place}
-use Rattle.bay.proofs.Resize.{length-sized, alter-none}
-
-get-none : (h : ℕ) (es : List Item) → count h es ≡ 0 → get h es ≡ none
-get-none h [] q = refl
-get-none h (e ∷ es) q = go (is h e) q (get-none h es)
-  where
-    go : (t : Bool) → cond t (suc (count h es)) (count h es) ≡ 0 → (count h es ≡ 0 → get h es ≡ none) → cond t (some e) (get h es) ≡ none
-    go true p r = absurd (omega arith)
-    go false p r = r p
+use Rattle.bay.proofs.Resize.{length-sized, get-none, alter-none}
 
 -- ---- free bytes in front of sound cells: what follows a free block is not free
 
@@ -45,7 +37,7 @@ gap-free : (n k : ℕ) (cs : List Cell) → 0 < k → gap n (free k ∷ cs) ≡ 
 gap-free zero k cs l = let e : k ≡ 0 + k = omega arith in ap (λ (i : ℕ). free i ∷ cs) e ∙ sym (gap-some (0 + k) cs (omega arith))
 gap-free (suc n) k cs l = sym (gap-some (suc n + k) cs (omega arith))
 
-pub gap-lead : (n : ℕ) {cs : List Cell} → Sound cs → gap n cs ≡ gap (n + leadFree cs) [] ++ pastLead cs
+pub gap-lead : (n : ℕ) {cs : List Cell} → Sound cs → gap n cs ≡ gap (n + startFree cs) [] ++ pastStart cs
 gap-lead n s-nil = let e : n ≡ n + 0 = omega arith in ap (λ (k : ℕ). gap k []) e ∙ sym (append-nil (gap (n + 0) []))
 gap-lead n (s-end {n = k} b) = gap-free n k [] (b .some-bytes)
 gap-lead n (s-free {n = k} {e = e} {cs = cs} b s) = gap-free n k (held e ∷ cs) (b .some-bytes)
@@ -61,10 +53,10 @@ module _ (e : Item) (a : ℕ) (u w : List Cell) (first : count (e .handle) (item
   b = length (e .bytes)
 
   -- there is room right behind it
-  pub reshape-here : Sound w → a ≤ b + leadFree w → reshape h a (u ++ (held e ∷ w)) ≡ u ++ (held (resized a e) ∷ (gap (b + leadFree w - a) [] ++ pastLead w))
+  pub reshape-here : Sound w → a ≤ b + startFree w → reshape h a (u ++ (held e ∷ w)) ≡ u ++ (held (resized a e) ∷ (gap (b + startFree w - a) [] ++ pastStart w))
   reshape-here s l = go (leb a b) refl
     where
-      larger : {cs : List Cell} → Sound cs → b < a → a ≤ b + leadFree cs → reshape h a (u ++ (held e ∷ cs)) ≡ u ++ (held (resized a e) ∷ (gap (b + leadFree cs - a) [] ++ pastLead cs))
+      larger : {cs : List Cell} → Sound cs → b < a → a ≤ b + startFree cs → reshape h a (u ++ (held e ∷ cs)) ≡ u ++ (held (resized a e) ∷ (gap (b + startFree cs - a) [] ++ pastStart cs))
       larger s-nil k m = absurd (omega arith)
       larger (s-held c t) k m = absurd (omega arith)
       larger (s-end {n = n} c) k m =
@@ -75,15 +67,15 @@ module _ (e : Item) (a : ℕ) (u w : List Cell) (first : count (e .handle) (item
           grows-in-place .larger e a n u (held d ∷ cs) (get-none h (items u) first) k (omega arith)
           ∙ ap (λ (t : List Cell). u ++ (held (resized a e) ∷ t)) (gap-held (n - (a - b)) d cs ∙ ap (λ (i : ℕ). gap i [] ++ (held d ∷ cs)) q)
 
-      go : (t : Bool) → leb a b ≡ t → reshape h a (u ++ (held e ∷ w)) ≡ u ++ (held (resized a e) ∷ (gap (b + leadFree w - a) [] ++ pastLead w))
+      go : (t : Bool) → leb a b ≡ t → reshape h a (u ++ (held e ∷ w)) ≡ u ++ (held (resized a e) ∷ (gap (b + startFree w - a) [] ++ pastStart w))
       go true k =
-          let q : b - a + leadFree w ≡ b + leadFree w - a = omega (arith, leb-true a b k) in
+          let q : b - a + startFree w ≡ b + startFree w - a = omega (arith, leb-true a b k) in
           grows-in-place .smaller e a u w (get-none h (items u) first) (leb-true a b k)
-          ∙ ap (λ (t : List Cell). u ++ (held (resized a e) ∷ t)) (gap-lead (b - a) s ∙ ap (λ (n : ℕ). gap n [] ++ pastLead w) q)
+          ∙ ap (λ (t : List Cell). u ++ (held (resized a e) ∷ t)) (gap-lead (b - a) s ∙ ap (λ (n : ℕ). gap n [] ++ pastStart w) q)
       go false k = larger s (leb-false a b k) l
 
   -- there is not: the bay is laid out
-  no-room : (cs : List Cell) → b + leadFree cs < a → inPlace e a cs ≡ none
+  no-room : (cs : List Cell) → b + startFree cs < a → inPlace e a cs ≡ none
   no-room [] l = rw (lt-leb a b (omega arith))
   no-room (held d ∷ cs) l = rw (lt-leb a b (omega arith))
   no-room (free k ∷ cs) l = rw (lt-leb a b (omega arith), lt-leb (a - b) k (omega arith))
@@ -95,7 +87,7 @@ module _ (e : Item) (a : ℕ) (u w : List Cell) (first : count (e .handle) (item
   alter-one : alter h (sized a) e ≡ resized a e
   alter-one = rw (eq-eqb h h refl)
 
-  pub reshape-laid : count h (items w) ≡ 0 → b + leadFree w < a → a - b ≤ baySum (u ++ (held e ∷ w))
+  pub reshape-laid : count h (items w) ≡ 0 → b + startFree w < a → a - b ≤ baySum (u ++ (held e ∷ w))
       → reshape h a (u ++ (held e ∷ w)) ≡ map held (items u) ++ (held (resized a e) ∷ (map held (items w) ++ gap (baySum (u ++ (held e ∷ w)) - (a - b)) []))
   reshape-laid last l m =
       let cs = u ++ (held e ∷ w) in

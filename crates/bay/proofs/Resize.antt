@@ -20,6 +20,15 @@ use Rattle.bay.proofs.Sound.{Block, Sound, s-nil, s-end, s-free, s-held
 pub length-sized : (a : ℕ) (l : List ℕ) → length (sized a l) ≡ a
 length-sized a l = simp (length-append, length-take, length-replicate) (omega arith)
 
+-- without the handle
+pub get-none : (h : ℕ) (es : List Item) → count h es ≡ 0 → get h es ≡ none
+get-none h [] q = refl
+get-none h (e ∷ es) q = go (is h e) q (get-none h es)
+  where
+    go : (t : Bool) → cond t (suc (count h es)) (count h es) ≡ 0 → (count h es ≡ 0 → get h es ≡ none) → cond t (some e) (get h es) ≡ none
+    go true p r = absurd (omega arith)
+    go false p r = r p
+
 pub alter-none : (h : ℕ) (f : List ℕ → List ℕ) (es : List Item) → count h es ≡ 0 → map (alter h f) es ≡ es
 alter-none h f [] q = refl
 alter-none h f (e ∷ es) q = go (is h e) refl q (λ k. alter-none h f es k)

@@ -18,3 +18,9 @@ endFree (c ∷ (d ∷ cs)) = endFree (d ∷ cs)
 abbrev pub startFree : List Cell → ℕ
 startFree [] = 0
 startFree (c ∷ cs) = freePart c
+
+-- and what stands behind that block
+abbrev pub pastStart : List Cell → List Cell
+pastStart [] = []
+pastStart (free n ∷ cs) = cs
+pastStart (held e ∷ cs) = held e ∷ cs

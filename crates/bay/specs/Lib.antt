@@ -4,4 +4,3 @@ pub mod Sound
 pub mod Choice
 pub mod Counted
 pub mod Ends
-pub mod Lead

@@ -33,7 +33,7 @@ module _ {f : List Cell → List Cell} where
 
 -- ---- sizes
 
-no-sizes : sizes [] ≡ 0
+pub no-sizes : sizes [] ≡ 0
 unfolding sizes
 no-sizes = refl
 
@@ -43,7 +43,7 @@ bay-sizes [] r = omega arith
 bay-sizes (d ∷ c) r = omega (arith, bay-sizes c r)
 
 -- the blocks up to a bay, with one bay and one fixed block more in front
-later-sizes : (c : List Cell) (x : Fixed) (pre : List Block) → sizes (flatBay c (fixed (x .bytes) ∷ pre)) ≡ baySize c + (fsize x + sizes pre)
+pub later-sizes : (c : List Cell) (x : Fixed) (pre : List Block) → sizes (flatBay c (fixed (x .bytes) ∷ pre)) ≡ baySize c + (fsize x + sizes pre)
 unfolding sizes
 later-sizes c x pre = bay-sizes c (fixed (x .bytes) ∷ pre)
 

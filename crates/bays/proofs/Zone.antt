@@ -1,9 +1,11 @@
 -- The bays of a well-formed zone are those of its structure and tiled, and its bytes are what a search asks for.
 use mathlib.Core.Path.{_≡_, sym, ap, ap₂, _∙_}
+use mathlib.Core.Bool.{Bool}
 use mathlib.Core.List.{List}
 use Prim.Native.Nat.{ℕ, _≤_}
 use native.Mathlib.Omega.{arith}
 use lib.ListN.{length, drop}
+use lib.Dec.{leb}
 use Rattle.block_type.specs.Limits.{longestZone}
 use Rattle.format.specs.WellFormed.{firstField}
 use Rattle.structure.specs.Structure.{Block, Structure, count, start, len, decodeZone}
@@ -14,12 +16,16 @@ use Rattle.access.specs.Edit.{IsZone}
 use Rattle.access.proofs.Zone.{whole-of}
 use Rattle.row.specs.Row.{Row}
 use Rattle.row.proofs.Zone.{blocks-are, zone-row, zone-start, zone-short}
+use Rattle.calls.specs.Bays.{Bays, maxS}
+use Rattle.calls.specs.State.{Fixed}
+use Rattle.bay.specs.Bay.{Cell, baySum}
 use Rattle.zone.specs.Group.{group}
 use Rattle.zone.proofs.Places.{Tiled}
 use Rattle.zone.specs.Call.{inBays}
 use Rattle.zone.proofs.Grouped.{line-bays, whole-bays}
 use Rattle.zone.proofs.Keep.{count-line}
-use Rattle.bays.specs.Places.{baysAt}
+use Rattle.bays.specs.Places.{baysOf, baysAt, BayN, bayN, lowBay}
+use Rattle.bays.proofs.Low.{low-is}
 
 -- ---- the bays; the blocks begin at `first`
 
@@ -27,7 +33,7 @@ pub record ZoneBays (z : List ℕ) (first : ℕ) : Type 0 where
   pub row : Row (drop first z)
   pub low : first ≤ length z
   pub short : length z ≤ longestZone
-  pub bays : baysAt z first ≡ group (start (decodeZone z)) (decodeZone z .blocks)
+  pub bays : baysAt z first ≡ baysOf (decodeZone z)
   pub tiled : Tiled first (baysAt z first) (length z)
 
 module _ (z : List ℕ) (i : IsZone z) (first : ℕ) (ef : first ≡ firstField z) where
@@ -43,7 +49,7 @@ module _ (z : List ℕ) (i : IsZone z) (first : ℕ) (ef : first ≡ firstField 
   start-of : first ≡ start s
   start-of = ef ∙ sym (start-is z w)
 
-  bays-are : baysAt z first ≡ group (start s) (s .blocks)
+  bays-are : baysAt z first ≡ baysOf s
   bays-are = ap₂ (λ (p : ℕ) (bs : List Block). group p bs) start-of (blocks-are z first ef)
 
   len-of : len s ≡ length z
@@ -63,3 +69,8 @@ module _ (z : List ℕ) (i : IsZone z) (first : ℕ) (ef : first ≡ firstField 
     bays = bays-are;
     tiled = tiled-is;
   }
+
+  -- whether the sum of a bay reaches the need, as the search for the lowest tells
+  pub zone-reach : (need : ℕ) (f : Bool) (a e sum tail : ℕ) → bayN f a e sum tail ≡ lowBay need first (baysAt z first) → leb need (maxS baySum (baysOf (decodeZone z))) ≡ f
+  zone-reach need f a e sum tail q =
+      ap (λ (b : Bays (List Cell) Fixed). leb need (maxS baySum b)) (sym bays-are) ∙ sym (low-is need first (baysAt z first)) ∙ ap (λ (b : BayN). b .found) (sym q)

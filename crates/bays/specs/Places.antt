@@ -9,7 +9,12 @@ use Rattle.calls.specs.State.{Fixed, fsize}
 use Rattle.bay.specs.Bay.{Cell, baySize, baySum}
 pub use Rattle.bay.specs.Ends.{freePart, endFree}
 use Rattle.row.specs.Row.{blocksOf}
+use Rattle.structure.specs.Structure.{Structure, start}
 use Rattle.zone.specs.Group.{group}
+
+-- the bays of a structure
+abbrev pub baysOf : Structure → Bays (List Cell) Fixed
+baysOf s = group (start s) (s .blocks)
 
 -- the bays of the bytes from offset p on
 abbrev pub baysAt : List ℕ → ℕ → Bays (List Cell) Fixed

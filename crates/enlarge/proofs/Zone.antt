@@ -36,7 +36,7 @@ use Rattle.bay.proofs.SoundLaws.{gap-sound}
 use Rattle.zone.specs.Group.{flatten}
 use Rattle.zone.specs.Work.{facts}
 use Rattle.zone.proofs.GroupLaws.{flatten-group}
-use Rattle.bays.specs.Places.{BayN, bayN, baysAt, highBay, endFree}
+use Rattle.bays.specs.Places.{baysOf, BayN, bayN, baysAt, highBay, endFree}
 use Rattle.bays.specs.Found.{FoundLast}
 use Rattle.bays.proofs.At.{at-old, at-new}
 use Rattle.bays.proofs.High.{last-found}
@@ -44,7 +44,7 @@ use Rattle.settle.proofs.Cells.{all-sizes, all-sound}
 use Rattle.bay_end.proofs.Found.{zone-tiled, zone-high}
 use Rattle.bay_end.proofs.End.{rest, rest-behind, rest-size, lens, end-changed}
 use Rattle.call_laws.specs.Frame.{zoneAt, Does}
-use Rattle.enlarge.specs.Enlarge.{accepts, baysOf, grow, longer, lastFree}
+use Rattle.enlarge.specs.Enlarge.{accepts, grow, longer, lastFree}
 use Rattle.enlarge.proofs.Last.{solid, solid-is, grow-is}
 
 -- ---- what is accepted

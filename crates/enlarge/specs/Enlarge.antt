@@ -9,14 +9,11 @@ use Rattle.calls.specs.Bays.{Bays, onLast}
 use Rattle.calls.specs.State.{Fixed}
 use Rattle.bay.specs.Bay.{Cell, gap, joinBays}
 use Rattle.zone.specs.Group.{group, flatten}
-use Rattle.bays.specs.Places.{highBay}
+use Rattle.bays.specs.Places.{baysOf, highBay}
 
 -- "k no multiple of 4, or L + k past the buffer or 1,048,576"; n is L + k
 abbrev pub accepts : ℕ → ℕ → ℕ → Bool
 accepts buf n k = eqb (k % 4) 0 && leb n buf && leb n longestZone
-
-abbrev pub baysOf : Structure → Bays (List Cell) Fixed
-baysOf s = group (start s) (s .blocks)
 
 -- k free bytes more at the end of a bay
 abbrev pub grow : ℕ → List Cell → List Cell

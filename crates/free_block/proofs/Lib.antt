@@ -5,3 +5,6 @@ pub mod Bytes
 pub mod Between
 pub mod Found
 pub mod Around
+pub mod Own
+pub mod Itself
+pub mod Live

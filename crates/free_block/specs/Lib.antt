@@ -1,2 +1,3 @@
 pub mod Around
+pub mod Freed
 pub mod Walk

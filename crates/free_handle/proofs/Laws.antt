@@ -15,78 +15,30 @@ use Rattle.bay.specs.Bay.{free, held, baySize}
 use Rattle.structure.specs.Structure.{sizes, start, decodeZone, encode, encodeBlock, cell}
 use Rattle.structure.specs.Valid.{handlesOf}
 use Rattle.access.specs.Edit.{placeIn, dataIn, IsZone}
-use Rattle.access.proofs.Zone.{whole-of}
-use Rattle.row.specs.Row.{Row}
 use Rattle.blank.specs.Between.{Between}
-use Rattle.free_block.specs.Around.{Around}
+use Rattle.free_block.specs.Freed.{freed}
 use Rattle.free_block.specs.Walk.{Stopped, Extended}
-use Rattle.free_block.proofs.Found.{block-fits, prev-fits, end-row, freeing}
+use Rattle.free_block.proofs.Live.{block, its, live-is, freeing-in}
 use Rattle.free_block.proofs.Between.{freeing-between, freeing-master, freeing-owned}
 use Rattle.calls.specs.Calls.{told, free-handle}
 use Rattle.zone.specs.Call.{result, call}
 use Rattle.call_laws.specs.Frame.{PlannedIn, refuses, goes, Planned}
 use Rattle.call_laws.proofs.Outcome.{none-lent}
 use Rattle.call_laws.proofs.Frame.{frame-ready, frame-done}
-use Rattle.free_handle.specs.Ready.{freed, ReadyIn}
+use Rattle.free_handle.specs.Ready.{ReadyIn}
 use Rattle.free_handle.proofs.Bays.{no-block, frees}
-use Rattle.free_handle.proofs.Block.{block, around, its, place-is, data-is}
 
 -- ---- the plan
 
 pub in-6 : (z : List ℕ) (h a number : ℕ) (R : Type 0) → a ≡ placeIn z h → a ≡ 0 → number ≡ 6 → PlannedIn (free-handle h) z number R
 in-6 z h a number R e q k = refuses (rw k (no-block z h (sym e ∙ q)))
 
-module _ (z : List ℕ) (i : IsZone z) (h place : ℕ) (e : place ≡ placeIn z h) (ne : place ≡ 0 → ⊥) where
-  live : placeIn z h ≡ 0 → ⊥
-  live q = ne (e ∙ q)
-
-  abbrev b : Item
-  b = block z i h live
-
-  abbrev a : Around (decodeZone z .blocks) (freed h (decodeZone z) .blocks) (cell (held b))
-  a = around z i h live
-
-  pub data-low : relocHeader ≤ place
-  data-low = omega (arith, place-is z i h live)
-
-  abbrev at : ℕ
-  at = place - relocHeader
-
-  at-is : at ≡ start (decodeZone z) + (sizes (a .pre) + baySize (a .low))
-  at-is = omega (arith, place-is z i h live)
-
-  room : at + itemSize b ≤ length z
-  room = block-fits z i (firstField z) refl (freed h (decodeZone z) .blocks) (cell (held b)) a at at-is
-
-  pub at-fits : at ≤ length z
-  at-fits = omega (arith, room)
-
-  module _ (n : ℕ) (en : n ≡ length (dataIn z h)) where
-    end-is : place + n ≡ at + itemSize b
-    end-is = omega (arith, data-is z i h live, data-low)
-
-    pub end-word : Fits w64 (place + n)
-    end-word = record { fits = omega (arith, end-is, room, whole-of z i .limit, whole-of z i .all) }
-
-    module _ (first : ℕ) (ef : first ≡ firstField z) (prev stop : ℕ) (p : Stopped z first at prev stop) where
-      pub prev-in : prev < length z
-      prev-in = prev-fits z i first ef (freed h (decodeZone z) .blocks) (cell (held b)) a at at-is prev stop p
-
-      pub row-in : Row (drop (place + n) z)
-      row-in = end-row z i first ef (freed h (decodeZone z) .blocks) (cell (held b)) a at at-is prev stop p (place + n) end-is
-
-      pub end-in : place + n ≤ length z
-      end-in = omega (arith, end-is, room)
-
-      pub in-0 : (head from to : ℕ) → Extended z prev at (place + n) from to → head ≡ fromBE (slice z 12 2) → PlannedIn (free-handle h) z 0 (ReadyIn z h head from at (place + n) to)
-      in-0 head from to x q =
-          goes refl (record {
-            live = live;
-            block = b;
-            its = its z i h live;
-            freeing = freeing z i first ef (freed h (decodeZone z) .blocks) (cell (held b)) a at at-is prev stop p (place + n) end-is from to x;
-            is-head = q;
-          })
+pub in-0 : (z : List ℕ) (i : IsZone z) (h place : ℕ) → place ≡ placeIn z h → (place ≡ 0 → ⊥) → (n : ℕ) → n ≡ length (dataIn z h) → (first : ℕ) → first ≡ firstField z
+    → (prev stop : ℕ) → Stopped z first (place - relocHeader) prev stop → (head from to : ℕ) → Extended z prev (place - relocHeader) (place + n) from to → head ≡ fromBE (slice z 12 2)
+    → PlannedIn (free-handle h) z 0 (ReadyIn z h head from (place - relocHeader) (place + n) to)
+in-0 z i h place e ne n en first ef prev stop p head from to x q =
+    let l = live-is z i h place e ne in
+    goes refl (record { live = l; block = block z i h l; its = its z i h l; freeing = freeing-in z i h place e ne n en first ef prev stop p from to x; is-head = q })
 
 -- ---- the writes
 
@@ -119,4 +71,4 @@ module _ (s : List ℕ) (h number l head from at end to : ℕ) (p : Planned (fre
   call-ready = frame-ready (free-handle h) s number l _ p z
 
   pub call-out : (y : List ℕ) → ((i : ℕ) → Fits w8 (getD s i 0)) → y ≡ encode (freed h (decodeZone (take l s))) → result (told 0 0) (y ++ drop l s) ≡ call (free-handle h) s
-  call-out y g q = frame-done (free-handle h) s number l _ p g z (frees (take l s) h (call-ready .live) (length s)) none-lent refl y q
+  call-out y g q = frame-done (free-handle h) s number l _ p g z (frees (take l s) h (call-ready .freeing .zone) (call-ready .live) (length s)) none-lent refl y q

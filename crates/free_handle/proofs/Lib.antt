@@ -1,4 +1,3 @@
 pub mod Bays
-pub mod Block
 pub mod Laws
 pub mod Outcome

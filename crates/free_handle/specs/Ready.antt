@@ -1,20 +1,15 @@
--- What the plan of a free by handle hands over, and what the call leaves.
+-- What the plan of a free by handle hands over.
 use mathlib.Core.Path.{_≡_}
-use mathlib.Core.List.{List, _∷_}
+use mathlib.Core.List.{List}
 use Prim.Native.Nat.{ℕ}
 use Rattle.bigendian.specs.BigEndian.{fromBE, slice}
 use Rattle.kinds.specs.Kinds.{Item, masterOf}
-use Rattle.bay.specs.Bay.{held, release}
-use Rattle.structure.specs.Structure.{Structure, start, decodeZone, cell}
+use Rattle.bay.specs.Bay.{held}
+use Rattle.structure.specs.Structure.{decodeZone, cell}
 use Rattle.access.specs.Edit.{placeIn}
-use Rattle.calls.specs.Bays.{mapS}
-use Rattle.zone.specs.Group.{group, flatten}
 use Rattle.free_block.specs.Around.{Freeing}
+use Rattle.free_block.specs.Freed.{freed}
 use Rattle.free_handle.specs.declared.FreePlan.{FreePlan}
-
--- the structure without the block of handle h, which is the chain's head then
-abbrev pub freed : ℕ → Structure → Structure
-freed h s = record { chain = h ∷ s .chain; blocks = flatten (mapS (release h) (group (start s) (s .blocks))) }
 
 pub record ReadyIn (z : List ℕ) (h head from at end to : ℕ) : Type 0 where
   pub live : placeIn z h ≡ 0 → ⊥

@@ -8,7 +8,8 @@ ghost use Rattle.calls.specs.Calls.{told, free-handle};
 ghost use Rattle.zone.specs.Call.{result, call};
 ghost use lib.ListN.{take};
 ghost use Rattle.call_laws.specs.Frame.{PlannedIn, Planned};
-ghost use Rattle.free_handle.specs.Ready.{freed, Ready};
+ghost use Rattle.free_block.specs.Freed.{freed};
+ghost use Rattle.free_handle.specs.Ready.{Ready};
 
 pub struct FreePlan {
     pub number: u32,

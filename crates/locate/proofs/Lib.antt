@@ -1,3 +1,4 @@
 pub mod Among
+pub mod Live
 pub mod Laws
 pub mod Data

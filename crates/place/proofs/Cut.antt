@@ -15,7 +15,7 @@ use Rattle.kinds.proofs.KindLaws.{tag-long, facts}
 use Rattle.bay.specs.Bay.{free, held, gap}
 use Rattle.bay.specs.Bytes.{encodeCell}
 use Rattle.bay.specs.Sound.{bytesOf}
-use Rattle.bay.proofs.BayBytes.{gap-some, gap-none}
+use Rattle.bay.proofs.BayBytes.{drop-zeros, gap-some, gap-none}
 use Rattle.place.specs.Fit.{blank, Fit}
 
 -- a write right behind a write
@@ -33,14 +33,6 @@ write-pad z u v at k n e ev l =
     let s : drop (at + length u) z ≡ v ++ drop (k + n) z =
     sym (take-append-drop n (drop (at + length u) z)) ∙ (rw (← e, ev, drop-drop)) in
     rw (s, f) (simp append-assoc)
-
-drop-zeros : (k n : ℕ) → drop {A = ℕ} k (replicate n 0) ≡ replicate (n - k) 0
-drop-zeros zero n = let e : n - 0 ≡ n = omega arith in rw e
-drop-zeros (suc k) zero = refl′ (suc k)
-  where
-    refl′ : (k : ℕ) → [] ≡ replicate {A = ℕ} (0 - k) 0
-    refl′ k = let e : 0 - k ≡ 0 = omega arith in rw e
-drop-zeros (suc k) (suc n) = let e : suc n - suc k ≡ n - k = omega arith in rw e (drop-zeros k n)
 
 take-zeros : (k n : ℕ) → k ≤ n → take {A = ℕ} k (replicate n 0) ≡ replicate k 0
 take-zeros zero n l = refl

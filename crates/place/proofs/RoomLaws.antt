@@ -14,18 +14,9 @@ use Rattle.bay.specs.Bay.{Cell, free, held, baySize, baySum, items, gap, packed
 use Rattle.bay.proofs.Choice.{packed-is}
 use Rattle.bay.proofs.Each.{Each, just}
 use Rattle.bay.proofs.Holes.{Part, holes-are, choose-all}
-use Rattle.bay.proofs.Laws.{bsize-split, bsize-append, tidy-size}
+use Rattle.bay.proofs.Laws.{bsize-split}
 use Rattle.place.specs.Hole.{HoleN, holeN, holeAt}
 use Rattle.place.specs.Room.{Room}
-
--- the block lies inside the bay
-pub room-inside : {e : Item} {bay : List Cell} {a at n : ℕ} {tidy : Bool} → Room e bay a at n tidy → at + n ≤ a + baySize bay
-room-inside {bay = bay} {tidy = tidy} r =
-    omega (arith, r .place, r .size, sym (ap baySize (r .is)) ∙ same tidy, bsize-append (r .hole .before) (free (r .hole .size) ∷ r .hole .after))
-  where
-    same : (t : Bool) → baySize (cond t (compactBay bay) bay) ≡ baySize bay
-    same true = tidy-size bay
-    same false = refl
 
 held-sizes : (es : List Item) → baySize (map held es) ≡ total es
 held-sizes [] = refl

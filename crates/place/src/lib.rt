@@ -10,6 +10,7 @@ ghost use Rattle.bay.specs.Bay.{held, gap, holes, choose};
 ghost use Rattle.bay.specs.Sound.{bytesOf, cellsOf, IsBay};
 ghost use Rattle.place.specs.Hole.{holeN, holeAt};
 ghost use Rattle.place.specs.Fit.{blank, Fit};
+ghost use Rattle.place.specs.Room.{BayFor, RoomFor};
 
 pub struct Hole {
     pub found: bool,
@@ -39,6 +40,35 @@ pub fn find_hole(s: &[u8], need: usize) -> Hole
         found: false,
         at: 0,
         size: 0,
+    }
+}
+
+pub struct Site {
+    pub at: usize,
+    pub size: usize,
+    pub tidy: bool,
+}
+
+// Where need bytes go in the bay from start to end: the free block that is chosen, or the one that compacting leaves.
+pub fn find_room(z: &[u8], need: usize, start: usize, end: usize, sum: usize) -> Site
+    requires { ⌜ BayFor (now z) need start end sum ⌝ }
+    ensures { λ r. ⌜ RoomFor (now (z .entry)) need start end (r .at) (r .size) (r .tidy) ⌝ }
+{
+    let hole = find_hole(&z[start..end], need);
+    let found = hole.found;
+    let at = hole.at;
+    let size = hole.size;
+    if found {
+        return Site {
+            at: start + at,
+            size,
+            tidy: false,
+        };
+    }
+    Site {
+        at: end - sum,
+        size: sum,
+        tidy: true,
     }
 }
 

@@ -16,8 +16,8 @@ use Rattle.structure.specs.Structure.{Structure, encode, decode, decodeZone}
 use Rattle.structure.specs.Valid.{Valid}
 use Rattle.structure.proofs.Round.{length-is, heads-self, well-formed, decode-encode}
 use Rattle.access.specs.Edit.{IsZone, is-zone, placeIn, dataIn}
-use Rattle.free_handle.proofs.Bays.{place-gone, place-live}
-use Rattle.relocate.specs.Relocate.{baysOf}
+use Rattle.bays.specs.Places.{baysOf}
+use Rattle.locate.proofs.Live.{place-gone, place-live}
 
 zone-self : (s : Structure) → Valid s → zoneOf (encode s) ≡ encode s
 zone-self s v = take-all (lengthField (encode s)) (encode s) (omega (arith, heads-self s v .is-len, length-is s v))
@@ -33,7 +33,7 @@ abbrev find : ℕ → Bays (List Cell) Fixed → Option Item
 find h s = findS (λ (c : List Cell). get h (items c)) s
 
 -- the data of a handle that is found, and that it has a place
-pub its-data : (z : List ℕ) (h : ℕ) (e : Item) → find h (baysOf z) ≡ some e → (placeIn z h ≡ 0 → ⊥) × (dataIn z h ≡ e .bytes)
+pub its-data : (z : List ℕ) (h : ℕ) (e : Item) → find h (baysOf (decodeZone z)) ≡ some e → (placeIn z h ≡ 0 → ⊥) × (dataIn z h ≡ e .bytes)
 unfolding placeIn dataIn
 its-data z h e f =
     let ne : (placeIn z h ≡ 0 → ⊥) = λ q. (let y = sym f ∙ place-gone h (decodeZone z) q in let x : _≡_ {A = ℕ} 0 1 = cc in omega arith) in

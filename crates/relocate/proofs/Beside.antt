@@ -18,10 +18,10 @@ use Rattle.bay.proofs.Free.{release-none, released}
 use Rattle.zone.specs.PickBays.{AllS}
 use Rattle.zone.specs.Group.{flatBay, flatten}
 use Rattle.zone.proofs.Found.{often, count-get}
-use Rattle.bays.proofs.At.{bay-sizes}
+use Rattle.bays.proofs.At.{no-sizes, later-sizes}
 use Rattle.free_block.specs.Around.{Around}
 use Rattle.free_block.proofs.Around.{around-same, around-later}
-use Rattle.free_handle.proofs.Bays.{none-released, around-own, own-block}
+use Rattle.free_block.proofs.Own.{none-released, around-own, own-block}
 use Rattle.relocate.specs.Slot.{Slot, at-end, at-fixed, behind, plug, others, blocksBefore}
 use Rattle.relocate.specs.Move.{Apart, below, above}
 use Rattle.relocate.proofs.Slots.{plug-map, behind-sizes}
@@ -52,21 +52,13 @@ pub record Beside (h : ℕ) (e : Item) (k : Slot) (c : List Cell) : Type 0 where
   pub its : is h e ≡ true
   pub apart : Apart (lowEnd around) (highEnd (itemSize e) around) (sizes (blocksBefore k)) (baySize c)
 
-no-sizes : sizes [] ≡ 0
-unfolding sizes
-no-sizes = refl
-
-later-pre : (c : List Cell) (x : Fixed) (pre : List Block) → sizes (map cell c ++ (fixed (x .bytes) ∷ pre)) ≡ baySize c + (fsize x + sizes pre)
-unfolding sizes
-later-pre c x pre = bay-sizes c (fixed (x .bytes) ∷ pre)
-
 module _ (h : ℕ) (e : Item) where
   -- a bay that has not the handle, and a block behind it
   in-rest : (x : Fixed) (s : Bays (List Cell) Fixed) (c : List Cell) → AllS Sound s → live h s ≤ 1 → find h s ≡ some e → Beside h e (at-fixed x s) c
   in-rest x s c d l f =
       let o = own-block h e s d l f in
       let a = around-later c (x .bytes) (o .0) in
-      record { around = a; its = o .1; apart = above (omega (arith, later-pre c x (o .0 .pre), no-sizes)) }
+      record { around = a; its = o .1; apart = above (omega (arith, later-sizes c x (o .0 .pre), no-sizes)) }
 
   -- a block in the first bay
   in-first : (b : List Cell) (x : Fixed) (k : Slot) (c : List Cell) → Sound b → AllS Sound (plug k c) → Sound c → get h (items b) ≡ some e → count h (items b) ≤ 1 → live h (plug k c) ≡ 0 → count h (items c) ≡ 0
@@ -94,8 +86,8 @@ module _ (h : ℕ) (e : Item) where
     where
       go : Apart (lowEnd (r .around)) (highEnd (itemSize e) (r .around)) (sizes (blocksBefore k)) (baySize c)
           → Apart (sizes (map cell b ++ (fixed (x .bytes) ∷ r .around .pre)) + (baySize (r .around .low) - endFree (r .around .low))) (sizes (map cell b ++ (fixed (x .bytes) ∷ r .around .pre)) + baySize (r .around .low) + itemSize e + startFree (r .around .high)) (sizes (blocksBefore (behind b x k))) (baySize c)
-      go (below q) = below (omega (arith, later-pre b x (r .around .pre), behind-sizes b x k))
-      go (above q) = above (omega (arith, later-pre b x (r .around .pre), behind-sizes b x k))
+      go (below q) = below (omega (arith, later-sizes b x (r .around .pre), behind-sizes b x k))
+      go (above q) = above (omega (arith, later-sizes b x (r .around .pre), behind-sizes b x k))
 
   pub beside : (k : Slot) (c : List Cell) → Sound c → AllS Sound (plug k c) → live h (plug k c) ≤ 1 → count h (items c) ≡ 0 → find h (plug k c) ≡ some e → Beside h e k c
   beside at-end c dc d l m f = go (get h (items c)) (count-get h (items c) l) f

@@ -8,35 +8,29 @@ use Rattle.format.specs.WellFormed.{firstField}
 use Rattle.block_type.specs.Limits.{relocHeader}
 use Rattle.bigendian.specs.BigEndian.{toBE, slice, overwrite}
 use Rattle.kinds.specs.Kinds.{Item, itemSize}
-use Rattle.calls.specs.Calls.{free-handle}
 use Rattle.calls.specs.Bays.{Bays}
 use Rattle.calls.specs.State.{Fixed}
 use Rattle.bay.specs.Bay.{held, gap, fill, baySize, release}
 use Rattle.bay.specs.Sound.{bytesOf, Sound1}
 use Rattle.bay.proofs.Laws.{release-size}
 use Rattle.bay.proofs.Resize.{length-sized}
-use Rattle.structure.specs.Structure.{Block, cell, Structure, sizes, start, len, encodeBlock, encode, decodeZone}
+use Rattle.structure.specs.Structure.{Block, cell, Structure, sizes, start, encodeBlock, encode, decodeZone}
 use Rattle.structure.specs.Valid.{Valid}
 use Rattle.structure.proofs.Table.{encode-zone}
 use Rattle.access.specs.Edit.{placeIn, dataIn}
 use Rattle.zone.specs.Group.{flatten}
-use Rattle.zone.specs.Work.{work}
-use Rattle.zone.specs.Call.{inBays}
-use Rattle.zone.proofs.Grouped.{work-whole}
-use Rattle.zone.proofs.Keep.{valid-line}
-use Rattle.call_laws.proofs.Outcome.{none-lent}
 use Rattle.free_block.specs.Walk.{Stopped, Extended}
-use Rattle.free_handle.specs.Ready.{freed}
-use Rattle.free_handle.proofs.Bays.{frees}
+use Rattle.free_block.specs.Freed.{freed}
+use Rattle.free_block.proofs.Live.{freed-valid}
 use Rattle.bay.specs.Bay as Bay
 use Rattle.relocate.specs.Slot.{Slot, others, blocksBefore, blocksAfter}
 use Rattle.relocate.specs.Move.{movedBytes}
 use Rattle.relocate.specs.Relocate.{itemOf, OldPlace, old-place, Carry, carry-in, carriedTo, Carried}
 use Rattle.relocate.proofs.Slots.{plug-flat, others-sizes}
-use Rattle.relocate.proofs.Itself.{its-place, its-data}
+use Rattle.free_block.proofs.Itself.{its-place, its-data}
 use Rattle.relocate.proofs.Moved.{moved}
 use Rattle.relocate.proofs.Data.{new-long, new-data}
-use Rattle.relocate.proofs.Carrying.{w, v, wb, block, data-is, around, its, b-is, master, freed-bays, fit, from-place, to-place, apart}
+use Rattle.relocate.proofs.Carrying.{w, v, block, data-is, around, its, b-is, master, freed-bays, fit, from-place, to-place, apart}
 
 module _ (z : List ℕ) (h b a at n : ℕ) (x : Carry z h b a at n) where
   abbrev s : Structure
@@ -52,10 +46,8 @@ module _ (z : List ℕ) (h b a at n : ℕ) (x : Carry z h b a at n) where
   is-z = encode-zone z (w z h b a at n (carry-in x))
 
   -- the structure without the block is valid
-  freed-valid : Valid (freed h (decodeZone z))
-  freed-valid =
-      valid-line ((work (free-handle h) (inBays (len s) s)) .next)
-      (work-whole (free-handle h) (inBays (len s) s) none-lent (wb z h b a at n (carry-in x)) (frees z h (x .grows .live) (len s) .passed))
+  valid-freed : Valid (freed h (decodeZone z))
+  valid-freed = freed-valid z (x .grows .zone) h (x .grows .live)
 
   freed-parts : freed h s .blocks ≡ blocksBefore k′ ++ (map cell (x .bay) ++ blocksAfter k′)
   freed-parts = ap (λ (u : Bays (List Bay.Cell) Fixed). flatten u) (freed-bays z h b a at n (carry-in x)) ∙ plug-flat k′ (x .bay)
@@ -96,7 +88,7 @@ module _ (z : List ℕ) (h b a at n : ℕ) (x : Carry z h b a at n) where
         ∙ ap (λ (l : List ℕ). movedBytes z h from to at n (relocHeader + a) l) data-here
         ∙ ap (λ (t : List ℕ). overwrite (overwrite t h m) from u) (new-data z d at h a (n - (relocHeader + a)) (omega (arith, x .grows .more, x .grows .is-b)) (omega (arith, f .inside)))
         ∙ ap₂ (λ (t : List ℕ) (i : ℕ). overwrite (overwrite (overwrite t at (bytesOf (held e ∷ gap i []))) h m) from u) (sym is-z) j
-        ∙ moved s (v z h b a at n (carry-in x)) (around z h b a at n (carry-in x)) h (its z h b a at n (carry-in x)) freed-valid (blocksBefore k′) (blocksAfter k′) (x .bay) freed-parts (x .hole) (x .is) e refl ok (omega (arith, size-is, x .fits)) long
+        ∙ moved s (v z h b a at n (carry-in x)) (around z h b a at n (carry-in x)) h (its z h b a at n (carry-in x)) valid-freed (blocksBefore k′) (blocksAfter k′) (x .bay) freed-parts (x .hole) (x .is) e refl ok (omega (arith, size-is, x .fits)) long
         at from to place-new (from-place z h b a at n (carry-in x) old eo first ef prev stop p from to q) (to-place z h b a at n (carry-in x) old eo first ef prev stop p from to q) (apart z h b a at n (carry-in x) old eo first ef prev stop p from to q)
         ∙ ap (λ (bs : List Block). encode (record { chain = s .chain; blocks = bs })) (sym (plug-flat k′ (fill e (x .hole))))
 

@@ -40,17 +40,18 @@ use Rattle.free_block.proofs.Parts as Parts
 use Rattle.free_block.proofs.Found as Found
 use Rattle.free_block.proofs.Between.{freeing-between}
 use Rattle.free_block.proofs.Bytes.{master-in}
-use Rattle.free_handle.specs.Ready.{freed}
-use Rattle.free_handle.proofs.Bays.{place-live}
+use Rattle.free_block.specs.Freed.{freed}
+use Rattle.bays.specs.Places.{baysOf}
+use Rattle.locate.proofs.Live.{place-live}
 use Rattle.place.specs.Fit.{blank, Fit}
 use Rattle.place.proofs.Cut.{blank-size}
 use Rattle.place.proofs.InBay.{room-fit}
 use Rattle.relocate.specs.Slot.{Slot, plug, others, blocksBefore, blocksAfter}
 use Rattle.relocate.specs.Move.{Apart, below, above, MoveAt}
-use Rattle.relocate.specs.Relocate.{baysOf, LiveIn, live-in, OldPlace, old-place, Carry, CarryIn, carry-of}
+use Rattle.relocate.specs.Relocate.{LiveIn, live-in, OldPlace, old-place, Carry, CarryIn, carry-of}
 use Rattle.relocate.proofs.Slots.{plug-flat, plug-map, plug-all}
 use Rattle.relocate.proofs.Beside.{end-low, lowEnd, highEnd, Beside, beside}
-use Rattle.relocate.proofs.Itself.{its-place}
+use Rattle.free_block.proofs.Itself.{its-place}
 use Rattle.relocate.proofs.Moved.{handles}
 use Rattle.relocate.proofs.Data.{new-long}
 
@@ -73,12 +74,12 @@ module _ (z : List ℕ) (h b a at n : ℕ) (y : CarryIn z h b a at n) where
   pub v : Valid s
   v = valid-zone z w
 
-  pub wb : Keep.Whole (inBays (len (decodeZone z)) (decodeZone z))
+  wb : Keep.Whole (inBays (len (decodeZone z)) (decodeZone z))
   wb = whole-bays (len s) s v (omega arith)
 
   -- ---- the block
 
-  pub found : (e : Item) × (findS (λ (c : List Cell). get h (items c)) (baysOf z) ≡ some e) × (e .bytes ≡ dataIn z h)
+  pub found : (e : Item) × (findS (λ (c : List Cell). get h (items c)) (baysOf (decodeZone z)) ≡ some e) × (e .bytes ≡ dataIn z h)
   unfolding placeIn dataIn
   found = place-live h s (x .grows .live)
 
@@ -100,7 +101,7 @@ module _ (z : List ℕ) (h b a at n : ℕ) (y : CarryIn z h b a at n) where
   pub side : Beside h block k (x .bay)
   side = beside h block k (x .bay) sound-bay sounds once (x .without) (ap (λ (u : Bays (List Cell) Fixed). findS (λ (c : List Cell). get h (items c)) u) (sym (x .bays)) ∙ found .1)
 
-  pub freed-bays : mapS (release h) (baysOf z) ≡ plug (others (release h) (x .slot)) (x .bay)
+  pub freed-bays : mapS (release h) (baysOf (decodeZone z)) ≡ plug (others (release h) (x .slot)) (x .bay)
   freed-bays = ap (mapS (release h)) (x .bays) ∙ plug-map (release h) k (x .bay) ∙ ap (plug (others (release h) k)) (release-none h sound-bay (x .without))
 
   pub blocks-are : s .blocks ≡ flatten (plug k (x .bay))

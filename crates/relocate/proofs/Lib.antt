@@ -3,7 +3,6 @@ pub mod Choice
 pub mod Beside
 pub mod Moved
 pub mod Writes
-pub mod Itself
 pub mod Data
 pub mod OldPlace
 pub mod Carrying
@@ -11,3 +10,4 @@ pub mod Carried
 pub mod AsZone
 pub mod Zone
 pub mod Target
+pub mod Plan

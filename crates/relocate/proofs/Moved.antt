@@ -23,7 +23,8 @@ use Rattle.structure.specs.Valid.{handlesOf, Valid}
 use Rattle.structure.proofs.Round.{offset-is}
 use Rattle.row.specs.Row as Row
 use Rattle.row.proofs.Laws as Rows
-use Rattle.slide.specs.ZoneBay.{setOne, setAll, settled}
+use Rattle.slide.specs.ZoneBay.{settled}
+use Rattle.slide.proofs.One.{set-one}
 use Rattle.surgery.proofs.Image.{img, upd, encode-img, img-rest, img-chain, img-master, img-same}
 use Rattle.surgery.proofs.Sound.{valid-sound}
 use Rattle.surgery.proofs.Replace.{sizes-parts, start-same}
@@ -33,16 +34,6 @@ use Rattle.free_block.proofs.Parts as Parts
 use Rattle.free_block.proofs.Bytes.{master-in, freed-owned}
 use Rattle.place.proofs.InBay.{fill-placed}
 use Rattle.relocate.specs.Move.{Apart, below, above}
-
--- a free block has no master
-set-gap : (p k : ℕ) (z : List ℕ) → setAll p (gap k []) z ≡ z
-unfolding setAll setOne
-set-gap p zero z = refl
-set-gap p (suc k) z = refl
-
-set-one : (z : List ℕ) (at k : ℕ) (e : Item) → 0 < masterOf e → settled z at (held e ∷ gap k []) ≡ overwrite (overwrite z at (bytesOf (held e ∷ gap k []))) (masterOf e) (toBE 4 (at + headerOf e))
-unfolding settled setAll setOne
-set-one z at k e l = set-gap _ k _ ∙ (rw (ne-eqb (masterOf e) 0 (λ q. omega arith)))
 
 twice : (g : ℕ → ℕ) (h u v k : ℕ) → upd (upd g h u) h v k ≡ upd g h v k
 twice g h u v k = go (eqb k h)

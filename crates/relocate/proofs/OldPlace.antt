@@ -10,7 +10,7 @@ use Rattle.format.specs.WellFormed.{firstField}
 use Rattle.access.specs.Edit.{IsZone, placeIn, dataIn}
 use Rattle.row.specs.Row.{Row}
 use Rattle.free_block.specs.Walk.{Stopped}
-use Rattle.free_handle.proofs.Laws.{data-low, at-fits, end-word, prev-in, row-in, end-in}
+use Rattle.free_block.proofs.Live.{data-low, at-fits, end-word, prev-in, row-in, end-in}
 use Rattle.relocate.specs.Relocate.{LiveIn, live-in}
 
 module _ (z : List ℕ) (h b : ℕ) (x : LiveIn z h b) where

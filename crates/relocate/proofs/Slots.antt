@@ -16,7 +16,7 @@ use Rattle.zone.specs.Group.{flatten}
 use Rattle.zone.specs.PickBays.{AllS}
 use Rattle.zone.proofs.Places.{Tiled, tile-last, tile-more}
 use Rattle.bays.specs.At.{At, at-last, at-here, at-later}
-use Rattle.bays.proofs.At.{at-old, bay-sizes}
+use Rattle.bays.proofs.At.{at-old, later-sizes}
 use Rattle.relocate.specs.Slot.{Slot, at-end, at-fixed, behind, plug, others, blocksBefore, blocksAfter, Under}
 
 pub plug-at : (f : List Cell → List Cell) (k : Slot) (b : List Cell) → At f (plug k b) (plug k (f b)) (blocksBefore k) b (blocksAfter k)
@@ -34,8 +34,7 @@ plug-map f (behind c x k) b = ap (λ (s : Bays (List Cell) Fixed). more (f c) x 
 
 -- the blocks before it, with one bay and one fixed block more in front
 pub behind-sizes : (c : List Cell) (x : Fixed) (k : Slot) → sizes (blocksBefore (behind c x k)) ≡ baySize c + (fsize x + sizes (blocksBefore k))
-unfolding sizes
-behind-sizes c x k = bay-sizes c (fixed (x .bytes) ∷ blocksBefore k)
+behind-sizes c x k = later-sizes c x (blocksBefore k)
 
 pub others-sizes : (f : List Cell → List Cell) → ((c : List Cell) → baySize (f c) ≡ baySize c) → (k : Slot) → sizes (blocksBefore (others f k)) ≡ sizes (blocksBefore k)
 others-sizes f q at-end = refl

@@ -13,7 +13,7 @@ use Rattle.calls.specs.State.{Fixed, fsize}
 use Rattle.bay.specs.Bay.{Cell, baySize, baySum}
 use Rattle.zone.proofs.Places.{Tiled}
 use Rattle.bays.specs.Places.{BayN, bayN, noBay, bayAt, lowBay}
-use Rattle.bays.proofs.At.{tiled-place, tiled-rest}
+use Rattle.bays.proofs.At.{no-sizes, tiled-place, tiled-rest}
 use Rattle.relocate.specs.Slot.{Slot, at-end, at-fixed, behind, plug, blocksBefore, Under}
 use Rattle.relocate.proofs.Slots.{behind-sizes}
 
@@ -27,10 +27,6 @@ pub record Lowest (need p : ℕ) (u : Bays (List Cell) Fixed) (from to sum : ℕ
   pub from-is : from ≡ p + sizes (blocksBefore slot)
   pub to-is : to ≡ from + baySize bay
   pub sum-is : sum ≡ baySum bay
-
-no-sizes : sizes [] ≡ 0
-unfolding sizes
-no-sizes = refl
 
 module _ (need end : ℕ) (g : Bool) (a e sum tail : ℕ) (y : g ≡ true) where
   first : (p : ℕ) (k : Slot) (b : List Cell) (u : Bays (List Cell) Fixed) → u ≡ plug k b → Under need k → blocksBefore k ≡ [] → leb need (baySum b) ≡ true → bayN g a e sum tail ≡ bayAt p b → Lowest need p u a e sum

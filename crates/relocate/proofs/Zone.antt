@@ -36,15 +36,15 @@ use Rattle.zone.proofs.Places.{Tiled}
 use Rattle.zone.proofs.GroupLaws.{flatten-group, group-flatten}
 use Rattle.zone.proofs.Grouped.{whole-bays, single-live}
 use Rattle.zone.proofs.Keep as Keep
-use Rattle.bays.specs.Places.{baysAt}
+use Rattle.bays.specs.Places.{baysOf, baysAt}
 use Rattle.bays.proofs.Zone.{zone-bays}
 use Rattle.slide.specs.ZoneBay.{bayCells, ZoneBay, settled}
-use Rattle.settle.proofs.Bay.{zone-bay, cells-are}
+use Rattle.settle.proofs.Bay.{bay-at}
 use Rattle.settle.proofs.Compact.{compact-settled}
 use Rattle.settle.proofs.Tidy.{bay-valid, bay-start}
-use Rattle.free_handle.proofs.Bays.{place-live}
+use Rattle.locate.proofs.Live.{place-live}
 use Rattle.relocate.specs.Slot.{Slot, plug, others, blocksBefore, blocksAfter, Under}
-use Rattle.relocate.specs.Relocate.{baysOf, relocated, itemOf, Carry, CarryIn, carry-in, Carried, Relocate, RelocateIn, relocate-of}
+use Rattle.relocate.specs.Relocate.{relocated, itemOf, Carry, CarryIn, carry-in, Carried, Relocate, RelocateIn, relocate-of}
 use Rattle.relocate.proofs.Slots.{plug-at, plug-flat, plug-map, plug-all, plug-lowest, plug-tiled, plug-find}
 use Rattle.relocate.proofs.AsZone.{zone-of, back-of, its-data}
 use Rattle.relocate.proofs.Choice.{without, under-freed}
@@ -77,7 +77,7 @@ module _ (z : List ℕ) (h b a from to at n : ℕ) (t : Bool) (y : RelocateIn z 
   wb : Keep.Whole (inBays (len s) s)
   wb = whole-bays (len s) s v (omega arith)
 
-  found : (e : Item) × (find h (baysOf z) ≡ some e) × (e .bytes ≡ dataIn z h)
+  found : (e : Item) × (find h (baysOf (decodeZone z)) ≡ some e) × (e .bytes ≡ dataIn z h)
   unfolding placeIn dataIn
   found = place-live h s (x .grows .live)
 
@@ -110,7 +110,7 @@ module _ (z : List ℕ) (h b a from to at n : ℕ) (t : Bool) (y : RelocateIn z 
   size-is : itemSize new ≡ relocHeader + a
   size-is = ap (relocHeader +_) (length-sized a (dataIn z h))
 
-  put-there : placeLow new (mapS (release h) (baysOf z)) ≡ plug (others (release h) k) (fill new (x .room .hole))
+  put-there : placeLow new (mapS (release h) (baysOf (decodeZone z))) ≡ plug (others (release h) k) (fill new (x .room .hole))
   put-there =
       ap (λ (u : Bays (List Cell) Fixed). placeLow new (mapS (release h) u)) (x .bays)
       ∙ ap (placeLow new) (plug-map (release h) k bay ∙ ap (plug (others (release h) k)) (release-none h sound-bay none-in))
@@ -157,18 +157,14 @@ module _ (z : List ℕ) (h b a from to at n : ℕ) (t : Bool) (y : RelocateIn z 
   parts : s .blocks ≡ blocksBefore k ++ (map cell bay ++ blocksAfter k)
   parts = blocks-are ∙ plug-flat k bay
 
-  to-is : to ≡ start s + sizes (blocksBefore k) + baySize bay
-  to-is = omega (arith, x .to-is, x .from-is)
+  there-bay : ZoneBay z from to × (bayCells z from to ≡ bay)
+  there-bay = bay-at s v (blocksBefore k) (blocksAfter k) bay parts z from to is-z (x .from-is) (x .to-is)
 
   pub ask-bay : ZoneBay z from to
-  ask-bay =
-      subst (λ (i : ℕ). ZoneBay z from i) (sym to-is) (subst (λ (i : ℕ). ZoneBay z i (start s + sizes (blocksBefore k) + baySize bay)) (sym (x .from-is))
-      (subst (λ (l : List ℕ). ZoneBay l (start s + sizes (blocksBefore k)) (start s + sizes (blocksBefore k) + baySize bay)) is-z (zone-bay s v (blocksBefore k) (blocksAfter k) bay parts)))
+  ask-bay = there-bay .0
 
   cells-here : bayCells z from to ≡ bay
-  cells-here =
-      ap₂ (bayCells z) (x .from-is) to-is ∙ ap (λ (l : List ℕ). bayCells l (start s + sizes (blocksBefore k)) (start s + sizes (blocksBefore k) + baySize bay)) (sym is-z)
-      ∙ cells-are s v (blocksBefore k) (blocksAfter k) bay parts
+  cells-here = there-bay .1
 
   abbrev s₁ : Structure
   s₁ = record { chain = s .chain; blocks = blocksBefore k ++ (map cell (compactBay bay) ++ blocksAfter k) }
@@ -197,7 +193,7 @@ module _ (z : List ℕ) (h b a from to at n : ℕ) (t : Bool) (y : RelocateIn z 
     back : decodeZone z₁ ≡ s₁
     back = ap decodeZone bytes₁ ∙ back-of s₁ v₁
 
-    bays-z₁ : baysOf z₁ ≡ plug k (compactBay bay)
+    bays-z₁ : baysOf (decodeZone z₁) ≡ plug k (compactBay bay)
     bays-z₁ = ap (λ (u : Structure). group (start u) (u .blocks)) back ∙ bays₁
 
     data₁ : (placeIn z₁ h ≡ 0 → ⊥) × (dataIn z₁ h ≡ e .bytes)

@@ -15,18 +15,15 @@ use Rattle.bay.specs.Bay.{Cell, free, baySize, baySum, items, Hole, fill, relea
 use Rattle.bay.specs.Counted.{count}
 use Rattle.zone.specs.Group.{group, flatten}
 use Rattle.zone.specs.Work.{placeLow}
+use Rattle.bays.specs.Places.{baysOf}
 use Rattle.free_block.specs.Walk.{Stopped, Extended}
 use Rattle.place.specs.Fit.{Size}
 use Rattle.place.specs.Room.{Room}
 use Rattle.relocate.specs.Slot.{Slot, plug, others, blocksBefore, Under}
 
--- the bays of the zone z
-abbrev pub baysOf : List ℕ → Bays (List Cell) Fixed
-baysOf z = group (start (decodeZone z)) (decodeZone z .blocks)
-
 -- "it moves to the lowest bay whose sum reaches 4 + a, as an allocation does, and the old place is freed": h's block, with a data bytes
 abbrev pub relocated : ℕ → ℕ → Structure → Structure
-relocated h a s = record { chain = s .chain; blocks = flatten (placeLow (item h (sized a (dataOf h (s .blocks)))) (mapS (release h) (group (start s) (s .blocks)))) }
+relocated h a s = record { chain = s .chain; blocks = flatten (placeLow (item h (sized a (dataOf h (s .blocks)))) (mapS (release h) (baysOf s))) }
 
 -- the block of handle h with a data bytes
 abbrev pub itemOf : List ℕ → ℕ → ℕ → Item
@@ -53,7 +50,7 @@ pub record Carry (z : List ℕ) (h b a at n : ℕ) : Type 0 where
   pub grows : Grows z h b a
   pub slot : Slot
   pub bay : List Cell
-  pub bays : baysOf z ≡ plug slot bay
+  pub bays : baysOf (decodeZone z) ≡ plug slot bay
   pub without : count h (items bay) ≡ 0
   pub hole : Hole
   pub is : bay ≡ hole .before ++ (free (hole .size) ∷ hole .after)
@@ -82,10 +79,10 @@ pub record Relocate (z : List ℕ) (h b a from to at n : ℕ) (tidy : Bool) : Ty
   pub grows : Grows z h b a
   pub slot : Slot
   pub bay : List Cell
-  pub bays : baysOf z ≡ plug slot bay
+  pub bays : baysOf (decodeZone z) ≡ plug slot bay
   pub under : Under (relocHeader + a) slot
   pub enough : relocHeader + a ≤ baySum bay
-  pub tight : ownSum items baySum h (baysOf z) + b < a
+  pub tight : ownSum items baySum h (baysOf (decodeZone z)) + b < a
   pub from-is : from ≡ start (decodeZone z) + sizes (blocksBefore slot)
   pub to-is : to ≡ from + baySize bay
   pub room : Room (itemOf z h a) bay from at n tidy

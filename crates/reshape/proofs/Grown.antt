@@ -12,13 +12,8 @@ use Rattle.bigendian.proofs.Laws.{length-toBE}
 use Rattle.bay.specs.Bay.{free, gap}
 use Rattle.bay.specs.Bytes.{encodeCell}
 use Rattle.bay.specs.Sound.{bytesOf}
-use Rattle.bay.proofs.BayBytes.{gap-some, gap-none}
+use Rattle.bay.proofs.BayBytes.{drop-zeros, gap-some, gap-none}
 use Rattle.reshape.specs.Grow.{grownBytes, Room}
-
-drop-zeros : (k n : ℕ) → drop {A = ℕ} k (replicate n 0) ≡ replicate (n - k) 0
-drop-zeros zero n = let e : n - 0 ≡ n = omega arith in rw e
-drop-zeros (suc k) zero = let e : 0 - suc k ≡ 0 = omega arith in rw e
-drop-zeros (suc k) (suc n) = let e : suc n - suc k ≡ n - k = omega arith in rw e (drop-zeros k n)
 
 module _ (A H D B G : List ℕ) (at o top run more : ℕ) (lA : length A ≡ at) (lH : length H ≡ 2) (lD : at + 2 + length D ≡ o) (lB : length B ≡ run) (lG : more ≤ length G) (et : top ≡ o + more) where
   abbrev X : List ℕ

@@ -20,11 +20,12 @@ use Rattle.bay.proofs.Reshape.{reshape-laid}
 use Rattle.bay.proofs.SoundLaws.{sum-four}
 use Rattle.structure.specs.Structure.{Block, cell, encode, decodeZone}
 use Rattle.structure.specs.Valid.{handlesOf}
+use Rattle.bays.specs.Places.{baysOf}
 use Rattle.bays.proofs.At.{at-new}
 use Rattle.slide.specs.ZoneBay.{partOf, bayCells, settled}
 use Rattle.settle.proofs.Any.{settle}
 use Rattle.settle.proofs.Bay.{cells-sound}
-use Rattle.reshape.specs.Own.{baysOf, reshaped, Own, bayOf}
+use Rattle.reshape.specs.Own.{reshaped, Own, bayOf}
 use Rattle.reshape.specs.Grow.{grownBytes, Room, GrowsTo, grows-to, Laid}
 use Rattle.reshape.proofs.GrownBay.{laid, drop-o, long, grown-bay}
 use Rattle.reshape.proofs.LaidBay.{laid-map, laid-size, laid-sound1, laid-left, laid-right, laid-gap, laid-sound, laid-low, laid-handles}

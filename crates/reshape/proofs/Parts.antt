@@ -10,7 +10,7 @@ use Rattle.structure.proofs.Append.{sizes-append}
 use Rattle.calls.specs.Bays.{onLowest}
 use Rattle.bay.specs.Bay.{Cell, free, held, baySize, items, gap, resized, reshape}
 use Rattle.bay.specs.Counted.{count}
-use Rattle.bay.specs.Lead.{leadFree, pastLead}
+use Rattle.bay.specs.Ends.{startFree, pastStart}
 use Rattle.bay.proofs.Laws.{bsize-gap}
 use Rattle.bay.proofs.Sound.{Sound, s-nil, s-end, s-free, s-held}
 use Rattle.bay.proofs.Reshape.{gap-lead, reshape-here}
@@ -22,11 +22,12 @@ use Rattle.row.proofs.Laws.{bytes-append, bytes-long, sound-left, sound-right}
 use Rattle.zone.specs.Group.{flatten}
 use Rattle.zone.specs.Work.{has}
 use Rattle.zone.proofs.GroupLaws.{flatten-group}
+use Rattle.bays.specs.Places.{baysOf}
 use Rattle.bays.proofs.At.{at-old, at-new}
 use Rattle.surgery.proofs.Sound.{valid-sound, tiled-right}
 use Rattle.surgery.proofs.Replace.{sizes-parts}
 use Rattle.settle.proofs.Cells.{all-sizes}
-use Rattle.reshape.specs.Own.{baysOf, Own, bayOf, dataAt}
+use Rattle.reshape.specs.Own.{Own, bayOf, dataAt}
 
 -- cells that stand in a valid structure are sound
 tiled-sound : (p : Bool) (cs : List Cell) (r : List Block) → Tiled p (map cell cs ++ r) → Sound cs
@@ -46,10 +47,10 @@ module _ (s : Structure) (v : Valid s) (h : ℕ) (o : Own h (baysOf s)) where
   pre = o .before ++ map cell (o .left)
 
   abbrev pub rest : List Block
-  rest = map cell (pastLead (o .right)) ++ o .after
+  rest = map cell (pastStart (o .right)) ++ o .after
 
   abbrev old : List Cell
-  old = held (o .mine) ∷ gap (leadFree (o .right)) []
+  old = held (o .mine) ∷ gap (startFree (o .right)) []
 
   pub in-bay : s .blocks ≡ o .before ++ (map cell (bayOf o) ++ o .after)
   in-bay = sym (flatten-group (start s) (s .blocks)) ∙ at-old (o .at (λ (b : List Cell). b))
@@ -63,26 +64,26 @@ module _ (s : Structure) (v : Valid s) (h : ℕ) (o : Own h (baysOf s)) where
   -- the free bytes right behind the block counted to it
   pub parts : s .blocks ≡ pre ++ (map cell old ++ rest)
   parts =
-      let n : 0 + leadFree (o .right) ≡ leadFree (o .right) = omega arith in
-      in-bay ∙ ap (λ (cs : List Cell). o .before ++ (map cell (o .left ++ (held (o .mine) ∷ cs)) ++ o .after)) (gap-lead 0 right-sound ∙ ap (λ (k : ℕ). gap k [] ++ pastLead (o .right)) n)
-      ∙ regroup (o .before) (o .after) (o .left) (gap (leadFree (o .right)) []) (pastLead (o .right)) (held (o .mine))
+      let n : 0 + startFree (o .right) ≡ startFree (o .right) = omega arith in
+      in-bay ∙ ap (λ (cs : List Cell). o .before ++ (map cell (o .left ++ (held (o .mine) ∷ cs)) ++ o .after)) (gap-lead 0 right-sound ∙ ap (λ (k : ℕ). gap k [] ++ pastStart (o .right)) n)
+      ∙ regroup (o .before) (o .after) (o .left) (gap (startFree (o .right)) []) (pastStart (o .right)) (held (o .mine))
 
   pub pre-sizes : sizes pre ≡ sizes (o .before) + baySize (o .left)
   pre-sizes = sizes-append (o .before) (map cell (o .left)) ∙ ap (sizes (o .before) +_) (sym (all-sizes (o .left)))
 
   -- they lie inside the zone
-  pub parts-end : dataAt (start s) o + length (o .mine .bytes) + leadFree (o .right) ≤ len s
-  parts-end = omega (arith, pre-sizes, ap sizes parts, sizes-parts pre (map cell old) rest, all-sizes old, bsize-gap (leadFree (o .right)) [])
+  pub parts-end : dataAt (start s) o + length (o .mine .bytes) + startFree (o .right) ≤ len s
+  parts-end = omega (arith, pre-sizes, ap sizes parts, sizes-parts pre (map cell old) rest, all-sizes old, bsize-gap (startFree (o .right)) [])
 
   -- ---- with a data bytes
 
-  pub parts-new : (a : ℕ) → a ≤ length (o .mine .bytes) + leadFree (o .right)
-      → flatten (onLowest (has h) (reshape h a) (baysOf s)) ≡ pre ++ (map cell (held (resized a (o .mine)) ∷ gap (length (o .mine .bytes) + leadFree (o .right) - a) []) ++ rest)
+  pub parts-new : (a : ℕ) → a ≤ length (o .mine .bytes) + startFree (o .right)
+      → flatten (onLowest (has h) (reshape h a) (baysOf s)) ≡ pre ++ (map cell (held (resized a (o .mine)) ∷ gap (length (o .mine .bytes) + startFree (o .right) - a) []) ++ rest)
   parts-new a l =
-      let w : reshape h a (bayOf o) ≡ o .left ++ (held (resized a (o .mine)) ∷ (gap (length (o .mine .bytes) + leadFree (o .right) - a) [] ++ pastLead (o .right))) =
+      let w : reshape h a (bayOf o) ≡ o .left ++ (held (resized a (o .mine)) ∷ (gap (length (o .mine .bytes) + startFree (o .right) - a) [] ++ pastStart (o .right))) =
       ap (λ (k : ℕ). reshape k a (bayOf o)) (o .its) ∙ reshape-here (o .mine) a (o .left) (o .right) (subst (λ (k : ℕ). count k (items (o .left)) ≡ 0) (o .its) (o .first)) right-sound l in
       at-new (o .at (reshape h a)) ∙ ap (λ (cs : List Cell). o .before ++ (map cell cs ++ o .after)) w
-      ∙ regroup (o .before) (o .after) (o .left) (gap (length (o .mine .bytes) + leadFree (o .right) - a) []) (pastLead (o .right)) (held (resized a (o .mine)))
+      ∙ regroup (o .before) (o .after) (o .left) (gap (length (o .mine .bytes) + startFree (o .right) - a) []) (pastStart (o .right)) (held (resized a (o .mine)))
 
   -- ---- what stands behind the block
 

@@ -12,7 +12,7 @@ use Rattle.block_type.specs.Limits.{freeCode}
 use Rattle.format.specs.WellFormed.{isFree, typeOf}
 use Rattle.bay.specs.Bay.{Cell, free, held}
 use Rattle.bay.specs.Counted.{live}
-use Rattle.bay.specs.Lead.{leadFree}
+use Rattle.bay.specs.Ends.{startFree}
 use Rattle.structure.specs.Structure.{Block, cell, fixed, Structure, size, start, len, placeOf, decodeZone}
 use Rattle.structure.specs.Valid.{Valid}
 use Rattle.structure.proofs.Table.{Whole, encode-zone, len-is}
@@ -25,8 +25,9 @@ use Rattle.zone.specs.Call.{inBays}
 use Rattle.zone.proofs.GroupLaws.{flatten-group}
 use Rattle.zone.proofs.Grouped.{whole-bays, single-live}
 use Rattle.surgery.specs.Bays.{firstFree}
+use Rattle.bays.specs.Places.{baysOf}
 use Rattle.settle.proofs.Tidy.{at-right}
-use Rattle.reshape.specs.Own.{baysOf, Own, dataAt, Known, known}
+use Rattle.reshape.specs.Own.{Own, dataAt, Known, known}
 use Rattle.reshape.proofs.Own.{OwnAt, own-of}
 use Rattle.reshape.proofs.Parts.{behind-bytes, behind-sound, parts-end}
 
@@ -44,7 +45,7 @@ lead-none (cell (free n) ∷ bs) q = absurd (true≢false q)
 lead-none (cell (held e) ∷ bs) q = refl
 lead-none (fixed d ∷ bs) q = refl
 
-lead-cells : (cs : List Cell) (r : List Block) → firstFree r ≡ false → lead (map cell cs ++ r) ≡ leadFree cs
+lead-cells : (cs : List Cell) (r : List Block) → firstFree r ≡ false → lead (map cell cs ++ r) ≡ startFree cs
 lead-cells [] r q = lead-none r q
 lead-cells (free n ∷ cs) r q = refl
 lead-cells (held e ∷ cs) r q = refl
@@ -87,7 +88,7 @@ module _ (z : List ℕ) (i : IsZone z) (h at n : ℕ) (ea : at ≡ placeIn z h) 
 
   n-is : n ≡ length (o .mine .bytes)
   unfolding dataIn
-  n-is = en ∙ ap (λ (bs : List Block). length (dataOf h bs)) (sym (flatten-group (start s) (s .blocks))) ∙ ap length (found .bytes)
+  n-is = en ∙ ap (λ (bs : List Block). length (dataOf h bs)) (sym (flatten-group (start s) (s .blocks))) ∙ ap length (o .bytes)
 
   abbrev behind : List Block
   behind = map cell (o .right) ++ o .after
@@ -98,7 +99,7 @@ module _ (z : List ℕ) (i : IsZone z) (h at n : ℕ) (ea : at ≡ placeIn z h) 
   blocks-are : blocksOf (drop (at + n) z) ≡ behind
   blocks-are = ap blocksOf bytes-are ∙ tiles-join behind (behind-sound s v h o)
 
-  lead-is : lead (blocksOf (drop (at + n) z)) ≡ leadFree (o .right)
+  lead-is : lead (blocksOf (drop (at + n) z)) ≡ startFree (o .right)
   lead-is = ap lead blocks-are ∙ lead-cells (o .right) (o .after) (at-right (o .at (λ (b : List Cell). b)))
 
   pub room-word : Fits w64 (at + n)

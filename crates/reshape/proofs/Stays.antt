@@ -10,7 +10,7 @@ use Rattle.bigendian.specs.BigEndian.{toBE, slice, overwrite}
 use Rattle.kinds.specs.Kinds.{headerOf}
 use Rattle.kinds.proofs.KindLaws.{facts}
 use Rattle.bay.specs.Bay.{Cell, held, baySize, gap, resized}
-use Rattle.bay.specs.Lead.{leadFree}
+use Rattle.bay.specs.Ends.{startFree}
 use Rattle.bay.specs.Sound.{bytesOf, Sound}
 use Rattle.bay.proofs.Laws.{bsize-gap}
 use Rattle.bay.proofs.Resize.{length-sized}
@@ -22,8 +22,9 @@ use Rattle.structure.proofs.Table.{Whole, encode-zone, len-is}
 use Rattle.structure.proofs.Sound.{valid-zone}
 use Rattle.access.specs.Edit.{IsZone}
 use Rattle.access.proofs.Zone.{whole-of}
+use Rattle.bays.specs.Places.{baysOf}
 use Rattle.settle.proofs.Bay.{cells-sound, part-is}
-use Rattle.reshape.specs.Own.{baysOf, reshaped, Own, dataAt, Known, known}
+use Rattle.reshape.specs.Own.{reshaped, Own, dataAt, Known, known}
 use Rattle.reshape.specs.Here.{Here}
 use Rattle.reshape.proofs.Parts.{pre, rest, parts, pre-sizes, parts-end, parts-new}
 use Rattle.reshape.proofs.Still.{still}
@@ -33,7 +34,7 @@ gap-four : (n : ℕ) → Sound (gap n []) → n % 4 ≡ 0
 gap-four zero so = refl
 gap-four (suc n) so = so .0 .1
 
-module _ (z : List ℕ) (i : IsZone z) (h : ℕ) (o : Own h (baysOf (decodeZone z))) (at b f : ℕ) (ea : at ≡ dataAt (start (decodeZone z)) o) (eb : b ≡ length (o .mine .bytes)) (ef : f ≡ leadFree (o .right)) where
+module _ (z : List ℕ) (i : IsZone z) (h : ℕ) (o : Own h (baysOf (decodeZone z))) (at b f : ℕ) (ea : at ≡ dataAt (start (decodeZone z)) o) (eb : b ≡ length (o .mine .bytes)) (ef : f ≡ startFree (o .right)) where
   w : Whole z
   w = whole-of z i
 
@@ -91,7 +92,7 @@ module _ (z : List ℕ) (i : IsZone z) (h : ℕ) (o : Own h (baysOf (decodeZone 
         let lf : length (take p z) ≡ p = omega (arith, length-take p z, end-in, at-is) in
         let split : z ≡ take p z ++ (bytesOf old ++ back) = sym (take-append-drop p z) ∙ ap (take p z ++_) (sym (take-append-drop (headerOf (o .mine) + b + f) (drop p z)) ∙ ap (_++ back) there) in
         let bs = parts-new s v h o a (omega (arith, fits, ef, eb)) in
-        let n : length (o .mine .bytes) + leadFree (o .right) - a ≡ b + f - a = omega arith in
+        let n : length (o .mine .bytes) + startFree (o .right) - a ≡ b + f - a = omega arith in
         q
         ∙ sym (ap (λ (x : List ℕ). overwrite x p (bytesOf new)) split ∙ write-mid (take p z) (bytesOf old) (bytesOf new) back p lf (bytes-long old old-sound ∙ sym size-new ∙ sym (bytes-long new new-sound)))
         ∙ ap (λ (x : List ℕ). overwrite x p (bytesOf new)) (sym (encode-zone z w))

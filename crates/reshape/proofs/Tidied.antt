@@ -23,6 +23,7 @@ use Rattle.structure.proofs.Round.{offset-is, next-none, master-is}
 use Rattle.access.proofs.Zone.{whole-of}
 use Rattle.zone.specs.Group.{flatten}
 use Rattle.zone.proofs.GroupLaws.{flatten-group}
+use Rattle.bays.specs.Places.{baysOf}
 use Rattle.slide.specs.ZoneBay.{Low, partOf, bayCells, ZoneBay, settled}
 use Rattle.slide.proofs.MasterLaws.{low-is}
 use Rattle.surgery.proofs.Sound.{handle-in, handle-once}
@@ -30,7 +31,7 @@ use Rattle.surgery.proofs.Replace.{occurs-parts}
 use Rattle.settle.proofs.Bay.{cells-sound, part-is, zone-bay}
 use Rattle.settle.proofs.Compact.{compact-settled}
 use Rattle.settle.proofs.Tidy.{bay-valid, bay-start}
-use Rattle.reshape.specs.Own.{baysOf, Own, bayOf}
+use Rattle.reshape.specs.Own.{Own, bayOf}
 use Rattle.reshape.specs.Grow.{Laid}
 use Rattle.reshape.proofs.Parts.{in-bay}
 use Rattle.reshape.proofs.GrownBay.{laid}

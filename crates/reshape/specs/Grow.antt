@@ -7,13 +7,14 @@ use Rattle.bigendian.specs.BigEndian.{toBE, slice}
 use Rattle.block_type.specs.Limits.{freeHeader, relocHeader, relocCode, relocLimit, longestZone, typeUnit}
 use Rattle.bay.specs.Bay.{Cell, free, baySize, baySum, gap}
 use Rattle.bay.specs.Bytes.{encodeCell}
-use Rattle.bay.specs.Lead.{leadFree}
+use Rattle.bay.specs.Ends.{startFree}
 use Rattle.bay.specs.Sound.{bytesOf, Sound}
 use Rattle.structure.specs.Structure.{start, decodeZone}
 use Rattle.access.specs.Edit.{IsZone}
+use Rattle.bays.specs.Places.{baysOf}
 use Rattle.bays.specs.Found.{Numbers}
 use Rattle.slide.specs.ZoneBay.{Low, partOf}
-use Rattle.reshape.specs.Own.{baysOf, Own, bayOf}
+use Rattle.reshape.specs.Own.{Own, bayOf}
 
 -- the part s, whose block from at to o has `more` zero bytes at its end; the run bytes behind it stand higher, and the rest is free
 unfoldable pub grownBytes : List ℕ → ℕ → ℕ → ℕ → ℕ → List ℕ
@@ -41,7 +42,7 @@ pub record Laid (z : List ℕ) (h from end sum b a : ℕ) : Type 0 where
   pub tail : ℕ
   pub numbers : Numbers (start (decodeZone z)) (own .before) (bayOf own) from end sum tail
   pub size : b ≡ length (own .mine .bytes)
-  pub grows : b + leadFree (own .right) < a
+  pub grows : b + startFree (own .right) < a
   pub enough : a - b ≤ baySum (bayOf own)
   pub four : a % 4 ≡ 0
   pub high : a ≤ relocLimit

@@ -5,19 +5,16 @@ use Prim.Native.Nat.{ℕ, _+_}
 use lib.ListN.{length}
 use Rattle.kinds.specs.Kinds.{Item, headerOf, masterOf}
 use Rattle.calls.specs.Bays.{Bays, onLowest}
-use Rattle.calls.specs.State.{Fixed}
-use Rattle.bay.specs.Bay.{Cell, held, baySize, items, reshape}
+use Rattle.calls.specs.State.{Fixed, ownSum}
+use Rattle.bay.specs.Bay.{Cell, held, baySize, baySum, items, reshape}
 use Rattle.bay.specs.Counted.{count}
-use Rattle.bay.specs.Lead.{leadFree}
+use Rattle.bay.specs.Ends.{startFree}
 use Rattle.structure.specs.Structure.{Block, Structure, sizes, start, decodeZone}
-use Rattle.access.specs.Edit.{IsZone}
-use Rattle.zone.specs.Group.{group, flatten}
+use Rattle.access.specs.Edit.{IsZone, dataOf}
+use Rattle.zone.specs.Group.{flatten}
 use Rattle.zone.specs.Work.{has}
+use Rattle.bays.specs.Places.{baysOf}
 use Rattle.bays.specs.At.{At}
-
--- the bays of a structure
-abbrev pub baysOf : Structure → Bays (List Cell) Fixed
-baysOf s = group (start s) (s .blocks)
 
 -- the block of handle h has a data bytes, in its own bay
 abbrev pub reshaped : ℕ → ℕ → Structure → Structure
@@ -33,6 +30,9 @@ pub record Own (h : ℕ) (s : Bays (List Cell) Fixed) : Type 0 where
   pub its : h ≡ masterOf mine
   pub first : count h (items left) ≡ 0
   pub only : count h (items right) ≡ 0
+  -- its data, and the sum of its bay
+  pub bytes : dataOf h (flatten s) ≡ mine .bytes
+  pub sum : ownSum items baySum h s ≡ baySum (left ++ (held mine ∷ right))
   -- a change of the bay that has h is a change of this bay
   pub at : (f : List Cell → List Cell) → At f s (onLowest (has h) f s) before (left ++ (held mine ∷ right)) after
 
@@ -46,4 +46,4 @@ dataAt p o = p + sizes (o .before) + baySize (o .left) + headerOf (o .mine)
 
 -- in the zone z its b data bytes lie at `at`, and f free bytes follow
 pub data Known (z : List ℕ) (h at b f : ℕ) : Type 0 where
-  known : IsZone z → (o : Own h (baysOf (decodeZone z))) → at ≡ dataAt (start (decodeZone z)) o → b ≡ length (o .mine .bytes) → f ≡ leadFree (o .right) → Known z h at b f
+  known : IsZone z → (o : Own h (baysOf (decodeZone z))) → at ≡ dataAt (start (decodeZone z)) o → b ≡ length (o .mine .bytes) → f ≡ startFree (o .right) → Known z h at b f

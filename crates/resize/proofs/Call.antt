@@ -1,74 +1,42 @@
 -- The call.
-use mathlib.Core.Path.{_≡_, sym, ap, _∙_}
-use mathlib.Core.List.{List, _++_}
-use mathlib.Core.Bool.{Bool, true, false, not}
-use Prim.Native.Nat.{ℕ, _+_, _-_, _≤_}
-use native.Mathlib.Omega.{arith}
-use borrow.Author.Tests.{ne-eqb, not-true, not-false}
-use lib.ListN.{length, getD, take, drop}
+use mathlib.Core.Path.{_≡_, refl, sym, ap, ap₂, _∙_}
+use mathlib.Core.Bool.{Bool}
+use mathlib.Core.Option.{Option, Option·getD}
+use mathlib.Core.List.{List, [], _++_}
+use Prim.Native.Nat.{ℕ}
 use mir.Val.{Fits}
 use mir.Syntax.{w8}
-use Rattle.bigendian.specs.BigEndian.{fromBE, slice}
-use Rattle.block_type.specs.Limits.{up4}
-use Rattle.format.specs.WellFormed.{wellFormed, lengthField}
-use Rattle.structure.specs.Structure.{decodeZone, decode, encode}
+use lib.ListN.{length, getD, take, drop}
+use Rattle.structure.specs.Structure.{Structure, decodeZone, encode}
 use Rattle.calls.specs.Calls.{told, resize}
+use Rattle.zone.specs.Group.{flatten}
+use Rattle.zone.specs.Work.{resizeIn}
 use Rattle.zone.specs.Call.{result, call}
-use Rattle.access.proofs.Checked.{bytes-of}
-use Rattle.resize.specs.Resized.{resizedTo, resizeCode, resizeOut}
-use Rattle.resize.specs.Ways.{WayIn, PlannedIn, planned-in, Planned, refused, planned}
-use Rattle.resize.proofs.Flat.{resize-is}
+use Rattle.bays.specs.Places.{baysOf}
+use Rattle.call_laws.specs.Frame.{Does, Planned}
+use Rattle.call_laws.proofs.Outcome.{none-lent}
+use Rattle.call_laws.proofs.Frame.{frame-ready, frame-done}
+use Rattle.resize.specs.Ready.{resizedTo, WayIn, ReadyIn}
+use Rattle.resize.specs.declared.Way.{Way}
+use Rattle.resize.proofs.Zone.{content-live, passed-live}
 
-done : (s : List ℕ) (h c l a : ℕ) (y : List ℕ) → wellFormed s ≡ true → l ≡ lengthField s → resizeCode h c (decodeZone (take l s)) ≡ 0 → a ≡ up4 c
-    → y ≡ encode (resizedTo h a (decodeZone (take l s))) → result (told 0 0) (y ++ drop l s) ≡ resizeOut s h c
-unfolding resizeOut decode
-done s h c l a y w el k ea ey = rw (w, ← el, k, ey, ea)
+module _ (s : List ℕ) (h c number l a b at n st e : ℕ) (t : Bool) (way : Way)
+    (p : Planned (resize h c) s number l (ReadyIn (take l s) h c a (WayIn (take l s) h a b at n st e t way))) (z : number ≡ 0) where
+  is-ready : ReadyIn (take l s) h c a (WayIn (take l s) h a b at n st e t way)
+  is-ready = frame-ready (resize h c) s number l _ p z
 
-module _ (s : List ℕ) (h c number l way a b at n st e : ℕ) (t : Bool) where
-  pub plan-no : (ok : Bool) → ok ≡ wellFormed s → not ok ≡ true → number ≡ 1 → Planned s h c number l way a b at n st e t
-  plan-no ok w q k = refused (sym w ∙ not-true ok q) k
+  pub call-goes : WayIn (take l s) h a b at n st e t way
+  call-goes = is-ready .goes
 
-  pub plan-yes : (ok : Bool) → ok ≡ wellFormed s → not ok ≡ false → l ≡ fromBE (slice s 0 4) → l ≤ length s → PlannedIn (take l s) h c number way a b at n st e t
-      → Planned s h c number l way a b at n st e t
-  plan-yes ok w q el f p = planned (sym w ∙ not-false ok q) el f p
+  does : Does (resize h c) (length s) (take l s) (told 0 0) (resizedTo h a (decodeZone (take l s)))
+  does =
+      let d = decodeZone (take l s) in
+      let k = is-ready .passed (length s) in
+      record {
+        passed = k;
+        answer = refl;
+        line = ap₂ (λ (i : ℕ) (o : Option (List ℕ)). record { chain = d .chain; blocks = flatten (resizeIn h i (Option·getD o []) (baysOf d)) }) (sym (is-ready .is-a)) (content-live (take l s) h c (passed-live (take l s) h c (length s) k));
+      }
 
-  record Ready : Type 0 where
-    well : wellFormed s ≡ true
-    is-len : l ≡ lengthField s
-    fits : l ≤ length s
-    is-number : number ≡ resizeCode h c (decodeZone (take l s))
-    is-a : a ≡ up4 c
-    ways : WayIn (take l s) h way a b at n st e t
-
-  module _ (p : Planned s h c number l way a b at n st e t) where
-    ready : number ≡ 0 → Ready
-    ready z = go p
-      where
-        go : Planned s h c number l way a b at n st e t → Ready
-        go (refused w k) = let x : ⊥ = omega arith in absurd x
-        go (planned w el f (planned-in q g)) = record { well = w; is-len = el; fits = f; is-number = q; is-a = g z .0; ways = g z .1 }
-
-    module _ (z : number ≡ 0) where
-      pub call-fits : l ≤ length s
-      call-fits = ready z .fits
-
-      pub call-way : WayIn (take l s) h way a b at n st e t
-      call-way = ready z .ways
-
-      pub call-end : (y : List ℕ) → ((i : ℕ) → Fits w8 (getD s i 0)) → y ≡ encode (resizedTo h a (decodeZone (take l s))) → result (told 0 0) (y ++ drop l s) ≡ call (resize h c) s
-      call-end y g q =
-          let r = ready z in
-          done s h c l a y (r .well) (r .is-len) (sym (r .is-number) ∙ z) (r .is-a) q ∙ resize-is s h c (bytes-of s g)
-
-    flat-no : (number ≡ 0 → ⊥) → result (told number 0) s ≡ resizeOut s h c
-    unfolding resizeOut decode
-    flat-no ne = go p
-      where
-        go : Planned s h c number l way a b at n st e t → result (told number 0) s ≡ resizeOut s h c
-        go (refused w k) = rw (w, k)
-        go (planned w el f (planned-in q g)) =
-            let k : number ≡ resizeCode h c (decodeZone (take (lengthField s) s)) = q ∙ ap (λ (m : ℕ). resizeCode h c (decodeZone (take m s))) el in
-            rw (w, ← k, ne-eqb number 0 ne)
-
-    pub call-no : ((i : ℕ) → Fits w8 (getD s i 0)) → (number ≡ 0 → ⊥) → result (told number 0) s ≡ call (resize h c) s
-    call-no g ne = flat-no ne ∙ resize-is s h c (bytes-of s g)
+  pub call-end : (y : List ℕ) → ((i : ℕ) → Fits w8 (getD s i 0)) → y ≡ encode (resizedTo h a (decodeZone (take l s))) → result (told 0 0) (y ++ drop l s) ≡ call (resize h c) s
+  call-end y g q = frame-done (resize h c) s number l _ p g z does none-lent refl y q

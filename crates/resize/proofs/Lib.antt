@@ -1,8 +1,5 @@
-pub mod Flat
-pub mod Sites
-pub mod Others
-pub mod Owns
-pub mod Plans
-pub mod Acts
+pub mod Zone
+pub mod Bays
+pub mod Ways
 pub mod Call
 pub mod Outcome

@@ -36,7 +36,8 @@ use Rattle.zone.proofs.Run.{well-whole}
 use Rattle.call_laws.proofs.Outcome.{none-lent}
 use Rattle.call_laws.proofs.Accepted.{Accepted, accepted, cleared, before, after}
 use Rattle.call_laws.proofs.Named.{size-there, view-there}
-use Rattle.allocate_relocatable.proofs.Outcome.{get-none, low-found}
+use Rattle.bay.proofs.Resize.{get-none}
+use Rattle.call_laws.proofs.Placed.{low-found}
 
 -- ---- the item of a handle, in one bay
 

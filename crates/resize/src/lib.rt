@@ -1,49 +1,28 @@
 // Resize: a block gets another data size, where it stands, in its own bay laid out anew, or in another bay.
 ghost use mathlib.Core.Path.{_≡_};
-ghost use Prim.Native.Nat.{_+_, _<_};
+ghost use Prim.Native.Nat.{_<_};
+ghost use lib.ListN.{take};
 ghost use Rattle.structure.specs.Structure.{encode, decodeZone};
 ghost use Rattle.access.specs.Edit.{IsZone};
 ghost use Rattle.calls.specs.Calls.{told, resize};
 ghost use Rattle.zone.specs.Call.{result, call};
-ghost use Rattle.resize.specs.Resized.{resizedTo};
-ghost use Rattle.resize.specs.Ways.{SpotIn, HoleIn, Grows, Moves, WayIn, Chosen, PlannedIn, Planned};
+ghost use Rattle.call_laws.specs.Frame.{PlannedIn, Planned};
+ghost use Rattle.resize.specs.Ready.{resizedTo, Tight, Chosen, Going, Ready};
 use block_type::BlockType;
 use calls::Told;
 
-pub struct Site {
-    pub at: usize,
-    pub size: usize,
-    pub tidy: bool,
+pub enum Way {
+    InPlace,
+    OwnBay,
+    OtherBay,
 }
 
-// The lowest free block of need bytes in the bay from start to end, or what compacting leaves there.
-fn find_site(z: &[u8], need: usize, start: usize, end: usize, sum: usize) -> Site
-    requires { ⌜ SpotIn (now z) need start end sum ⌝ }
-    ensures { λ r. ⌜ HoleIn (now (z .entry)) need start end (r .at) (r .size) (r .tidy) ⌝ }
-{
-    let hole = find_bay::find_hole(&z[start..end], need);
-    let found = hole.found;
-    let at = hole.at;
-    let size = hole.size;
-    if found {
-        return Site {
-            at: start + at,
-            size,
-            tidy: false,
-        };
-    }
-    Site {
-        at: end - sum,
-        size: sum,
-        tidy: true,
-    }
-}
-
-// The ways: 1 where the block stands, 2 in its own bay laid out anew, 3 in another bay.
+// The block gets a data bytes for b: with `size` free bytes behind it, or in its bay from start to end with `size` free bytes, or in the
+// free block of `size` bytes at `at` of another bay.
 pub struct Plan {
     pub number: u32,
     pub len: usize,
-    pub way: u8,
+    pub way: Way,
     pub a: usize,
     pub b: usize,
     pub at: usize,
@@ -56,10 +35,11 @@ pub struct Plan {
 fn no_plan(number: u32) -> Plan
     ensures { λ r. ⌜ r .number ≡ number ⌝ }
 {
+    let way = Way::InPlace;
     Plan {
         number,
         len: 0,
-        way: 0,
+        way,
         a: 0,
         b: 0,
         at: 0,
@@ -70,26 +50,46 @@ fn no_plan(number: u32) -> Plan
     }
 }
 
-// The plan where the own bay has no room.
-fn plan_other(z: &[u8], h: usize, first: usize, b: usize, a: usize) -> Plan
-    requires { ⌜ Moves (now z) h first b a ⌝ }
-    ensures { λ r. ⌜ Chosen (now (z .entry)) h a (r .number) (r .way) (r .a) (r .b) (r .at) (r .size) (r .start) (r .end) (r .tidy) ⌝ }
+// The plan where there is no room right behind the block, whose b data bytes lie at `at`.
+fn plan_bays(z: &[u8], h: usize, first: usize, at: usize, b: usize, a: usize) -> Plan
+    requires { ⌜ Tight (now z) h first at b a ⌝ }
+    ensures { λ r. ⌜ Chosen (now (z .entry)) h a (r .number) (r .a) (Going (now (z .entry)) h r) ⌝ }
 {
+    let own = bays::find_own(z, first, at - BlockType::RELOCATABLE_HEADER);
+    let own_start = own.start;
+    let own_end = own.end;
+    let own_sum = own.sum;
+    if a - b <= own_sum {
+        let way = Way::OwnBay;
+        return Plan {
+            number: 0,
+            len: 0,
+            way,
+            a,
+            b,
+            at,
+            size: own_sum,
+            start: own_start,
+            end: own_end,
+            tidy: false,
+        };
+    }
     let need = BlockType::RELOCATABLE_HEADER + a;
-    let y = find_bay::find_bay(z, first, need);
-    let found = y.found;
-    let start = y.start;
-    let end = y.end;
-    let sum = y.sum;
+    let low = bays::find_low(z, first, need);
+    let found = low.found;
+    let start = low.start;
+    let end = low.end;
+    let sum = low.sum;
     if found {
-        let s = find_site(z, need, start, end, sum);
+        let s = place::find_room(z, need, start, end, sum);
+        let way = Way::OtherBay;
         let at = s.at;
         let size = s.size;
         let tidy = s.tidy;
         return Plan {
             number: 0,
             len: 0,
-            way: 3,
+            way,
             a,
             b,
             at,
@@ -102,36 +102,10 @@ fn plan_other(z: &[u8], h: usize, first: usize, b: usize, a: usize) -> Plan
     no_plan(5)
 }
 
-// The plan where there is no room right after the block, whose b data bytes lie at `at`.
-fn plan_bays(z: &[u8], h: usize, first: usize, at: usize, b: usize, a: usize) -> Plan
-    requires { ⌜ Grows (now z) h first at b a ⌝ }
-    ensures { λ r. ⌜ Chosen (now (z .entry)) h a (r .number) (r .way) (r .a) (r .b) (r .at) (r .size) (r .start) (r .end) (r .tidy) ⌝ }
-{
-    let y = own_bay::own_bay(z, first, at - BlockType::RELOCATABLE_HEADER);
-    let start = y.start;
-    let end = y.end;
-    let sum = y.sum;
-    if a - b <= sum {
-        return Plan {
-            number: 0,
-            len: 0,
-            way: 2,
-            a,
-            b,
-            at,
-            size: sum,
-            start,
-            end,
-            tidy: false,
-        };
-    }
-    plan_other(z, h, first, b, a)
-}
-
 // The plan in a well-formed zone.
 fn plan_in(z: &[u8], h: usize, c: u32) -> Plan
     requires { ⌜ (IsZone (now z)) × (h < 4294967296) ⌝ }
-    ensures { λ r. ⌜ PlannedIn (now (z .entry)) h c (r .number) (r .way) (r .a) (r .b) (r .at) (r .size) (r .start) (r .end) (r .tidy) ⌝ }
+    ensures { λ r. ⌜ PlannedIn (resize h c) (now (z .entry)) (r .number) (Ready (now (z .entry)) h c r) ⌝ }
 {
     let at = access::place(z, h);
     if at == 0 {
@@ -142,13 +116,13 @@ fn plan_in(z: &[u8], h: usize, c: u32) -> Plan
     }
     let a = (c as usize + 3) / 4 * 4;
     let b = access::data_size(z, h);
-    let first = bigendian::get4(z, 4) as usize;
-    let f = resize_in_place::room_after(z, h, first, at, b);
+    let f = reshape::room_after(z, h, at, b);
     if a <= b + f {
+        let way = Way::InPlace;
         return Plan {
             number: 0,
             len: 0,
-            way: 1,
+            way,
             a,
             b,
             at,
@@ -158,12 +132,13 @@ fn plan_in(z: &[u8], h: usize, c: u32) -> Plan
             tidy: false,
         };
     }
+    let first = bigendian::get4(z, 4) as usize;
     plan_bays(z, h, first, at, b, a)
 }
 
 // The plan: the refusal, 0 for none, and then what the call is to write.
 fn plan_zone(zone: &[u8], h: u32, c: u32) -> Plan
-    ensures { λ r. ⌜ Planned (now (zone .entry)) h c (r .number) (r .len) (r .way) (r .a) (r .b) (r .at) (r .size) (r .start) (r .end) (r .tidy) ⌝ }
+    ensures { λ r. ⌜ Planned (resize h c) (now (zone .entry)) (r .number) (r .len) (Ready (take (r .len) (now (zone .entry))) h c r) ⌝ }
 {
     let k = zone_check::check(zone);
     let ok = k.ok;
@@ -195,29 +170,23 @@ fn plan_zone(zone: &[u8], h: u32, c: u32) -> Plan
     }
 }
 
-// The block of handle h gets a data bytes, by one of the ways.
-fn act(
-    z: &mut [u8],
-    h: usize,
-    way: u8,
-    a: usize,
-    b: usize,
-    at: usize,
-    size: usize,
-    start: usize,
-    end: usize,
-    tidy: bool,
-)
-    requires { ⌜ WayIn (now z) h way a b at size start end tidy ⌝ }
-    ensures { λ _. ⌜ now (z .exit) ≡ encode (resizedTo h a (decodeZone (now (z .entry)))) ⌝ }
+// The plan is carried out.
+fn act(z: &mut [u8], h: usize, p: Plan)
+    requires { ⌜ Going (now z) h p ⌝ }
+    ensures { λ _. ⌜ now (z .exit) ≡ encode (resizedTo h (p .a) (decodeZone (now (z .entry)))) ⌝ }
 {
-    if way == 1 {
-        resize_in_place::resize_here(z, h, at, b, size, a);
-    } else if way == 2 {
-        resize_layout::lay_out(z, h, start, end, size, b, a);
-    } else {
-        let need = BlockType::RELOCATABLE_HEADER + a;
-        resize_relocate::relocate(z, h, b, need, start, end, at, size, tidy);
+    let way = p.way;
+    let a = p.a;
+    let b = p.b;
+    let at = p.at;
+    let size = p.size;
+    let start = p.start;
+    let end = p.end;
+    let tidy = p.tidy;
+    match way {
+        Way::InPlace => reshape::resize_here(z, h, at, b, size, a),
+        Way::OwnBay => reshape::lay_out(z, h, start, end, size, b, a),
+        Way::OtherBay => relocate::relocate(z, h, b, a, start, end, at, size, tidy),
     }
 }
 
@@ -228,27 +197,8 @@ pub fn resize(zone: &mut [u8], h: u32, c: u32) -> Told
     let p = plan_zone(zone, h, c);
     let number = p.number;
     let l = p.len;
-    let way = p.way;
-    let a = p.a;
-    let b = p.b;
-    let at = p.at;
-    let size = p.size;
-    let start = p.start;
-    let end = p.end;
-    let tidy = p.tidy;
     if number == 0 {
-        act(
-            &mut zone[..l],
-            h as usize,
-            way,
-            a,
-            b,
-            at,
-            size,
-            start,
-            end,
-            tidy,
-        );
+        act(&mut zone[..l], h as usize, p);
         return Told {
             number: 0,
             value: 0,

@@ -69,3 +69,9 @@ module _ (s : Structure) (v : Valid s) (pre post : List Block) (cs : List Cell) 
     bay = is-bay cs cells-sound part-is;
     low = rw cells-are (is-low (lows a cs (omega arith) among));
   }
+
+-- a run of cells by its offsets
+pub bay-at : (s : Structure) → Valid s → (before after : List Block) (bay : List Cell) → s .blocks ≡ before ++ (map cell bay ++ after) → (z : List ℕ) (a e : ℕ) → encode s ≡ z → a ≡ start s + sizes before → e ≡ a + baySize bay
+    → ZoneBay z a e × (bayCells z a e ≡ bay)
+bay-at s v before after bay parts z a e ez ea ee =
+    subst (λ (y : List ℕ). ZoneBay y a e × (bayCells y a e ≡ bay)) ez (rw (ee, ea) (zone-bay s v before after bay parts, cells-are s v before after bay parts))

@@ -24,7 +24,7 @@ use Rattle.zone.specs.Group.{flatten}
 use Rattle.zone.specs.Work.{Zone, work}
 use Rattle.zone.specs.Call.{inLine, result, call}
 use Rattle.zone.proofs.GroupLaws.{flatten-group}
-use Rattle.bays.specs.Places.{bayN, baysAt, highBay}
+use Rattle.bays.specs.Places.{baysOf, bayN, baysAt, highBay}
 use Rattle.bays.specs.Found.{FoundLast}
 use Rattle.bays.proofs.At.{bay-sizes, at-old}
 use Rattle.bays.proofs.High.{last-found}
@@ -33,7 +33,7 @@ use Rattle.bay_end.proofs.Found.{zone-tiled, zone-high}
 use Rattle.call_laws.specs.Frame.{zoneAt, Does, PlannedIn, goes, Planned}
 use Rattle.call_laws.proofs.Outcome.{none-lent}
 use Rattle.call_laws.proofs.Frame.{frame-ready, frame-cut, frame-same}
-use Rattle.shrink.specs.Stripped.{baysOf, strips, stripped, Site}
+use Rattle.shrink.specs.Stripped.{strips, stripped, Site}
 use Rattle.shrink.specs.Ready.{ReadyIn}
 use Rattle.shrink.proofs.Placed.{ask-sub, ask-end}
 

@@ -19,6 +19,7 @@ use Rattle.row.specs.Row as Row
 use Rattle.row.proofs.Laws.{sound-append, sound-left}
 use Rattle.calls.specs.Bays.{lastS}
 use Rattle.zone.proofs.GroupLaws.{flatten-group}
+use Rattle.bays.specs.Places.{baysOf}
 use Rattle.bays.proofs.At.{at-old, at-new}
 use Rattle.slide.specs.ZoneBay.{bayCells, settled}
 use Rattle.slide.proofs.Change.{Kept}
@@ -32,7 +33,7 @@ use Rattle.bay_end.proofs.Kept.{kept-free}
 use Rattle.bay_end.proofs.Taken.{trimmed-is}
 use Rattle.bay_end.proofs.Zone.{run-valid, run-take, run-end, run-kept, run-left, run-long}
 use Rattle.bay_end.proofs.End.{rest, rest-behind, rest-size, lens, end-changed}
-use Rattle.shrink.specs.Stripped.{baysOf, stripped, Site}
+use Rattle.shrink.specs.Stripped.{stripped, Site}
 
 module _ (z : List ℕ) (n a e sum tail : ℕ) (x : Site z n a e sum tail) where
   abbrev s : Structure

@@ -9,10 +9,8 @@ use Rattle.calls.specs.Bays.{Bays, onLast, lastS}
 use Rattle.calls.specs.State.{Fixed}
 use Rattle.bay.specs.Bay.{Cell, baySum, takeHigh}
 use Rattle.zone.specs.Group.{group, flatten}
+use Rattle.bays.specs.Places.{baysOf}
 use Rattle.bays.specs.Found.{FoundLast}
-
-abbrev pub baysOf : Structure → Bays (List Cell) Fixed
-baysOf s = group (start s) (s .blocks)
 
 -- "the lesser of k rounded down to a multiple of 4 and the last bay's sum"
 abbrev pub strips : Structure → ℕ → ℕ

@@ -1,6 +1,7 @@
 use Rattle.access.proofs.Checked.{zone-8, zone-14}
 use Rattle.free_block.proofs.Walk.{walk-row, walk-low}
-use Rattle.free_handle.proofs.Laws.{in-6, data-low, at-fits, end-word, prev-in, row-in, end-in, in-0}
+use Rattle.free_block.proofs.Live.{data-low, at-fits, end-word, prev-in, row-in, end-in}
+use Rattle.free_handle.proofs.Laws.{in-6, in-0}
 use borrow.Author.Needs.{needs}
 use Rattle.free_handle.proofs.free_in.Statement.{statement}
 use Rattle.free_handle.proofs.free_in.Tie as tie

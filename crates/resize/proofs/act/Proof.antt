@@ -1,4 +1,4 @@
-use Rattle.resize.proofs.Acts.{act-here, act-own, act-other, act-word, here-done, own-done, other-done}
+use Rattle.resize.proofs.Ways.{act-here, act-own, act-other, here-done, own-done, other-done}
 use borrow.Author.Needs.{needs}
 use Rattle.resize.proofs.act.Statement.{statement}
 use Rattle.resize.proofs.act.Tie as tie
@@ -8,9 +8,6 @@ resize-here-requires c κs = search act-here
 
 lay-out-requires : tie.Need-lay-out-requires
 lay-out-requires c κs = search act-own
-
-add-need : tie.Need-add-need
-add-need c = search act-word
 
 relocate-requires : tie.Need-relocate-requires
 relocate-requires c κs = search act-other
@@ -28,9 +25,11 @@ pub act-spec : {M : Type 1} → statement M
 act-spec =
     tie.close
     (tie.spec
+    (λ c. search needs)
     resize-here-requires
+    (λ c. search needs)
     lay-out-requires
-    add-need
+    (λ c. search needs)
     relocate-requires
     (λ c. search needs)
     returns

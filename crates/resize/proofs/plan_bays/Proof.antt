@@ -1,23 +1,40 @@
-use Rattle.resize.proofs.Owns.{own-at, own-row, own-start, own-short, own-more, own-2, own-not}
+use Rattle.resize.proofs.Bays.{ask-row, ask-first, ask-limit, ask-low, own-way, other-bay, other-way, other-none}
 use borrow.Author.Needs.{needs}
 use Rattle.resize.proofs.plan_bays.Statement.{statement}
 use Rattle.resize.proofs.plan_bays.Tie as tie
 
-sub-own-bay : tie.Need-sub-own-bay
-sub-own-bay c = search own-at
+sub-find-own : tie.Need-sub-find-own
+sub-find-own c = search ask-low
 
-own-bay-requires : tie.Need-own-bay-requires
-own-bay-requires c κs = (search own-row, search own-start, search own-short)
-
-sub-if1 : tie.Need-sub-if1
-sub-if1 c = search own-more
+find-own-requires : tie.Need-find-own-requires
+find-own-requires c κs = (search ask-row, search ask-first, search ask-limit)
 
 returns : tie.Need-returns
-returns c = search own-2
+returns c = search own-way
 
-plan-other-requires : tie.Need-plan-other-requires
-plan-other-requires c κs = search own-not
+find-low-requires : tie.Need-find-low-requires
+find-low-requires c κs = (search ask-row, search ask-first, search ask-limit)
+
+find-room-requires : tie.Need-find-room-requires
+find-room-requires c κs = search other-bay
+
+returns-2 : tie.Need-returns-2
+returns-2 c = search other-way
+
+returns-3 : tie.Need-returns-3
+returns-3 c = search other-none
 
 pub plan-bays-spec : {M : Type 1} → statement M
 plan-bays-spec =
-    tie.close (tie.spec sub-own-bay own-bay-requires sub-if1 returns plan-other-requires (λ c. search needs))
+    tie.close
+    (tie.spec
+    sub-find-own
+    find-own-requires
+    (λ c. search needs)
+    returns
+    (λ c. search needs)
+    find-low-requires
+    find-room-requires
+    returns-2
+    (λ c κs. search needs)
+    returns-3)

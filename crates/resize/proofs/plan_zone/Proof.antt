@@ -1,12 +1,12 @@
 use native.Mathlib.Omega.{arith}
+use Rattle.call_laws.proofs.Frame.{plan-ill, plan-well}
 use Rattle.access.proofs.Checked.{has-length, has-zone, has-whole, take-len, bytes-of}
-use Rattle.resize.proofs.Call.{plan-no, plan-yes}
 use borrow.Author.Needs.{needs}
 use Rattle.resize.proofs.plan_zone.Statement.{statement}
 use Rattle.resize.proofs.plan_zone.Tie as tie
 
 returns : tie.Need-returns
-returns c = search plan-no
+returns c = search plan-ill
 
 get4-requires : tie.Need-get4-requires
 get4-requires c κs = search has-length
@@ -18,7 +18,7 @@ plan-in-requires : tie.Need-plan-in-requires
 plan-in-requires c κs = (search (has-whole, bytes-of), omega arith)
 
 returns-2 : tie.Need-returns-2
-returns-2 c = search (plan-yes, has-zone)
+returns-2 c = search plan-well
 
 pub plan-zone-spec : {M : Type 1} → statement M
 plan-zone-spec =

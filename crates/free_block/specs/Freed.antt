@@ -1,0 +1,11 @@
+-- A block that a handle names becomes free.
+use mathlib.Core.List.{_∷_}
+use Prim.Native.Nat.{ℕ}
+use Rattle.bay.specs.Bay.{release}
+use Rattle.structure.specs.Structure.{Structure, start}
+use Rattle.calls.specs.Bays.{mapS}
+use Rattle.zone.specs.Group.{group, flatten}
+
+-- the structure without the block of handle h, which is the chain's head then
+abbrev pub freed : ℕ → Structure → Structure
+freed h s = record { chain = h ∷ s .chain; blocks = flatten (mapS (release h) (group (start s) (s .blocks))) }
