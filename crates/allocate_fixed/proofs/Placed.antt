@@ -22,7 +22,7 @@ use Rattle.structure.proofs.Round.{offset-is}
 use Rattle.row.specs.Row as Row
 use Rattle.row.proofs.Laws.{bytes-append, sound-append}
 use Rattle.zone.proofs.GroupLaws.{flatten-group}
-use Rattle.compact_bay.specs.Tidy as Tidy
+use Rattle.surgery.specs.Masters as Masters
 use Rattle.slide.specs.ZoneBay.{setAll, bayCells}
 use Rattle.slide.proofs.Change.{Kept}
 use Rattle.surgery.proofs.Sound.{handle-in}
@@ -48,10 +48,10 @@ fixed-bytes n l =
     append-nil _ ∙ ap (λ (k : ℕ). toBE 2 (fixedCode * typeUnit + k / 2) ++ replicate (n - fixedHeader) 0) e
 
 -- it has no master
-set-fixed : (at : ℕ) (bs : List Block) (d z : List ℕ) → Tidy.setAll at (bs ++ (fixed d ∷ [])) z ≡ Tidy.setAll at bs z
-unfolding Tidy.setAll Tidy.setOne
+set-fixed : (at : ℕ) (bs : List Block) (d z : List ℕ) → Masters.setAll at (bs ++ (fixed d ∷ [])) z ≡ Masters.setAll at bs z
+unfolding Masters.setAll Masters.setOne
 set-fixed at [] d z = refl
-set-fixed at (b ∷ bs) d z = set-fixed (at + size b) bs d (Tidy.setOne at b z)
+set-fixed at (b ∷ bs) d z = set-fixed (at + size b) bs d (Masters.setOne at b z)
 
 handles-fixed : (bs : List Block) (d : List ℕ) → handlesOf (bs ++ (fixed d ∷ [])) ≡ handlesOf bs
 unfolding handlesOf
@@ -141,7 +141,7 @@ module _ (z : List ℕ) (need a e sum tail : ℕ) (x : Site z need a e sum tail)
       ∙ ap (overwrite y a) (ap₂ _++_ (all-bytes ds) (sym (fixed-bytes need (omega (arith, x .low)))) ∙ sym (bytes-append (map cell ds) (fixed zs ∷ []))))
       ∙ all-set a ds (overwrite y a (Row.bytesOf new)) masters
       ∙ sym (set-fixed a (map cell ds) zs (overwrite y a (Row.bytesOf new)))
-      ∙ ap (λ (o : ℕ). Tidy.setAll o new (overwrite y o (Row.bytesOf new))) (run .numbers .start-is)
+      ∙ ap (λ (o : ℕ). Masters.setAll o new (overwrite y o (Row.bytesOf new))) (run .numbers .start-is)
       ∙ moved s v pre (map cell cs) new post (s .chain) (run .parts) same-size
       (sound-append (map cell ds) (fixed zs ∷ []) (all-sound ds (kept .sound)) ((omega (arith, long-zs, x .low, x .four), omega (arith, long-zs, x .high)), tt)) same-handles refl
       ∙ ap (λ (b : List Block). encode (record { chain = s .chain; blocks = pre ++ b })) (append-assoc (map cell ds) (fixed zs ∷ []) post)

@@ -22,7 +22,8 @@ use Rattle.zone.proofs.Places.{Tiled}
 use Rattle.zone.proofs.GroupLaws.{group-flatten}
 use Rattle.bays.specs.Places.{baysAt, endFree}
 use Rattle.slide.specs.ZoneBay.{ZoneBay, bayCells, settled}
-use Rattle.surgery.proofs.Sound.{lastFree, firstFree, valid-sound, tiled-left, tiled-right}
+use Rattle.row.proofs.Zone.{valid-sound}
+use Rattle.surgery.proofs.Sound.{lastFree, firstFree, tiled-left, tiled-right}
 use Rattle.surgery.proofs.Replace.{sizes-parts}
 use Rattle.settle.proofs.Cells.{all-sizes}
 use Rattle.settle.proofs.Bay.{zone-bay, cells-are}

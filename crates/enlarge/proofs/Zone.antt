@@ -9,7 +9,6 @@ use borrow.Author.Tests.{eqb-true, leb-true}
 use lib.ListN.{length, length-append}
 use lib.Seq.{take-at}
 use Rattle.structure.proofs.Append.{sizes-append}
-use Rattle.walk.proofs.Zone.{tiles-are}
 use Rattle.free_block.proofs.Hole.{free-hole}
 use Rattle.bigendian.proofs.Overwrite.{swap}
 use Rattle.blank.specs.Between.{Hole, nothing, zeros, Between}
@@ -26,7 +25,8 @@ use Rattle.access.specs.Edit.{IsZone}
 use Rattle.access.proofs.Zone.{whole-of}
 use Rattle.row.specs.Row.{Sound, bytesOf}
 use Rattle.row.proofs.Laws.{low-of, sound-right}
-use Rattle.surgery.proofs.Sound.{valid-sound, tiled-left, tiled-right, tiled-false}
+use Rattle.row.proofs.Zone.{valid-sound}
+use Rattle.surgery.proofs.Sound.{tiled-left, tiled-right, tiled-false}
 use Rattle.calls.specs.Calls.{told, enlarge}
 use Rattle.calls.specs.Bays.{lastS, onLast}
 use Rattle.calls.specs.Table.{cause, first, order, refusalOf}

@@ -17,7 +17,7 @@ use Rattle.access.specs.Edit.{IsZone}
 use Rattle.access.proofs.Zone.{whole-of}
 use Rattle.row.specs.Row.{Row, Sound, blocksOf, blockAt, Stepped}
 use Rattle.row.proofs.Laws.{low-of, stepped}
-use Rattle.surgery.proofs.Sound.{valid-sound}
+use Rattle.row.proofs.Zone.{valid-sound}
 use Rattle.settle.proofs.Cells.{all-sizes}
 use Rattle.free_block.specs.Around.{partOf, lastPart, firstPart, Around, Freeing}
 use Rattle.free_block.specs.Walk.{Below, Stopped, Extended}

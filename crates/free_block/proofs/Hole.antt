@@ -18,7 +18,7 @@ use Rattle.access.specs.Edit.{IsZone}
 use Rattle.access.proofs.Zone.{whole-of}
 use Rattle.row.specs.Row.{bytesOf, Sound}
 use Rattle.row.proofs.Laws.{bytes-append, bytes-long, sound-left, sound-right}
-use Rattle.surgery.proofs.Sound.{valid-sound}
+use Rattle.row.proofs.Zone.{valid-sound}
 use Rattle.blank.specs.Between.{Hole, nothing, zeros}
 
 module _ (z : List ℕ) (i : IsZone z) where

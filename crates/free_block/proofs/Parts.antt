@@ -14,7 +14,8 @@ use Rattle.structure.specs.Valid.{handlesOf, Tiled, Valid}
 use Rattle.structure.proofs.Append.{sizes-append, handles-append}
 use Rattle.row.specs.Row as Row
 use Rattle.row.proofs.Laws.{low-of, sound-left, sound-right}
-use Rattle.surgery.proofs.Sound.{valid-sound, tiled-right}
+use Rattle.row.proofs.Zone.{valid-sound}
+use Rattle.surgery.proofs.Sound.{tiled-right}
 use Rattle.settle.proofs.Cells.{all-sizes}
 use Rattle.free_block.specs.Around.{Around}
 

@@ -18,7 +18,7 @@ use Rattle.access.proofs.Zone.{whole-of}
 use Rattle.bay.specs.Bay.{free, held}
 use Rattle.row.specs.Row.{Row, row, blocksOf, kindB, blockAt, Stepped}
 use Rattle.row.proofs.Laws.{row-end, stepped}
-use Rattle.surgery.proofs.Sound.{valid-sound}
+use Rattle.row.proofs.Zone.{valid-sound}
 use Rattle.free_block.specs.Around.{partOf, lastPart, firstPart}
 use Rattle.free_block.specs.Walk.{Below, Passed, Stopped}
 

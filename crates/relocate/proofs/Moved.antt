@@ -26,7 +26,7 @@ use Rattle.row.proofs.Laws as Rows
 use Rattle.slide.specs.ZoneBay.{settled}
 use Rattle.slide.proofs.One.{set-one}
 use Rattle.surgery.proofs.Image.{img, upd, encode-img, img-rest, img-chain, img-master, img-same}
-use Rattle.surgery.proofs.Sound.{valid-sound}
+use Rattle.row.proofs.Zone.{valid-sound}
 use Rattle.surgery.proofs.Replace.{sizes-parts, start-same}
 use Rattle.settle.proofs.Cells.{all-sizes}
 use Rattle.free_block.specs.Around.{Around}

@@ -24,7 +24,8 @@ use Rattle.zone.specs.Work.{has}
 use Rattle.zone.proofs.GroupLaws.{flatten-group}
 use Rattle.bays.specs.Places.{baysOf}
 use Rattle.bays.proofs.At.{at-old, at-new}
-use Rattle.surgery.proofs.Sound.{valid-sound, tiled-right}
+use Rattle.row.proofs.Zone.{valid-sound}
+use Rattle.surgery.proofs.Sound.{tiled-right}
 use Rattle.surgery.proofs.Replace.{sizes-parts}
 use Rattle.settle.proofs.Cells.{all-sizes}
 use Rattle.reshape.specs.Own.{Own, bayOf, dataAt}

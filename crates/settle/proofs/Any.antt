@@ -18,7 +18,7 @@ use Rattle.structure.specs.Structure.{Block, Structure, sizes, count, start, le
 use Rattle.structure.specs.Valid.{handlesOf, Valid}
 use Rattle.structure.proofs.Round.{next-none, offset-is}
 use Rattle.row.specs.Row as Row
-use Rattle.compact_bay.specs.Tidy as Tidy
+use Rattle.surgery.specs.Masters as Masters
 use Rattle.slide.specs.ZoneBay.{settled}
 use Rattle.surgery.proofs.Image.{img, encode-img, img-chain, img-rest, img-all, all-is, updAll}
 use Rattle.surgery.proofs.Sound.{handle-once}
@@ -75,7 +75,7 @@ module _ (s : Structure) (v : Valid s) (pre post : List Block) (cs cs′ : List 
         let l = len s in let f = start s in let m = count s in let c = headOf ks in
         let r = Row.bytesOf (s .blocks) in
         rw (all-bytes cs′, all-set a cs′ (overwrite (img l f m c g r) a (Row.bytesOf mid′)) (λ h o. omega (arith, offset-is h zoneHeader m (inside h o) .0)))
-        (ap (Tidy.setAll a mid′) (img-rest l f m c (sizes pre) a g r (Row.bytesOf mid′) refl)
+        (ap (Masters.setAll a mid′) (img-rest l f m c (sizes pre) a g r (Row.bytesOf mid′) refl)
         ∙ img-all l f m c a mid′ g (overwrite r (sizes pre) (Row.bytesOf mid′)) inside
         ∙ replaced s v pre mid mid′ post ks e sz snd ct (updAll g a mid′) holds)
 

@@ -17,7 +17,8 @@ use Rattle.structure.specs.Valid.{handlesOf, Valid}
 use Rattle.structure.proofs.Round.{offset-is, rest-is, length-is}
 use Rattle.row.specs.Row as Row
 use Rattle.row.proofs.Laws.{bytes-append, bytes-long, sound-left, sound-right}
-use Rattle.surgery.proofs.Sound.{handle-in, valid-sound}
+use Rattle.row.proofs.Zone.{valid-sound}
+use Rattle.surgery.proofs.Sound.{handle-in}
 use Rattle.surgery.proofs.Replace.{occurs-parts, sizes-parts}
 use Rattle.slide.specs.ZoneBay.{Low, is-low, partOf, bayCells, ZoneBay}
 use Rattle.settle.proofs.Cells.{all-bytes, all-sizes, sound-cells}

@@ -14,7 +14,7 @@ use Rattle.bay.specs.Sound.{bytesOf, Sound}
 use Rattle.structure.specs.Structure.{encodeBlock, sizes, join, cell}
 use Rattle.structure.specs.Valid.{handlesOf}
 use Rattle.row.specs.Row as Row
-use Rattle.compact_bay.specs.Tidy as Tidy
+use Rattle.surgery.specs.Masters as Masters
 use Rattle.slide.specs.ZoneBay.{setOne, setAll}
 
 pub all-bytes : (cs : List Cell) → bytesOf cs ≡ Row.bytesOf (map cell cs)
@@ -44,8 +44,8 @@ handles-items [] = refl
 handles-items (free n ∷ cs) = handles-items cs
 handles-items (held e ∷ cs) = ap (λ (hs : List ℕ). masterOf e ∷ hs) (handles-items cs)
 
-pub all-set : (at : ℕ) (cs : List Cell) (z : List ℕ) → ((h : ℕ) → 0 < occurs h (handlesOf (map cell cs)) → 0 < h) → setAll at cs z ≡ Tidy.setAll at (map cell cs) z
-unfolding setAll setOne Tidy.setAll Tidy.setOne handlesOf occurs
+pub all-set : (at : ℕ) (cs : List Cell) (z : List ℕ) → ((h : ℕ) → 0 < occurs h (handlesOf (map cell cs)) → 0 < h) → setAll at cs z ≡ Masters.setAll at (map cell cs) z
+unfolding setAll setOne Masters.setAll Masters.setOne handlesOf occurs
 all-set at [] z p = refl
 all-set at (free n ∷ cs) z p = all-set (at + n) cs z p
 all-set at (held e ∷ cs) z p =

@@ -23,7 +23,7 @@ use Rattle.bays.specs.Places.{baysOf}
 use Rattle.bays.proofs.At.{at-old, at-new}
 use Rattle.slide.specs.ZoneBay.{bayCells, settled}
 use Rattle.slide.proofs.Change.{Kept}
-use Rattle.surgery.proofs.Sound.{valid-sound}
+use Rattle.row.proofs.Zone.{valid-sound}
 use Rattle.surgery.proofs.Replace.{start-same}
 use Rattle.settle.proofs.Any.{settle}
 use Rattle.settle.proofs.Cells.{all-sizes, all-sound, handles-items}

@@ -11,16 +11,17 @@ use borrow.Author.Tests.{eqb-true, eq-eqb, ne-eqb}
 use lib.ListN.{length, set, length-map}
 use Rattle.format.specs.Occurs.{occurs}
 use Rattle.format.specs.WellFormed.{offsets}
-use Rattle.block_type.specs.Limits.{fixedHeader, masterSize, relocHeader, zoneHeader}
+use Rattle.block_type.specs.Limits.{fixedHeader, masterSize, zoneHeader}
 use Rattle.bigendian.specs.BigEndian.{toBE, overwrite}
 use Rattle.format.proofs.Count.{one, one-same, length-offsets}
 use Rattle.structure.specs.Structure.{Block, fixed, Structure, size, count, start, len, headOf, placeOf, value, encode, cell}
+use Rattle.kinds.specs.Kinds.{headerOf, masterOf, itemSize}
 use Rattle.bay.specs.Bay.{free, held}
 use Rattle.structure.specs.Valid.{handlesOf}
 use Rattle.structure.proofs.Round.{offset-is}
 use Rattle.row.specs.Row.{bytesOf}
 use Rattle.structure.proofs.ZoneLayout.{lay, encode-lay, lay-chain, lay-master, lay-rest, values-set}
-use Rattle.compact_bay.specs.Tidy.{setOne, setAll}
+use Rattle.surgery.specs.Masters.{setOne, setAll}
 
 abbrev pub img : ℕ → ℕ → ℕ → ℕ → (ℕ → ℕ) → List ℕ → List ℕ
 img l f m c g r = lay l f m c (map g (offsets zoneHeader m)) r
@@ -42,7 +43,7 @@ img-master l f m c h v g r o =
     let e : h ≡ zoneHeader + masterSize * i = omega (arith, q .0, q .2) in
     let li : i < m = omega (arith, q .0, q .1) in
     let ln : length (map g (offsets zoneHeader m)) ≡ m = length-map (offsets zoneHeader m) g ∙ length-offsets zoneHeader m in
-    let vs = values-set g (upd g h v) h 16 m i e li (λ k ne. rw (ne-eqb k h ne)) in
+    let vs = values-set g (upd g h v) h zoneHeader m i e li (λ k ne. rw (ne-eqb k h ne)) in
     let at-h : upd g h v h ≡ v = rw (eq-eqb h h refl) in
     ap (λ (x : ℕ). overwrite (img l f m c g r) x (toBE 4 v)) e
     ∙ lay-master l f m c i v (map g (offsets zoneHeader m)) r (omega arith)
@@ -68,7 +69,7 @@ img-same l f m c g g′ r e = ap (λ (vs : List ℕ). lay l f m c vs r) (map-sam
 unfoldable pub updOne : (ℕ → ℕ) → ℕ → Block → ℕ → ℕ
 updOne g at (cell (free n)) = g
 updOne g at (fixed d) = g
-updOne g at (cell (held it)) = upd g (it .handle) (at + 4)
+updOne g at (cell (held it)) = upd g (masterOf it) (at + headerOf it)
 
 unfoldable pub updAll : (ℕ → ℕ) → ℕ → List Block → ℕ → ℕ
 updAll g at [] = g
@@ -81,8 +82,8 @@ img-all l f m c at [] g r o = refl
 img-all l f m c at (cell (free n) ∷ bs) g r o = img-all l f m c (at + n) bs g r o
 img-all l f m c at (fixed d ∷ bs) g r o = img-all l f m c (at + (fixedHeader + length d)) bs g r o
 img-all l f m c at (cell (held it) ∷ bs) g r o =
-    ap (setAll (at + (relocHeader + length (it .bytes))) bs) (img-master l f m c (it .handle) (at + 4) g r (o (it .handle) (omega (arith, one-same (it .handle) (it .handle) refl))))
-    ∙ img-all l f m c (at + (relocHeader + length (it .bytes))) bs (upd g (it .handle) (at + 4)) r (λ k p. o k (omega arith))
+    ap (setAll (at + itemSize it) bs) (img-master l f m c (masterOf it) (at + headerOf it) g r (o (masterOf it) (omega (arith, one-same (masterOf it) (masterOf it) refl))))
+    ∙ img-all l f m c (at + itemSize it) bs (upd g (masterOf it) (at + headerOf it)) r (λ k p. o k (omega arith))
 
 -- what a master holds after the pass: the place of its block, where it has one among these
 pub all-is : (g : ℕ → ℕ) (at k : ℕ) (bs : List Block) → occurs k (handlesOf bs) ≤ 1
@@ -91,12 +92,12 @@ unfolding updAll updOne handlesOf occurs placeOf
 all-is g at k [] o = refl
 all-is g at k (cell (free n) ∷ bs) o = all-is g (at + n) k bs o
 all-is g at k (fixed d ∷ bs) o = all-is g (at + (fixedHeader + length d)) k bs o
-all-is g at k (cell (held it) ∷ bs) o = go (eqb k (it .handle)) refl (all-is (upd g (it .handle) (at + 4)) (at + (relocHeader + length (it .bytes))) k bs (omega arith))
+all-is g at k (cell (held it) ∷ bs) o = go (eqb k (masterOf it)) refl (all-is (upd g (masterOf it) (at + headerOf it)) (at + itemSize it) k bs (omega arith))
   where
-    go : (t : Bool) → eqb k (it .handle) ≡ t → updAll (upd g (it .handle) (at + 4)) (at + (relocHeader + length (it .bytes))) bs k ≡ cond (eqb (occurs k (handlesOf bs)) 0) (cond (eqb k (it .handle)) (at + 4) (g k)) (placeOf k (at + (relocHeader + length (it .bytes))) bs)
-        → updAll (upd g (it .handle) (at + 4)) (at + (relocHeader + length (it .bytes))) bs k ≡ cond (eqb (one k (it .handle) + occurs k (handlesOf bs)) 0) (g k) (cond t (at + 4) (placeOf k (at + (relocHeader + length (it .bytes))) bs))
+    go : (t : Bool) → eqb k (masterOf it) ≡ t → updAll (upd g (masterOf it) (at + headerOf it)) (at + itemSize it) bs k ≡ cond (eqb (occurs k (handlesOf bs)) 0) (cond (eqb k (masterOf it)) (at + headerOf it) (g k)) (placeOf k (at + itemSize it) bs)
+        → updAll (upd g (masterOf it) (at + headerOf it)) (at + itemSize it) bs k ≡ cond (eqb (one k (masterOf it) + occurs k (handlesOf bs)) 0) (g k) (cond t (at + headerOf it) (placeOf k (at + itemSize it) bs))
     go true e i =
-        let q = one-same k (it .handle) (eqb-true k (it .handle) e) in
+        let q = one-same k (masterOf it) (eqb-true k (masterOf it) e) in
         let z : occurs k (handlesOf bs) ≡ 0 = omega arith in
         i ∙ (rw (z, e))
     go false e i = i ∙ (rw (e, zero-add (occurs k (handlesOf bs))))

@@ -19,10 +19,11 @@ use Rattle.structure.proofs.Round.{next-none}
 use Rattle.row.specs.Row.{bytesOf, Sound}
 use Rattle.row.proofs.Laws.{bytes-append, bytes-long, sound-left, sound-right}
 use Rattle.structure.proofs.Append.{sizes-append, place-append, count-handles, handles-append}
-use Rattle.compact_bay.specs.Tidy.{setAll}
+use Rattle.surgery.specs.Masters.{setAll}
 use Rattle.structure.proofs.ZoneLayout.{write-mid, lay-same}
 use Rattle.surgery.proofs.Image.{img, encode-img, img-rest, img-same, img-all, all-is, updAll}
-use Rattle.surgery.proofs.Sound.{handle-in, handle-once, valid-sound}
+use Rattle.row.proofs.Zone.{valid-sound}
+use Rattle.surgery.proofs.Sound.{handle-in, handle-once}
 
 pub occurs-parts : (g : ℕ) (a b c : List Block) → occurs g (handlesOf (a ++ (b ++ c))) ≡ occurs g (handlesOf a) + (occurs g (handlesOf b) + occurs g (handlesOf c))
 occurs-parts g a b c =

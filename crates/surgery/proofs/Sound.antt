@@ -1,34 +1,17 @@
--- What a valid structure's blocks are, and which lists of blocks are tiled.
+-- The handles of a valid structure, and which lists of blocks are tiled.
 use mathlib.Core.Path.{_≡_, refl}
 use mathlib.Core.List.{List, [], _∷_, _++_}
 use mathlib.Core.Bool.{Bool, true, false}
-use Prim.Native.Nat.{ℕ, _+_, _-_, _<_, _≤_}
+use Prim.Native.Nat.{ℕ, _+_, _<_, _≤_}
 use native.Mathlib.Omega.{arith}
 use Rattle.format.specs.Occurs.{occurs}
 use Rattle.format.specs.WellFormed.{offsets}
 use Rattle.block_type.specs.Limits.{zoneHeader}
-use Rattle.format.proofs.Count.{one-same}
-use Rattle.structure.specs.Structure.{Block, fixed, Structure, count, start, cell}
+use Rattle.structure.specs.Structure.{Block, fixed, Structure, count, cell}
 use Rattle.bay.specs.Bay.{free, held}
 use Rattle.structure.specs.Valid.{handlesOf, Tiled, Valid}
-use Rattle.structure.proofs.Round.{offset-is, offset-le}
-use Rattle.row.specs.Row.{Sound}
-use Rattle.compact_bay.specs.Tidy.{Low}
+use Rattle.structure.proofs.Round.{offset-le}
 pub use Rattle.surgery.specs.Bays.{lastFree, firstFree}
-
-tiled-sound : (prev : Bool) (bs : List Block) → Tiled prev bs → ((h : ℕ) → 0 < occurs h (handlesOf bs) → h < 65536) → Sound bs
-unfolding handlesOf occurs
-tiled-sound prev [] t f = tt
-tiled-sound prev (cell (free n) ∷ bs) t f = ((t .1, t .2, t .3), tiled-sound true bs (t .4) f)
-tiled-sound prev (fixed d ∷ bs) t f = ((t .0, t .1), tiled-sound false bs (t .3) f)
-tiled-sound prev (cell (held it) ∷ bs) t f = ((t .0, t .1, f (it .handle) (omega (arith, one-same (it .handle) (it .handle) refl))), tiled-sound false bs (t .3) (λ k l. f k (omega arith)))
-
-all-low : (lim : ℕ) (bs : List Block) → ((h : ℕ) → 0 < occurs h (handlesOf bs) → (h + 4 ≤ lim) × (0 < h)) → Low lim bs
-unfolding handlesOf occurs
-all-low lim [] f = tt
-all-low lim (cell (free n) ∷ bs) f = all-low lim bs f
-all-low lim (fixed d ∷ bs) f = all-low lim bs f
-all-low lim (cell (held it) ∷ bs) f = let p = f (it .handle) (omega (arith, one-same (it .handle) (it .handle) refl)) in (p .0, p .1, all-low lim bs (λ k l. f k (omega arith)))
 
 module _ (s : Structure) (v : Valid s) where
   pub handle-in : (h : ℕ) → 0 < occurs h (handlesOf (s .blocks)) → 0 < occurs h (offsets zoneHeader (count s))
@@ -36,24 +19,6 @@ module _ (s : Structure) (v : Valid s) where
 
   pub handle-once : (h : ℕ) → occurs h (handlesOf (s .blocks)) + occurs h (s .chain) ≤ 1
   handle-once h = omega (arith, v .owned h, offset-le h zoneHeader (count s))
-
-  pub valid-sound : Sound (s .blocks)
-  valid-sound = tiled-sound false (s .blocks) (v .tiled) (λ h l. let q = offset-is h zoneHeader (count s) (handle-in h l) in omega (arith, q .1, v .few))
-
-  pub valid-low : Low (start s) (s .blocks)
-  valid-low = all-low (start s) (s .blocks) (λ h l. let q = offset-is h zoneHeader (count s) (handle-in h l) in (q .1, omega (arith, q .0)))
-
-pub low-append : (lim : ℕ) (a b : List Block) → Low lim (a ++ b) → Low lim b
-low-append lim [] b x = x
-low-append lim (cell (free n) ∷ a) b x = low-append lim a b x
-low-append lim (fixed d ∷ a) b x = low-append lim a b x
-low-append lim (cell (held it) ∷ a) b x = low-append lim a b (x .2)
-
-pub low-left : (lim : ℕ) (a b : List Block) → Low lim (a ++ b) → Low lim a
-low-left lim [] b x = tt
-low-left lim (cell (free n) ∷ a) b x = low-left lim a b x
-low-left lim (fixed d ∷ a) b x = low-left lim a b x
-low-left lim (cell (held it) ∷ a) b x = (x .0, x .1, low-left lim a b (x .2))
 
 -- ---- tiled lists, in parts
 

@@ -1,2 +1,2 @@
-pub mod Carved
 pub mod Bays
+pub mod Masters

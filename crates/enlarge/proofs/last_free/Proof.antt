@@ -1,4 +1,3 @@
-use Rattle.walk.proofs.Zone.{zone-edge, zone-first}
 use Rattle.access.proofs.Checked.{zone-8}
 use Rattle.row.proofs.Zone.{zone-row, zone-start, zone-short}
 use Rattle.enlarge.proofs.Zone.{last-at, last-low}

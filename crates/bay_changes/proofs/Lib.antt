@@ -1,4 +1,0 @@
-pub mod Edges
-pub mod Grow
-pub mod Own
-pub mod Reshape

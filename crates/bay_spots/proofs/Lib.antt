@@ -1,3 +1,0 @@
-pub mod Fit
-pub mod Low
-pub mod Spots

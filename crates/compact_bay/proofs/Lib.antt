@@ -1,3 +1,0 @@
-pub mod Part
-pub mod Pass
-pub mod Squeeze

@@ -1,2 +1,0 @@
-pub mod FindLaws
-pub mod Numbers

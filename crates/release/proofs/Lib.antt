@@ -1,4 +1,0 @@
-pub mod Act
-pub mod Find
-pub mod Freed
-pub mod Reach

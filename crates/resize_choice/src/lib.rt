@@ -1,1 +1,0 @@
-// The bay that a resized block moves to, and what the call does there: laws alone.

@@ -1,5 +1,0 @@
-pub mod Shape
-pub mod Lead
-pub mod Writes
-pub mod Cells
-pub mod Call

@@ -1,4 +1,0 @@
-pub mod Parts
-pub mod Laid
-pub mod Grow
-pub mod Call

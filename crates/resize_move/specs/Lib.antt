@@ -1,3 +1,0 @@
-pub mod Move
-pub mod Relocated
-pub mod Hole
