@@ -9,9 +9,9 @@ use Rattle.block_type.specs.Limits.{smallestBlock}
 use Rattle.format.specs.WellFormed.{typeOf, sizeOf}
 use Rattle.format.proofs.Walk.{blocks-cons, blocks-nil, kind-take, size-take}
 use Rattle.kinds.specs.Kinds.{Item}
-use Rattle.bay.specs.Bay.{Cell, free, held, cellSize, baySize, gap, packed}
+use Rattle.bay.specs.Bay.{Cell, free, held, cellSize, baySize, gap, packed, cellCode}
 use Rattle.bay.specs.Bytes.{encodeCell}
-use Rattle.bay.specs.Sound.{bytesOf, cellsOf, Sound1, Sound, IsBay, is-bay, cellAt, typeCode, Stepped}
+use Rattle.bay.specs.Sound.{bytesOf, cellsOf, Sound1, Sound, IsBay, is-bay, cellAt, Stepped}
 use Rattle.bay.proofs.CellBytes.{Enc, enc}
 
 -- the zeros of a free block, less some
@@ -28,7 +28,7 @@ record Front (c : Cell) (r t : List ℕ) : Type 0 where
   image : take (cellSize c) r ≡ encodeCell c
   rest : drop (cellSize c) r ≡ t
   long : length r ≡ cellSize c + length t
-  code : typeOf r ≡ typeCode c
+  code : typeOf r ≡ cellCode c
   cells : cellsOf r ≡ c ∷ cellsOf t
   of : Enc c
 

@@ -12,16 +12,16 @@ use Rattle.format.specs.WellFormed.{typeOf, sizeOf}
 use Rattle.format.proofs.Walk.{size-free, size-used}
 use Rattle.kinds.specs.Kinds.{codeOf, tagOf, itemSize, itemIn}
 use Rattle.kinds.proofs.KindLaws.{tag-long, facts, type-of, item-back}
-use Rattle.bay.specs.Bay.{Cell, free, held, cellSize}
+use Rattle.bay.specs.Bay.{Cell, free, held, cellSize, cellCode}
 use Rattle.bay.specs.Bytes.{encodeCell}
-use Rattle.bay.specs.Sound.{decodeCell, Sound1, typeCode}
+use Rattle.bay.specs.Sound.{decodeCell, Sound1}
 
 -- what the bytes of a block say
 pub record Enc (c : Cell) : Type 0 where
   pub long : length (encodeCell c) ≡ cellSize c
   pub same : sizeOf (encodeCell c) ≡ cellSize c
   pub back : decodeCell (encodeCell c) ≡ c
-  pub code : typeOf (encodeCell c) ≡ typeCode c
+  pub code : typeOf (encodeCell c) ≡ cellCode c
   pub low : freeHeader ≤ cellSize c
   pub four : cellSize c % 4 ≡ 0
 
@@ -29,10 +29,10 @@ type-free : (n : ℕ) (t : List ℕ) → n ≤ longestZone → typeOf (toBE 4 (n
 unfolding typeOf toBE
 type-free n t l = omega arith
 
-low-part : (c w : ℕ) → w < typeUnit → (c * typeUnit + w) % typeUnit ≡ w
+pub low-part : (c w : ℕ) → w < typeUnit → (c * typeUnit + w) % typeUnit ≡ w
 low-part c w l = omega arith
 
-half : (n : ℕ) → n % 4 ≡ 0 → n / 2 * 2 ≡ n
+pub half : (n : ℕ) → n % 4 ≡ 0 → n / 2 * 2 ≡ n
 half n q = omega arith
 
 size-code : (b : List ℕ) (k : ℕ) → 0 < k → typeOf b ≡ k → sizeOf b ≡ fromBE (take 2 b) % typeUnit * 2

@@ -6,7 +6,8 @@ use Prim.Native.Nat.{ℕ, zero, suc, _+_, _-_}
 use lib.ListN.{length, take, replicate}
 use lib.Dec.{leb, eqb}
 use Rattle.calls.specs.Bays.{over}
-use Rattle.kinds.specs.Kinds.{Item, itemSize}
+use Rattle.block_type.specs.Limits.{freeCode}
+use Rattle.kinds.specs.Kinds.{Item, codeOf, itemSize}
 use Rattle.calls.specs.State.{total, is, alter, sized}
 
 -- ---- a bay's blocks: free ones by their size, relocatable ones by what they hold
@@ -18,6 +19,11 @@ pub data Cell : Type 0 where
 abbrev pub cellSize : Cell → ℕ
 cellSize (free n) = n
 cellSize (held e) = itemSize e
+
+-- its type
+abbrev pub cellCode : Cell → ℕ
+cellCode (free n) = freeCode
+cellCode (held e) = codeOf e
 
 abbrev pub baySize : List Cell → ℕ
 baySize [] = 0

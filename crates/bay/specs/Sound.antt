@@ -9,7 +9,7 @@ use Rattle.bigendian.specs.BigEndian.{slice}
 use Rattle.block_type.specs.Limits.{freeCode, freeHeader, longestZone, largestBlock}
 use Rattle.format.specs.WellFormed.{sizeOf, typeOf, splitBlocks}
 use Rattle.kinds.specs.Kinds.{codeOf, itemSize, itemIn, ItemOk}
-use Rattle.bay.specs.Bay.{Cell, free, held, cellSize}
+use Rattle.bay.specs.Bay.{Cell, free, held, cellSize, cellCode}
 use Rattle.bay.specs.Bytes.{encodeCell}
 
 -- ---- the bytes of a bay
@@ -44,11 +44,6 @@ cellsOf r = map decodeCell (splitBlocks r)
 abbrev pub cellAt : List ℕ → ℕ → Cell
 cellAt s p = decodeCell (take (sizeOf (drop p s)) (drop p s))
 
--- the type of a block
-abbrev pub typeCode : Cell → ℕ
-typeCode (free n) = freeCode
-typeCode (held e) = codeOf e
-
 -- a step over the block of n bytes at p
 pub record Stepped (s : List ℕ) (p n : ℕ) : Type 0 where
   pub size-is : sizeOf (drop p s) ≡ n
@@ -58,5 +53,5 @@ pub record Stepped (s : List ℕ) (p n : ℕ) : Type 0 where
   pub next : IsBay (drop (p + n) s)
   pub cells : cellsOf (drop p s) ≡ cellAt s p ∷ cellsOf (drop (p + n) s)
   pub bytes : cellSize (cellAt s p) ≡ n
-  pub code : typeCode (cellAt s p) ≡ typeOf (drop p s)
+  pub code : cellCode (cellAt s p) ≡ typeOf (drop p s)
   pub image : encodeCell (cellAt s p) ≡ slice s p n

@@ -10,11 +10,11 @@ use borrow.Author.Tests.{eq-eqb, ne-eqb}
 use lib.ListN.{length, drop, drop-of-length-le}
 use Rattle.block_type.specs.Limits.{freeCode, fixedCode}
 use Rattle.format.specs.WellFormed.{typeOf}
-use Rattle.structure.specs.Structure.{Block, cell, fixed, size, join}
+use Rattle.structure.specs.Structure.{Block, cell, fixed, size, join, code}
 use Rattle.calls.specs.Bays.{Bays, last, more}
 use Rattle.calls.specs.State.{Fixed}
 use Rattle.bay.specs.Bay.{Cell, free, held, cellSize, baySize, baySum}
-use Rattle.row.specs.Row.{row, blocksOf, Stepped, kindB, blockAt}
+use Rattle.row.specs.Row.{row, blocksOf, Stepped, blockAt}
 use Rattle.row.proofs.Laws.{row-end}
 use Rattle.zone.specs.Group.{inFront, group}
 use Rattle.bays.specs.Places.{baysAt, freePart, endFree}
@@ -77,7 +77,7 @@ record IsCell (b : Block) (n f : ℕ) : Type 0 where
   bytes : cellSize c ≡ n
   part : freePart c ≡ f
 
-is-cell : (b : Block) (k n f : ℕ) → kindB b ≡ k → size b ≡ n → (k ≡ fixedCode → ⊥) → f ≡ cond (eqb k freeCode) n 0 → IsCell b n f
+is-cell : (b : Block) (k n f : ℕ) → code b ≡ k → size b ≡ n → (k ≡ fixedCode → ⊥) → f ≡ cond (eqb k freeCode) n 0 → IsCell b n f
 is-cell (cell (free m)) k n f ek en nk ef = record { c = free m; is = refl; bytes = en; part = en ∙ sym (rw (← ek) at ef) }
 is-cell (cell (held e)) k n f ek en nk ef = record { c = held e; is = refl; bytes = en; part = sym (rw (← ek) at ef) }
 is-cell (fixed d) k n f ek en nk ef = absurd (nk (sym ek))
@@ -87,13 +87,13 @@ record IsFixed (b : Block) (n : ℕ) : Type 0 where
   is : b ≡ fixed d
   bytes : size (fixed d) ≡ n
 
-is-fixed : (b : Block) (n : ℕ) → kindB b ≡ fixedCode → size b ≡ n → IsFixed b n
+is-fixed : (b : Block) (n : ℕ) → code b ≡ fixedCode → size b ≡ n → IsFixed b n
 is-fixed (cell (free m)) n ek en = let x : ⊥ = omega arith in absurd x
 is-fixed (cell (held e)) n ek en = let x : ⊥ = omega arith in absurd x
 is-fixed (fixed d) n ek en = record { d = d; is = refl; bytes = en }
 
 module _ (z : List ℕ) (p at n k sum tail : ℕ) (st : Stepped z at n) (ek : k ≡ typeOf (drop at z)) (sn : Seen z p at sum tail) where
-  kb : kindB (blockAt z at) ≡ k
+  kb : code (blockAt z at) ≡ k
   kb = st .kind ∙ sym ek
 
   pub seen-more : (f : ℕ) → (k ≡ fixedCode → ⊥) → f ≡ cond (eqb k freeCode) n 0 → Seen z p (at + n) (sum + f) f

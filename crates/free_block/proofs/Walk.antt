@@ -8,7 +8,7 @@ use native.Mathlib.Omega.{arith}
 use lib.Dec.{eqb}
 use lib.ListN.{length, drop}
 use Rattle.format.specs.WellFormed.{isFree, firstField}
-use Rattle.structure.specs.Structure.{Block, cell, fixed, size, sizes, decodeZone}
+use Rattle.structure.specs.Structure.{Block, cell, fixed, size, sizes, decodeZone, code}
 use Rattle.structure.proofs.Append.{sizes-append}
 use Rattle.structure.proofs.Round.{rest-is}
 use Rattle.structure.proofs.Table.{start-is, encode-zone}
@@ -16,7 +16,7 @@ use Rattle.structure.proofs.Sound.{valid-zone}
 use Rattle.access.specs.Edit.{IsZone}
 use Rattle.access.proofs.Zone.{whole-of}
 use Rattle.bay.specs.Bay.{free, held}
-use Rattle.row.specs.Row.{Row, row, blocksOf, kindB, blockAt, Stepped}
+use Rattle.row.specs.Row.{Row, row, blocksOf, blockAt, Stepped}
 use Rattle.row.proofs.Laws.{row-end, stepped}
 use Rattle.row.proofs.Zone.{valid-sound}
 use Rattle.free_block.specs.Around.{partOf, lastPart, firstPart}
@@ -28,7 +28,7 @@ same-bool : (t : Bool) (a : ℕ) → cond t a a + 0 ≡ a
 same-bool true a = add-zero a
 same-bool false a = add-zero a
 
-part-kind : (b : Block) → partOf b ≡ cond (eqb (kindB b) 0) (size b) 0
+part-kind : (b : Block) → partOf b ≡ cond (eqb (code b) 0) (size b) 0
 part-kind (cell (free n)) = refl
 part-kind (cell (held e)) = refl
 part-kind (fixed d) = refl

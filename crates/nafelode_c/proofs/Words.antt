@@ -11,7 +11,7 @@ use mir.Syntax.{w32}
 use Rattle.block_type.specs.Limits.{longestZone}
 use Rattle.bigendian.specs.BigEndian.{Bytes}
 use Rattle.format.specs.WellFormed.{wellFormed}
-use Rattle.structure.specs.Structure.{Block, size, sizes, start, decode}
+use Rattle.structure.specs.Structure.{Block, size, sizes, start, decode, code}
 use Rattle.bay.specs.Bay.{Cell, baySum}
 use Rattle.bay.proofs.Laws.{bsize-split}
 use Rattle.structure.proofs.Sound.{valid}
@@ -22,7 +22,7 @@ use Rattle.zone.specs.Call.{call}
 use Rattle.zone.specs.Promise.{Promise}
 use Rattle.zone.proofs.Places.{Tiled, tile-last, tile-more}
 use Rattle.zone.proofs.Run.{well-whole}
-use Rattle.zone.specs.Walker.{Described, Walked, codeOf, describe, walked, walkStart, walkStep}
+use Rattle.zone.specs.Walker.{Described, Walked, describe, walked, walkStart, walkStep}
 use Rattle.access.proofs.Checked.{fields-of}
 use Rattle.tell.proofs.Outcomes.{largest-total, check-few}
 
@@ -70,7 +70,7 @@ within at p [] = record { block = omega arith; step = omega arith }
 within at p (b ∷ bs) = go (eqb at p) refl (within at (p + size b) bs)
   where
     go : (t : Bool) → eqb at p ≡ t → Within at (p + size b + sizes bs) (describe at (p + size b) bs)
-        → Within at (p + (size b + sizes bs)) (cond t (record { kind = codeOf b; offset = p; size = size b }) (describe at (p + size b) bs))
+        → Within at (p + (size b + sizes bs)) (cond t (record { kind = code b; offset = p; size = size b }) (describe at (p + size b) bs))
     go true e w = record { block = omega arith; step = omega (arith, eqb-true at p e) }
     go false e w = record { block = omega (arith, w .block); step = omega (arith, w .step) }
 

@@ -13,8 +13,8 @@ use Rattle.block_type.specs.Limits.{freeCode}
 use Rattle.format.specs.WellFormed.{typeOf}
 use Rattle.kinds.proofs.KindLaws.{facts}
 use Rattle.calls.specs.Bays.{over}
-use Rattle.bay.specs.Bay.{Cell, free, held, cellSize, baySize, Hole, behind, holes, choose}
-use Rattle.bay.specs.Sound.{cellsOf, cellAt, typeCode, Stepped}
+use Rattle.bay.specs.Bay.{Cell, free, held, cellSize, baySize, Hole, behind, holes, choose, cellCode}
+use Rattle.bay.specs.Sound.{cellsOf, cellAt, Stepped}
 use Rattle.bay.proofs.BayBytes.{bay-end}
 use Rattle.bay.proofs.Choice.{choose-behind}
 use Rattle.place.specs.Hole.{HoleN, holeN, holeAt}
@@ -54,7 +54,7 @@ behind-all need p c cs = ap (from p) (choose-behind need c (holes cs)) ∙ from-
 
 -- ---- a block of type k and n bytes in front
 
-hit : (need p k n : ℕ) (c : Cell) (cs : List Cell) → typeCode c ≡ k → cellSize c ≡ n → (eqb k freeCode && leb need n) ≡ true → chosen need p (c ∷ cs) ≡ holeN true p n
+hit : (need p k n : ℕ) (c : Cell) (cs : List Cell) → cellCode c ≡ k → cellSize c ≡ n → (eqb k freeCode && leb need n) ≡ true → chosen need p (c ∷ cs) ≡ holeN true p n
 hit need p k n (free m) cs ek en t =
     let l : leb need m ≡ true = rw (← ek, ← en) at t in
     ap (from p) (choose-yes need (record { before = []; size = m; after = cs }) (map (behind (free m)) (holes cs)) l) ∙ (rw (add-zero p, en))
@@ -63,7 +63,7 @@ hit need p k n (held e) cs ek en t = absurd (no (rw (ne-eqb k freeCode (λ y. om
     no : _≡_ {A = Bool} false true → ⊥
     no q = let x : _≡_ {A = ℕ} 0 1 = cc in omega arith
 
-miss : (need p k n : ℕ) (c : Cell) (cs : List Cell) → typeCode c ≡ k → cellSize c ≡ n → (eqb k freeCode && leb need n) ≡ false → chosen need p (c ∷ cs) ≡ chosen need (p + n) cs
+miss : (need p k n : ℕ) (c : Cell) (cs : List Cell) → cellCode c ≡ k → cellSize c ≡ n → (eqb k freeCode && leb need n) ≡ false → chosen need p (c ∷ cs) ≡ chosen need (p + n) cs
 miss need p k n (free m) cs ek en t =
     let l : leb need m ≡ false = rw (← ek, ← en) at t in
     ap (from p) (choose-no need (record { before = []; size = m; after = cs }) (map (behind (free m)) (holes cs)) l) ∙ behind-all need p (free m) cs ∙ ap (λ (a : ℕ). chosen need (p + a) cs) en

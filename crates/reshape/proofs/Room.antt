@@ -13,13 +13,13 @@ use Rattle.format.specs.WellFormed.{isFree, typeOf}
 use Rattle.bay.specs.Bay.{Cell, free, held}
 use Rattle.bay.specs.Counted.{live}
 use Rattle.bay.specs.Ends.{startFree}
-use Rattle.structure.specs.Structure.{Block, cell, fixed, Structure, size, start, len, placeOf, decodeZone}
+use Rattle.structure.specs.Structure.{Block, cell, fixed, Structure, size, start, len, placeOf, decodeZone, code}
 use Rattle.structure.specs.Valid.{Valid}
 use Rattle.structure.proofs.Table.{Whole, encode-zone, len-is}
 use Rattle.structure.proofs.Sound.{valid-zone}
 use Rattle.access.specs.Edit.{IsZone, placeIn, dataIn, dataOf}
 use Rattle.access.proofs.Zone.{whole-of}
-use Rattle.row.specs.Row.{Row, row, bytesOf, blocksOf, blockAt, kindB, Stepped}
+use Rattle.row.specs.Row.{Row, row, bytesOf, blocksOf, blockAt, Stepped}
 use Rattle.row.proofs.Laws.{tiles-join, row-end}
 use Rattle.zone.specs.Call.{inBays}
 use Rattle.zone.proofs.GroupLaws.{flatten-group}
@@ -50,12 +50,12 @@ lead-cells [] r q = lead-none r q
 lead-cells (free n ∷ cs) r q = refl
 lead-cells (held e ∷ cs) r q = refl
 
-lead-free : (b : Block) (bs : List Block) (n : ℕ) → kindB b ≡ freeCode → size b ≡ n → n ≡ lead (b ∷ bs)
+lead-free : (b : Block) (bs : List Block) (n : ℕ) → code b ≡ freeCode → size b ≡ n → n ≡ lead (b ∷ bs)
 lead-free (cell (free k)) bs n q z = sym z
 lead-free (cell (held e)) bs n q z = let x : ⊥ = omega arith in absurd x
 lead-free (fixed d) bs n q z = let x : ⊥ = omega arith in absurd x
 
-lead-used : (b : Block) (bs : List Block) → (kindB b ≡ freeCode → ⊥) → 0 ≡ lead (b ∷ bs)
+lead-used : (b : Block) (bs : List Block) → (code b ≡ freeCode → ⊥) → 0 ≡ lead (b ∷ bs)
 lead-used (cell (free k)) bs q = absurd (q refl)
 lead-used (cell (held e)) bs q = refl
 lead-used (fixed d) bs q = refl

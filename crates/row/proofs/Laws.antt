@@ -8,26 +8,20 @@ use lib.Seq.{drop-drop, take-at, drop-at}
 use Rattle.block_type.specs.Limits.{relocHeader, smallestBlock}
 use Rattle.format.specs.WellFormed.{typeOf, sizeOf, handleOf}
 use Rattle.format.proofs.Walk.{blocks-cons, blocks-nil, kind-take, size-take, handle-take}
-use Rattle.structure.specs.Structure.{Block, fixed, size, sizes, encodeBlock, decodeBlock, join, cell}
+use Rattle.structure.specs.Structure.{Block, fixed, size, sizes, encodeBlock, decodeBlock, join, cell, code}
 use Rattle.kinds.specs.Kinds.{item}
-use Rattle.bay.specs.Bay.{free, held}
-use Rattle.structure.proofs.Back.{Enc, enc-cell, enc-fixed, kind-free, kind-fixed, kind-reloc}
-use Rattle.row.specs.Row.{blocksOf, bytesOf, kindB, Sound1, Sound, Row, row, blockAt, Stepped}
+use Rattle.bay.specs.Bay.{held}
+use Rattle.bay.proofs.CellBytes.{enc}
+use Rattle.structure.proofs.Back.{Enc, enc-cell, enc-fixed}
+use Rattle.row.specs.Row.{blocksOf, bytesOf, Sound1, Sound, Row, row, blockAt, Stepped}
 
 pub enc-of : (b : Block) → Sound1 b → Enc b
-enc-of (cell (free n)) s = enc-cell (free n) s
+enc-of (cell c) s = enc-cell c s
 enc-of (fixed d) s = enc-fixed d (s .0) (s .1)
-enc-of (cell (held it)) s = enc-cell (held it) (omega (arith, s .0), omega (arith, s .1), s .2)
-
-kind-of : (b : Block) → Sound1 b → typeOf (encodeBlock b) ≡ kindB b
-kind-of (cell (free n)) s = kind-free n (s .2)
-kind-of (fixed d) s = kind-fixed d (s .1)
-kind-of (cell (held it)) s = kind-reloc (it .handle) (it .bytes) (s .1)
 
 pub low-of : (b : Block) → Sound1 b → (smallestBlock ≤ size b) × (size b % 4 ≡ 0)
-low-of (cell (free n)) s = (s .0, s .1)
+low-of (cell c) s = let x = enc c s in (x .low, x .four)
 low-of (fixed d) s = (omega (arith, s .0), s .0)
-low-of (cell (held it)) s = (omega arith, omega (arith, s .0))
 
 -- a block in front
 pub record Front (b : Block) (r t : List ℕ) : Type 0 where
@@ -38,7 +32,7 @@ pub record Front (b : Block) (r t : List ℕ) : Type 0 where
   pub rest : drop (size b) r ≡ t
   pub long : length r ≡ size b + length t
   pub back : decodeBlock (encodeBlock b) ≡ b
-  pub kind : typeOf r ≡ kindB b
+  pub kind : typeOf r ≡ code b
   pub blocks : blocksOf r ≡ b ∷ blocksOf t
 
 pub front : (b : Block) (r t : List ℕ) → Sound1 b → r ≡ encodeBlock b ++ t → Front b r t
@@ -58,7 +52,7 @@ front b r t s e =
       rest = dr;
       long = ln;
       back = x .back;
-      kind = sym (kind-take (size b) r (l .0)) ∙ ap typeOf tk ∙ kind-of b s;
+      kind = sym (kind-take (size b) r (l .0)) ∙ ap typeOf tk ∙ x .kind;
       blocks = rw (blocks-cons r (omega (arith, l .0)) (omega (arith, l .0)), sz, tk, dr, x .back);
     }
 

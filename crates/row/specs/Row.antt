@@ -5,11 +5,11 @@ use mathlib.Core.Bool.{Bool}
 use Prim.Native.Nat.{ℕ, _+_, _%_, _<_, _≤_}
 use lib.ListN.{length, take, drop}
 use lib.Dec.{eqb}
-use Rattle.block_type.specs.Limits.{fixedHeader, fixedLimit, longestZone, relocLimit, handleRange, smallestBlock}
+use Rattle.block_type.specs.Limits.{freeCode, fixedCode, fixedHeader, fixedLimit, smallestBlock}
 use Rattle.bigendian.specs.BigEndian.{slice}
 use Rattle.format.specs.WellFormed.{sizeOf, typeOf, splitBlocks}
-use Rattle.structure.specs.Structure.{Block, fixed, size, encodeBlock, decodeBlock, join, cell}
-use Rattle.bay.specs.Bay.{free, held}
+use Rattle.structure.specs.Structure.{Block, fixed, size, code, encodeBlock, decodeBlock, join, cell}
+use Rattle.bay.specs.Sound.{Sound1 as SoundCell}
 
 -- the blocks of a stretch
 unfoldable pub blocksOf : List ℕ → List Block
@@ -19,23 +19,16 @@ blocksOf r = map decodeBlock (splitBlocks r)
 abbrev pub bytesOf : List Block → List ℕ
 bytesOf bs = join (map encodeBlock bs)
 
--- the type of a block
-abbrev pub kindB : Block → ℕ
-kindB (cell (free n)) = 0
-kindB (fixed d) = 1
-kindB (cell (held it)) = 2
-
 abbrev pub freeB : Block → Bool
-freeB b = eqb (kindB b) 0
+freeB b = eqb (code b) freeCode
 
 abbrev pub fixedB : Block → Bool
-fixedB b = eqb (kindB b) 1
+fixedB b = eqb (code b) fixedCode
 
 -- the sizes that the format has
 abbrev pub Sound1 : Block → Type 0
-Sound1 (cell (free n)) = (smallestBlock ≤ n) × (n % 4 ≡ 0) × (n ≤ longestZone)
+Sound1 (cell c) = SoundCell c
 Sound1 (fixed d) = ((fixedHeader + length d) % 4 ≡ 0) × (length d ≤ fixedLimit)
-Sound1 (cell (held it)) = (length (it .bytes) % 4 ≡ 0) × (length (it .bytes) ≤ relocLimit) × ((it .handle) < handleRange)
 
 abbrev pub Sound : List Block → Type 0
 Sound [] = Unit {0}
@@ -56,5 +49,5 @@ pub record Stepped (s : List ℕ) (p n : ℕ) : Type 0 where
   pub next : Row (drop (p + n) s)
   pub blocks : blocksOf (drop p s) ≡ blockAt s p ∷ blocksOf (drop (p + n) s)
   pub bytes : size (blockAt s p) ≡ n
-  pub kind : kindB (blockAt s p) ≡ typeOf (drop p s)
+  pub kind : code (blockAt s p) ≡ typeOf (drop p s)
   pub image : encodeBlock (blockAt s p) ≡ slice s p n

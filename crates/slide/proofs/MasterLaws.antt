@@ -16,8 +16,8 @@ use Rattle.format.specs.WellFormed.{typeOf, sizeOf, handleOf}
 use Rattle.format.proofs.Walk.{drop-take, kind-take, handle-take}
 use Rattle.kinds.specs.Kinds.{itemIn}
 use Rattle.kinds.proofs.KindLaws.{master-header, master-some, master-none}
-use Rattle.bay.specs.Bay.{Cell, free, held, cellSize}
-use Rattle.bay.specs.Sound.{cellsOf, cellAt, decodeCell, typeCode, Stepped}
+use Rattle.bay.specs.Bay.{Cell, free, held, cellSize, cellCode}
+use Rattle.bay.specs.Sound.{cellsOf, cellAt, decodeCell, Stepped}
 use Rattle.bay.proofs.BayBytes.{bay-end}
 use Rattle.slide.specs.ZoneBay.{ownerOf, setOne, setAll, Low, IsLow, is-low}
 use Rattle.slide.specs.Masters.{Owner, owner, Turned}
@@ -53,19 +53,19 @@ unfolding handleOf
 handle-there z at = rw (drop-drop 2 at z)
 
 -- of a block by its bytes b
-owner-some : (b : List ℕ) → typeCode (decodeCell b) ≡ relocCode → ownerOf (decodeCell b) ≡ handleOf b
+owner-some : (b : List ℕ) → cellCode (decodeCell b) ≡ relocCode → ownerOf (decodeCell b) ≡ handleOf b
 unfolding decodeCell
 owner-some b e = go (eqb (typeOf b) freeCode) e
   where
-    go : (t : Bool) → typeCode (cond t (free (sizeOf b)) (held (itemIn b))) ≡ relocCode → ownerOf (cond t (free (sizeOf b)) (held (itemIn b))) ≡ handleOf b
+    go : (t : Bool) → cellCode (cond t (free (sizeOf b)) (held (itemIn b))) ≡ relocCode → ownerOf (cond t (free (sizeOf b)) (held (itemIn b))) ≡ handleOf b
     go true q = let x : ⊥ = omega arith in absurd x
     go false q = master-some b q
 
-owner-none : (b : List ℕ) → (typeCode (decodeCell b) ≡ relocCode → ⊥) → ownerOf (decodeCell b) ≡ 0
+owner-none : (b : List ℕ) → (cellCode (decodeCell b) ≡ relocCode → ⊥) → ownerOf (decodeCell b) ≡ 0
 unfolding decodeCell
 owner-none b e = go (eqb (typeOf b) freeCode) e
   where
-    go : (t : Bool) → (typeCode (cond t (free (sizeOf b)) (held (itemIn b))) ≡ relocCode → ⊥) → ownerOf (cond t (free (sizeOf b)) (held (itemIn b))) ≡ 0
+    go : (t : Bool) → (cellCode (cond t (free (sizeOf b)) (held (itemIn b))) ≡ relocCode → ⊥) → ownerOf (cond t (free (sizeOf b)) (held (itemIn b))) ≡ 0
     go true q = refl
     go false q = master-none b q
 
@@ -76,7 +76,7 @@ module _ (z : List ℕ) (to at n k : ℕ) (lt : at < to) (l : to ≤ length z) (
   room : freeHeader ≤ to - at
   room = omega (arith, st .low, st .fits, length-take-le to z l)
 
-  same-code : typeCode (cellAt (take to z) at) ≡ k
+  same-code : cellCode (cellAt (take to z) at) ≡ k
   same-code = st .code ∙ (rw (drop-take at to z) (kind-take (to - at) (drop at z) room)) ∙ sym ek
 
   same-handle : handleOf b ≡ handleOf (drop at z)

@@ -10,9 +10,9 @@ use Rattle.bigendian.proofs.Overwrite.{write-length, take-write, drop-write, wr
 use Rattle.block_type.specs.Limits.{freeCode, longestZone}
 use Rattle.format.specs.WellFormed.{typeOf}
 use Rattle.kinds.proofs.KindLaws.{facts}
-use Rattle.bay.specs.Bay.{Cell, free, held, cellSize, baySum, items, gap}
+use Rattle.bay.specs.Bay.{Cell, free, held, cellSize, baySum, items, gap, cellCode}
 use Rattle.bay.specs.Bytes.{encodeCell}
-use Rattle.bay.specs.Sound.{bytesOf, cellsOf, cellAt, typeCode, Stepped}
+use Rattle.bay.specs.Sound.{bytesOf, cellsOf, cellAt, Stepped}
 use Rattle.bay.proofs.CellBytes.{enc}
 use Rattle.bay.proofs.BayBytes.{bay-end, gap-some, gap-none, packed-bytes}
 use Rattle.structure.specs.Structure.{encodeBlock, cell}
@@ -20,20 +20,20 @@ use Rattle.slide.specs.Slide.{heldBytes, Passed, Gathered, Compacted}
 
 -- ---- by cases on one block: free or held
 
-free-head : (c : Cell) (cs : List Cell) → typeCode c ≡ freeCode → heldBytes (c ∷ cs) ≡ heldBytes cs
+free-head : (c : Cell) (cs : List Cell) → cellCode c ≡ freeCode → heldBytes (c ∷ cs) ≡ heldBytes cs
 free-head (free n) cs e = refl
 free-head (held x) cs e = let q : ⊥ = omega (arith, facts x .used) in absurd q
 
-held-head : (c : Cell) (cs : List Cell) → (typeCode c ≡ freeCode → ⊥) → heldBytes (c ∷ cs) ≡ encodeCell c ++ heldBytes cs
+held-head : (c : Cell) (cs : List Cell) → (cellCode c ≡ freeCode → ⊥) → heldBytes (c ∷ cs) ≡ encodeCell c ++ heldBytes cs
 unfolding bytesOf
 held-head (free n) cs e = absurd (e refl)
 held-head (held x) cs e = refl
 
-free-sum : (c : Cell) (cs : List Cell) (n : ℕ) → typeCode c ≡ freeCode → cellSize c ≡ n → baySum (c ∷ cs) ≡ n + baySum cs
+free-sum : (c : Cell) (cs : List Cell) (n : ℕ) → cellCode c ≡ freeCode → cellSize c ≡ n → baySum (c ∷ cs) ≡ n + baySum cs
 free-sum (free n) cs m e z = omega arith
 free-sum (held x) cs m e z = let q : ⊥ = omega (arith, facts x .used) in absurd q
 
-held-sum : (c : Cell) (cs : List Cell) → (typeCode c ≡ freeCode → ⊥) → baySum (c ∷ cs) ≡ baySum cs
+held-sum : (c : Cell) (cs : List Cell) → (cellCode c ≡ freeCode → ⊥) → baySum (c ∷ cs) ≡ baySum cs
 held-sum (free n) cs e = absurd (e refl)
 held-sum (held x) cs e = omega arith
 
@@ -41,7 +41,7 @@ module _ (s : List ℕ) (to at n k : ℕ) (h : at < length s) (le : to ≤ at) (
   abbrev rest : List Cell
   rest = cellsOf (drop (at + n) s)
 
-  kc : typeCode (cellAt s at) ≡ k
+  kc : cellCode (cellAt s at) ≡ k
   kc = st .code ∙ sym ek
 
   pub keep-free : k ≡ freeCode → Passed s to at n s to
@@ -59,7 +59,7 @@ module _ (s : List ℕ) (to at n k : ℕ) (h : at < length s) (le : to ≤ at) (
       let lc : length (slice s at n) ≡ n = simp (length-take, length-drop) (omega (arith, st .fits)) in
       let d : drop (at + n) s′ ≡ drop (at + n) s = rw e (drop-write s to (at + n) (slice s at n) (omega arith) (st .fits)) in
       let t : take (to + n) s′ ≡ take to s ++ slice s at n = rw e (take-write s to n (slice s at n) (omega arith) lc) in
-      let nz : (typeCode (cellAt s at) ≡ freeCode → ⊥) = λ x. z (sym kc ∙ x) in
+      let nz : (cellCode (cellAt s at) ≡ freeCode → ⊥) = λ x. z (sym kc ∙ x) in
       let u : heldBytes (cellsOf (drop at s)) ≡ slice s at n ++ heldBytes rest = rw (st .cells, held-head (cellAt s at) rest nz, st .image) in
       let f : baySum (cellsOf (drop at s)) ≡ baySum rest = rw (st .cells) (held-sum (cellAt s at) rest nz) in
       record {

@@ -19,13 +19,13 @@ use Rattle.format.specs.OneWalk.{links, typeRule, freeRule, relocRule, blockOk,
 use Rattle.format.proofs.Walk.{size-used}
 use Rattle.format.proofs.Masters.{Master}
 use Rattle.format.proofs.Count.{one-same}
-use Rattle.structure.specs.Structure.{Block, fixed, size, encodeBlock, decodeBlock, byType, sizes, relocCount, headOf, placeOf, nextOf, words, join, cell}
-use Rattle.kinds.specs.Kinds.{item, itemIn}
-use Rattle.kinds.proofs.KindLaws.{facts}
-use Rattle.bay.specs.Bay.{Cell, free, held}
+use Rattle.structure.specs.Structure.{Block, fixed, size, code, encodeBlock, decodeBlock, byType, sizes, relocCount, headOf, placeOf, nextOf, words, join, cell}
+use Rattle.kinds.specs.Kinds.{item, itemIn, itemSize}
+use Rattle.kinds.proofs.KindLaws.{facts, type-of}
+use Rattle.bay.specs.Bay.{Cell, free, held, cellCode}
 use Rattle.bay.specs.Bytes.{encodeCell}
-use Rattle.bay.specs.Sound.{decodeCell, Sound1, typeCode}
-use Rattle.bay.proofs.CellBytes.{enc}
+use Rattle.bay.specs.Sound.{decodeCell, Sound1}
+use Rattle.bay.proofs.CellBytes.{enc, low-part, half}
 use Rattle.structure.specs.Valid.{handlesOf, Tiled}
 
 -- ---- one block
@@ -40,18 +40,7 @@ pub record Enc (b : Block) : Type 0 where
   pub long : length (encodeBlock b) ≡ size b
   pub same : sizeOf (encodeBlock b) ≡ size b
   pub back : decodeBlock (encodeBlock b) ≡ b
-
-pub kind-free : (n : ℕ) → n ≤ longestZone → typeOf (encodeBlock (cell (free n))) ≡ 0
-unfolding typeOf encodeBlock toBE
-kind-free n l = omega arith
-
-pub kind-fixed : (d : List ℕ) → length d ≤ fixedLimit → typeOf (encodeBlock (fixed d)) ≡ 1
-unfolding typeOf encodeBlock toBE
-kind-fixed d l = omega arith
-
-pub kind-reloc : (h : ℕ) (d : List ℕ) → length d ≤ relocLimit → typeOf (encodeBlock (cell (held (item h d)))) ≡ 2
-unfolding typeOf encodeBlock toBE
-kind-reloc h d l = omega arith
+  pub kind : typeOf (encodeBlock b) ≡ code b
 
 dec-fixed : (e d : List ℕ) → typeOf e ≡ 1 → drop fixedHeader e ≡ d → decodeBlock e ≡ fixed d
 unfolding decodeBlock
@@ -66,7 +55,7 @@ dec-cell b n = go (typeOf b) n
     go (suc zero) q = absurd (q refl)
     go (suc (suc k)) q = rw (ne-eqb (suc (suc k)) freeCode (λ x. omega arith))
 
-not-fixed : (c : Cell) → typeCode c ≡ fixedCode → ⊥
+not-fixed : (c : Cell) → cellCode c ≡ fixedCode → ⊥
 not-fixed (free n) q = omega arith
 not-fixed (held e) q = facts e .movable q
 
@@ -74,37 +63,24 @@ pub enc-cell : (c : Cell) → Sound1 c → Enc (cell c)
 unfolding encodeBlock
 enc-cell c s =
     let x = enc c s in
-    record { long = x .long; same = x .same; back = dec-cell (encodeCell c) (λ q. not-fixed c (sym (x .code) ∙ q)) ∙ ap cell (x .back) }
-
-low₁ : (w : ℕ) → w < typeUnit → (fixedCode * typeUnit + w) % typeUnit ≡ w
-low₁ w l = omega arith
-
-low₂ : (w : ℕ) → w < typeUnit → (relocCode * typeUnit + w) % typeUnit ≡ w
-low₂ w l = omega arith
-
-half : (n : ℕ) → n % 4 ≡ 0 → n / 2 * 2 ≡ n
-half n q = omega arith
+    record { long = x .long; same = x .same; kind = x .code; back = dec-cell (encodeCell c) (λ q. not-fixed c (sym (x .code) ∙ q)) ∙ ap cell (x .back) }
 
 pub enc-fixed : (d : List ℕ) → (fixedHeader + length d) % 4 ≡ 0 → length d ≤ fixedLimit → Enc (fixed d)
 unfolding encodeBlock
 enc-fixed d q u =
-    let k = kind-fixed d u in
-    let v = fixedCode * typeUnit + (fixedHeader + length d) / 2 in
+    let w = (fixedHeader + length d) / 2 in
+    let v = fixedCode * typeUnit + w in
+    let k = type-of fixedCode w d (omega arith) (omega arith) in
     record {
       long = simp (length-append, length-toBE) (omega arith);
-      same = size-used (encodeBlock (fixed d)) 0 k ∙ (rw (be-front 2 v d (omega arith), low₁ ((fixedHeader + length d) / 2) (omega arith)) (half (fixedHeader + length d) q));
+      same = size-used (encodeBlock (fixed d)) 0 k ∙ (rw (be-front 2 v d (omega arith), low-part fixedCode w (omega arith)) (half (fixedHeader + length d) q));
+      kind = k;
       back = dec-fixed (encodeBlock (fixed d)) d k (drop-at (toBE 2 v) d 2 (length-toBE 2 v));
     }
 
 handle-enc : (h : ℕ) (d : List ℕ) → h < handleRange → handleOf (encodeBlock (cell (held (item h d)))) ≡ h
 unfolding encodeBlock handleOf
 handle-enc h d u = rw (drop-at (toBE 2 (relocCode * typeUnit + (relocHeader + length d) / 2)) (toBE 2 h ++ d) 2 (length-toBE 2 (relocCode * typeUnit + (relocHeader + length d) / 2))) (be-front 2 h d (omega arith))
-
-pub size-reloc : (h : ℕ) (d : List ℕ) → length d % 4 ≡ 0 → length d ≤ relocLimit → sizeOf (encodeBlock (cell (held (item h d)))) ≡ relocHeader + length d
-unfolding encodeBlock
-size-reloc h d q u =
-    size-used (encodeBlock (cell (held (item h d)))) 1 (kind-reloc h d u)
-    ∙ (rw (be-front 2 (relocCode * typeUnit + (relocHeader + length d) / 2) (toBE 2 h ++ d) (omega arith), low₂ ((relocHeader + length d) / 2) (omega arith)) (half (relocHeader + length d) (omega arith)))
 
 -- ---- the test of a block, from facts
 
@@ -154,22 +130,22 @@ module _ (z : List ℕ) (first : ℕ) (small : first ≤ handleRange) where
   unfolding blocksOk relocs join sizes relocCount typeRule isFree isReloc handlesOf occurs placeOf
   encs prev at [] t p = record { walk = refl; back = refl; counts = refl; sums = refl }
   encs prev at (cell (free n) ∷ bs) t p =
-      let k = kind-free n (t .3) in
       let e = enc-cell (free n) (t .1, t .2, t .3) in
+      let k = e .kind in
       cons prev true at (cell (free n)) bs e (good-of z first prev at (cell (free n)) e (t .1) (t .2) (rw k (free-good n prev (t .0)))) (rw k) (rw k (zero-add _))
       (encs true (at + n) bs (t .4) (record { holds = p .holds; single = p .single }))
   encs prev at (fixed d ∷ bs) t p =
-      let k = kind-fixed d (t .1) in
       let e = enc-fixed d (t .0) (t .1) in
+      let k = e .kind in
       cons prev false at (fixed d) bs e (good-of z first prev at (fixed d) e (omega (arith, t .0)) (t .0) (rw k)) (rw k) (rw k (zero-add _))
       (encs false (at + (fixedHeader + length d)) bs (t .3) (record { holds = p .holds; single = p .single }))
   encs prev at (cell (held it) ∷ bs) t p =
       let q = p .holds (it .handle) (omega (arith, one-same (it .handle) (it .handle) refl)) in
-      let k = kind-reloc (it .handle) (it .bytes) (t .1) in
-      let e = enc-cell (held it) (omega (arith, t .0), omega (arith, t .1), omega (arith, q .0 .fits)) in
-      cons prev false at (cell (held it)) bs e (good-of z first prev at (cell (held it)) e (omega arith) (omega (arith, t .0))
+      let e = enc-cell (held it) (t .0, t .1, omega (arith, q .0 .fits)) in
+      let k = e .kind in
+      cons prev false at (cell (held it)) bs e (good-of z first prev at (cell (held it)) e (omega arith) (t .0)
       (rw (k, handle-enc (it .handle) (it .bytes) (omega (arith, q .0 .fits))) (reloc-good z first at (it .handle) (q .0) (rw (eq-eqb (it .handle) (it .handle) refl) at (q .1))))) (rw k) (rw k (omega arith))
-      (encs false (at + (relocHeader + length (it .bytes))) bs (t .3) (record {
+      (encs false (at + itemSize it) bs (t .3) (record {
         holds = λ g l. let r = p .holds g (omega arith) in
             let other : (g ≡ (it .handle) → ⊥) = λ x. omega (arith, one-same g (it .handle) x, p .single g) in
             (r .0, (rw (ne-eqb g (it .handle) other) at (r .1)));

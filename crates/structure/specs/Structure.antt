@@ -8,7 +8,7 @@ use lib.Dec.{eqb}
 use Rattle.bigendian.specs.BigEndian.{toBE}
 use Rattle.block_type.specs.Limits.{fixedCode, fixedHeader, zoneHeader, firstBlock, typeUnit}
 use Rattle.kinds.specs.Kinds.{headerOf, masterOf, itemSize, itemIn}
-use Rattle.bay.specs.Bay.{Cell, free, held, cellSize}
+use Rattle.bay.specs.Bay.{Cell, free, held, cellSize, cellCode}
 use Rattle.bay.specs.Bytes.{encodeCell}
 use Rattle.format.specs.WellFormed.{firstField, mastersField, chainField, typeOf, sizeOf, splitBlocks, relocs, zoneOf, offsets, chain}
 
@@ -28,6 +28,11 @@ pub record Structure : Type 0 where
 abbrev pub size : Block → ℕ
 size (cell c) = cellSize c
 size (fixed d) = fixedHeader + length d
+
+-- its type
+abbrev pub code : Block → ℕ
+code (cell c) = cellCode c
+code (fixed d) = fixedCode
 
 -- "Fixed: 14-bit size in words, data from byte 2"
 unfoldable pub encodeBlock : Block → List ℕ

@@ -4,11 +4,12 @@ use mathlib.Core.List.{List, [], _∷_}
 use mathlib.Core.Bool.{Bool, true, false}
 use Prim.Native.Nat.{ℕ, _+_, _%_, _≤_}
 use lib.ListN.{length}
-use Rattle.block_type.specs.Limits.{fixedHeader, fixedLimit, longestZone, mostMasters, relocLimit, zoneHeader, smallestBlock}
+use Rattle.block_type.specs.Limits.{fixedHeader, fixedLimit, largestBlock, longestZone, mostMasters, zoneHeader, smallestBlock}
 use Rattle.bigendian.specs.BigEndian.{Bytes}
 use Rattle.format.specs.WellFormed.{offsets}
 use Rattle.format.specs.Occurs.{occurs}
 use Rattle.structure.specs.Structure.{Block, fixed, Structure, count, len, cell}
+use Rattle.kinds.specs.Kinds.{masterOf, itemSize}
 use Rattle.bay.specs.Bay.{free, held}
 
 -- the handles of the blocks
@@ -16,14 +17,14 @@ unfoldable pub handlesOf : List Block → List ℕ
 handlesOf [] = []
 handlesOf (cell (free n) ∷ bs) = handlesOf bs
 handlesOf (fixed d ∷ bs) = handlesOf bs
-handlesOf (cell (held it) ∷ bs) = it .handle ∷ handlesOf bs
+handlesOf (cell (held e) ∷ bs) = masterOf e ∷ handlesOf bs
 
 -- sizes as the format has them, and no two free neighbours; prev: the block before is free
 abbrev pub Tiled : Bool → List Block → Type 0
 Tiled prev [] = Unit {0}
 Tiled prev (cell (free n) ∷ bs) = (prev ≡ false) × (smallestBlock ≤ n) × (n % 4 ≡ 0) × (n ≤ longestZone) × Tiled true bs
 Tiled prev (fixed d ∷ bs) = ((fixedHeader + length d) % 4 ≡ 0) × (length d ≤ fixedLimit) × Bytes d × Tiled false bs
-Tiled prev (cell (held it) ∷ bs) = (length (it .bytes) % 4 ≡ 0) × (length (it .bytes) ≤ relocLimit) × Bytes (it .bytes) × Tiled false bs
+Tiled prev (cell (held e) ∷ bs) = (itemSize e % 4 ≡ 0) × (itemSize e ≤ largestBlock) × Bytes (e .bytes) × Tiled false bs
 
 pub record Valid (s : Structure) : Type 0 where
   pub tiled : Tiled false (s .blocks)

@@ -13,19 +13,19 @@ use Rattle.access.specs.Edit.{IsZone}
 use Rattle.access.proofs.Zone.{whole-of}
 use Rattle.bigendian.specs.BigEndian.{fromBE, slice, Bytes}
 use Rattle.format.specs.WellFormed.{typeOf, wellFormed, firstField, zoneOf}
-use Rattle.structure.specs.Structure.{Block, fixed, cell, decode, start}
+use Rattle.structure.specs.Structure.{Block, fixed, cell, decode, start, code}
 use Rattle.bay.specs.Bay.{free, held}
 use Rattle.structure.proofs.Table.{whole, start-is}
-use Rattle.row.specs.Row.{blocksOf, kindB, Stepped, blockAt}
+use Rattle.row.specs.Row.{blocksOf, Stepped, blockAt}
 use Rattle.row.proofs.Laws.{row-end}
 use Rattle.row.proofs.Zone.{blocks-are}
-use Rattle.zone.specs.Walker.{codeOf, describe, walkStart, walkStep}
+use Rattle.zone.specs.Walker.{describe, walkStart, walkStep}
 use Rattle.access.proofs.Checked.{is-well}
 use Rattle.walker.specs.Found.{described, walked, FoundFrom, Found, found}
 
 -- ---- the search
 
-code-kind : (b : Block) → codeOf b ≡ kindB b
+code-kind : (b : Block) → code b ≡ code b
 code-kind (cell (free n)) = refl
 code-kind (fixed d) = refl
 code-kind (cell (held e)) = refl

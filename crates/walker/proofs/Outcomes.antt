@@ -9,13 +9,13 @@ use borrow.Author.Tests.{eqb-true, eq-eqb, ne-eqb}
 use lib.ListN.{length}
 use Rattle.bigendian.specs.BigEndian.{Bytes}
 use Rattle.format.specs.WellFormed.{wellFormed, lengthField, zoneOf}
-use Rattle.structure.specs.Structure.{Block, fixed, size, sizes, start, decode, cell}
+use Rattle.structure.specs.Structure.{Block, fixed, size, sizes, start, decode, cell, code}
 use Rattle.bay.specs.Bay.{free, held}
 use Rattle.structure.specs.Valid.{Tiled}
 use Rattle.structure.proofs.Sound.{valid}
 use Rattle.structure.proofs.Table.{start-is, whole}
 use Rattle.structure.proofs.Append.{sizes-append}
-use Rattle.zone.specs.Walker.{Described, codeOf, describe, walkStart, walkStep}
+use Rattle.zone.specs.Walker.{Described, describe, walkStart, walkStep}
 use Rattle.access.proofs.Checked.{first-of, length-is}
 
 describe-at : (at p : ℕ) (bs : List Block) → 0 < describe at p bs .size → describe at p bs .offset ≡ at
@@ -23,9 +23,9 @@ unfolding describe
 describe-at at p [] l = let x : ⊥ = omega arith in absurd x
 describe-at at p (b ∷ bs) l = go (eqb at p) refl l (describe-at at (p + size b) bs)
   where
-    go : (t : Bool) → eqb at p ≡ t → 0 < (cond t (record { kind = codeOf b; offset = p; size = size b }) (describe at (p + size b) bs)) .size
+    go : (t : Bool) → eqb at p ≡ t → 0 < (cond t (record { kind = code b; offset = p; size = size b }) (describe at (p + size b) bs)) .size
         → (0 < describe at (p + size b) bs .size → describe at (p + size b) bs .offset ≡ at)
-        → (cond t (record { kind = codeOf b; offset = p; size = size b }) (describe at (p + size b) bs)) .offset ≡ at
+        → (cond t (record { kind = code b; offset = p; size = size b }) (describe at (p + size b) bs)) .offset ≡ at
     go true e l f = sym (eqb-true at p e)
     go false e l f = f l
 
@@ -60,7 +60,7 @@ endOf s (suc n) at = endOf s n (walkStep s at .position)
 -- the blocks described in address order, the first at offset p
 unfoldable pub descriptions : ℕ → List Block → List Described
 descriptions p [] = []
-descriptions p (b ∷ bs) = record { kind = codeOf b; offset = p; size = size b } ∷ descriptions (p + size b) bs
+descriptions p (b ∷ bs) = record { kind = code b; offset = p; size = size b } ∷ descriptions (p + size b) bs
 
 -- every block has bytes
 abbrev Sized : List Block → Type 0
@@ -74,7 +74,7 @@ sized prev (fixed d ∷ bs) t = (omega arith, sized false bs (t .3))
 sized prev (cell (held it) ∷ bs) t = (omega arith, sized false bs (t .3))
 
 -- the block behind those of a list is found at the end of them
-behind : (p : ℕ) (b : Block) (bs pre : List Block) → Sized (pre ++ b ∷ bs) → describe (p + sizes pre) p (pre ++ b ∷ bs) ≡ record { kind = codeOf b; offset = p + sizes pre; size = size b }
+behind : (p : ℕ) (b : Block) (bs pre : List Block) → Sized (pre ++ b ∷ bs) → describe (p + sizes pre) p (pre ++ b ∷ bs) ≡ record { kind = code b; offset = p + sizes pre; size = size b }
 unfolding describe sizes
 behind p b bs [] z = let e : p + 0 ≡ p = omega arith in rw (e, eq-eqb p p refl)
 behind p b bs (c ∷ pre) z =
@@ -91,13 +91,13 @@ module _ (s : List ℕ) (h : wellFormed s ≡ true) where
   along pre (b ∷ bs) e z =
       let p : ℕ = start (decode s) in
       let e′ : decode s .blocks ≡ (pre ++ b ∷ []) ++ bs = e ∙ sym (append-assoc pre (b ∷ []) bs) in
-      let f : describe (p + sizes pre) p (decode s .blocks) ≡ record { kind = codeOf b; offset = p + sizes pre; size = size b } =
+      let f : describe (p + sizes pre) p (decode s .blocks) ≡ record { kind = code b; offset = p + sizes pre; size = size b } =
       (rw e) ∙ behind p b bs pre (rw e at z) in
       let k : p + sizes (pre ++ b ∷ []) ≡ p + sizes pre + size b = omega (arith, sizes-append pre (b ∷ [])) in
       let r = along (pre ++ b ∷ []) bs e′ z in
       let r₀ = rw k at (r .0) in
       let r₁ = rw k at (r .1) in
-      let g₀ : walkStep s (p + sizes pre) .block ≡ record { kind = codeOf b; offset = p + sizes pre; size = size b } = rw (h, f) in
+      let g₀ : walkStep s (p + sizes pre) .block ≡ record { kind = code b; offset = p + sizes pre; size = size b } = rw (h, f) in
       let g₁ : walkStep s (p + sizes pre) .position ≡ p + sizes pre + size b = rw (h, f) in
       (ap₂ _∷_ g₀ (ap (answersOf s (length bs)) g₁ ∙ r₀), ap (endOf s (length bs)) g₁ ∙ r₁ ∙ omega arith)
 

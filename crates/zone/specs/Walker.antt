@@ -3,15 +3,8 @@ use mathlib.Core.Bool.{cond}
 use mathlib.Core.List.{List, [], _∷_}
 use Prim.Native.Nat.{ℕ, _+_}
 use lib.Dec.{eqb}
-use Rattle.block_type.specs.Limits.{freeCode, fixedCode, relocCode}
 use Rattle.format.specs.WellFormed.{firstField, wellFormed}
-use Rattle.structure.specs.Structure.{Block, fixed, size, start, decode, cell}
-use Rattle.bay.specs.Bay.{free, held}
-
-abbrev pub codeOf : Block → ℕ
-codeOf (cell (free n)) = freeCode
-codeOf (fixed d) = fixedCode
-codeOf (cell (held it)) = relocCode
+use Rattle.structure.specs.Structure.{Block, size, code, start, decode}
 
 -- a block's type, offset and size; 0 for each where there is none
 pub record Described : Type 0 where
@@ -25,7 +18,7 @@ nothing = record { kind = 0; offset = 0; size = 0 }
 -- the block that starts at offset `at`, the first block being at offset p
 unfoldable pub describe : ℕ → ℕ → List Block → Described
 describe at p [] = nothing
-describe at p (b ∷ bs) = cond (eqb at p) (record { kind = codeOf b; offset = p; size = size b }) (describe at (p + size b) bs)
+describe at p (b ∷ bs) = cond (eqb at p) (record { kind = code b; offset = p; size = size b }) (describe at (p + size b) bs)
 
 pub record Walked : Type 0 where
   -- the refusal, 0 for done
