@@ -1,6 +1,6 @@
 pub mod Checked
 pub mod PlaceLaws
-pub mod PutLaws
+pub mod Among
 pub mod Size
-pub mod Store
 pub mod Zone
+pub mod Named

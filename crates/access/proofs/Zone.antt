@@ -1,9 +1,2 @@
 -- What is known of the bytes of a well-formed zone.
-use mathlib.Core.Path.{subst}
-use mathlib.Core.List.{List}
-use Prim.Native.Nat.{ℕ}
-use Rattle.structure.proofs.Table.{Whole, whole}
-use Rattle.access.specs.Edit.{IsZone, is-zone}
-
-pub whole-of : (z : List ℕ) → IsZone z → Whole z
-whole-of z (is-zone s y w e) = subst Whole e (whole s y w)
+pub use Rattle.structure.proofs.IsZone.{whole-of}

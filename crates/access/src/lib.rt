@@ -1,10 +1,9 @@
-// Reads and writes of a block's data, over the bytes of a well-formed zone with none beyond its length.
+// Where a handle's data lie and how many they are, over the bytes of a well-formed zone with none beyond its length.
 use block_type::BlockType;
 ghost use mathlib.Core.Path.{_≡_};
-ghost use Prim.Native.Nat.{_+_, _<_, _≤_};
+ghost use Prim.Native.Nat.{_<_};
 ghost use lib.ListN.{length};
-ghost use Rattle.structure.specs.Structure.{decodeZone, encode};
-ghost use Rattle.access.specs.Edit.{placeIn, dataIn, store, IsZone};
+ghost use Rattle.access.specs.Edit.{placeIn, dataIn, IsZone};
 
 // Where the data of handle h lies; 0 where h is not live.
 pub fn place(z: &[u8], h: usize) -> usize
@@ -20,15 +19,6 @@ pub fn place(z: &[u8], h: usize) -> usize
         return 0;
     }
     0
-}
-
-// Writes src at offset off of the data of handle h, which is live and has room for it.
-pub fn put(z: &mut [u8], h: usize, off: usize, src: &[u8])
-    requires { ⌜ (IsZone (now z)) × (h < 4294967296) × (0 < placeIn (now z) h) × (off + length (now src) ≤ length (dataIn (now z) h)) ⌝ }
-    ensures { λ _. ⌜ now (z .exit) ≡ encode (store h off (now (src .entry)) (decodeZone (now (z .entry)))) ⌝ }
-{
-    let at = place(z, h);
-    memory::copy_in(z, at + off, src);
 }
 
 // The data size of handle h; 0 where h is not live.

@@ -8,6 +8,7 @@ use lib.ListN.{length, getD, take, drop, replicate}
 use lib.Dec.{eqb, leb}
 use Rattle.block_type.specs.Limits.{fixedHeader, masterSize, up4}
 use Rattle.kinds.specs.Kinds.{Item, item, itemSize}
+pub use Rattle.kinds.specs.Kinds.{is}
 use Rattle.calls.specs.Calls.{Target, by-handle, by-pointer, Card, Answer, told}
 use Rattle.calls.specs.Bays.{Bays, last, more, over, findS, findF, maxS, sumS}
 
@@ -17,10 +18,6 @@ use Rattle.calls.specs.Bays.{Bays, last, more, over, findS, findF, maxS,
 abbrev pub total : List Item → ℕ
 total [] = 0
 total (e ∷ es) = itemSize e + total es
-
--- whether an item has the handle h
-abbrev pub is : ℕ → Item → Bool
-is h e = eqb h (e .handle)
 
 abbrev pub get : ℕ → List Item → Option Item
 get h [] = none

@@ -1,7 +1,9 @@
 -- The kinds of movable blocks. All that differs between kinds stands here: type code, header, master. There is one kind, the relocatable block.
+use mathlib.Core.Bool.{Bool}
 use mathlib.Core.List.{List}
 use Prim.Native.Nat.{ℕ, _+_, _<_}
 use lib.ListN.{length, drop}
+use lib.Dec.{eqb}
 use Rattle.bigendian.specs.BigEndian.{toBE}
 use Rattle.block_type.specs.Limits.{relocCode, relocHeader, handleRange}
 use Rattle.format.specs.WellFormed.{handleOf}
@@ -29,6 +31,10 @@ tagOf e = toBE 2 (e .handle)
 -- the master that holds "the offset of the block's first data byte"
 abbrev pub masterOf : Item → ℕ
 masterOf e = e .handle
+
+-- whether it is the block of handle h
+abbrev pub is : ℕ → Item → Bool
+is h e = eqb h (masterOf e)
 
 -- "for each handle, 4 plus data size"
 abbrev pub itemSize : Item → ℕ

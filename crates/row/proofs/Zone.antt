@@ -16,8 +16,8 @@ use Rattle.structure.proofs.Table.{Whole, encode-zone, start-is}
 use Rattle.structure.proofs.Sound.{valid-zone}
 use Rattle.structure.proofs.Round.{offset-is, rest-is}
 use Rattle.bay.specs.Bay.{free, held}
-use Rattle.access.specs.Edit.{IsZone}
-use Rattle.access.proofs.Zone.{whole-of}
+use Rattle.structure.specs.IsZone.{IsZone}
+use Rattle.structure.proofs.IsZone.{whole-of}
 use Rattle.row.specs.Row.{Sound, Row, row, blocksOf}
 
 -- ---- the sizes of a valid structure's blocks

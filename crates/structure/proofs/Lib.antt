@@ -5,3 +5,4 @@ pub mod Sound
 pub mod Table
 pub mod Append
 pub mod ZoneLayout
+pub mod IsZone

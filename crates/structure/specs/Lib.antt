@@ -1,2 +1,3 @@
 pub mod Structure
 pub mod Valid
+pub mod IsZone

@@ -7,7 +7,7 @@ use lib.ListN.{length, drop}
 use lib.Dec.{eqb}
 use Rattle.bigendian.specs.BigEndian.{toBE}
 use Rattle.block_type.specs.Limits.{fixedCode, fixedHeader, zoneHeader, firstBlock, typeUnit}
-use Rattle.kinds.specs.Kinds.{headerOf, masterOf, itemSize, itemIn}
+use Rattle.kinds.specs.Kinds.{headerOf, is, itemSize, itemIn}
 use Rattle.bay.specs.Bay.{Cell, free, held, cellSize, cellCode}
 use Rattle.bay.specs.Bytes.{encodeCell}
 use Rattle.format.specs.WellFormed.{firstField, mastersField, chainField, typeOf, sizeOf, splitBlocks, relocs, zoneOf, offsets, chain}
@@ -70,7 +70,7 @@ headOf (h ∷ hs) = h
 unfoldable pub placeOf : ℕ → ℕ → List Block → ℕ
 placeOf h at [] = 0
 placeOf h at (cell (free n) ∷ bs) = placeOf h (at + n) bs
-placeOf h at (cell (held e) ∷ bs) = cond (eqb h (masterOf e)) (at + headerOf e) (placeOf h (at + itemSize e) bs)
+placeOf h at (cell (held e) ∷ bs) = cond (is h e) (at + headerOf e) (placeOf h (at + itemSize e) bs)
 placeOf h at (fixed d ∷ bs) = placeOf h (at + (fixedHeader + length d)) bs
 
 -- what follows h in the chain; 0 where there is nothing
