@@ -18,7 +18,7 @@ use Rattle.structure.specs.Structure.{Block, fixed, cell, size, sizes, encodeBl
 use Rattle.structure.proofs.Append.{sizes-append}
 use Rattle.row.specs.Row.{Sound, bytesOf}
 use Rattle.row.proofs.Laws.{bytes-append, bytes-long, sound-left}
-use Rattle.access.specs.Named.{names, headerOfBlock, heldBy, placeAmong, dataAmong}
+use Rattle.access.specs.Named.{names, headerOfBlock, heldBy, refill, placeAmong, dataAmong}
 
 -- ---- what stands before it and behind it
 
@@ -57,11 +57,19 @@ pub record Parts (b : Block) : Type 0 where
   pub head : List ℕ
   pub bytes : encodeBlock b ≡ head ++ heldBy b
   pub long : length head ≡ headerOfBlock b
+  -- the same header before other data, as many
+  pub other : (f : List ℕ → List ℕ) → length (f (heldBy b)) ≡ length (heldBy b) → encodeBlock (refill f b) ≡ head ++ f (heldBy b)
   pub whole : size b ≡ headerOfBlock b + length (heldBy b)
 
 fixed-parts : (d : List ℕ) → Parts (fixed d)
 unfolding encodeBlock
-fixed-parts d = record { head = toBE 2 (fixedCode * typeUnit + (fixedHeader + length d) / 2); bytes = refl; long = length-toBE 2 (fixedCode * typeUnit + (fixedHeader + length d) / 2); whole = refl }
+fixed-parts d = record {
+  head = toBE 2 (fixedCode * typeUnit + (fixedHeader + length d) / 2);
+  bytes = refl;
+  long = length-toBE 2 (fixedCode * typeUnit + (fixedHeader + length d) / 2);
+  other = λ f q. rw q;
+  whole = refl;
+}
 
 held-parts : (e : Item) → Parts (cell (held e))
 unfolding encodeBlock
@@ -71,6 +79,7 @@ held-parts e =
       head = w ++ tagOf e;
       bytes = sym (append-assoc w (tagOf e) (e .bytes));
       long = omega (arith, length-append w (tagOf e), length-toBE 2 (codeOf e * typeUnit + itemSize e / 2), tag-long e);
+      other = λ f q. rw q (sym (append-assoc w (tagOf e) (f (e .bytes))));
       whole = refl;
     }
 

@@ -4,7 +4,7 @@ use mathlib.Core.List.{List, [], _∷_}
 use Prim.Native.Nat.{ℕ, _+_}
 use lib.Dec.{eqb}
 use Rattle.block_type.specs.Limits.{freeHeader, fixedHeader}
-use Rattle.kinds.specs.Kinds.{headerOf, is}
+use Rattle.kinds.specs.Kinds.{headerOf, holding, is}
 use Rattle.bay.specs.Bay.{free, held}
 use Rattle.calls.specs.Calls.{Target, by-handle, by-pointer}
 use Rattle.structure.specs.Structure.{Block, fixed, size, cell}
@@ -26,6 +26,12 @@ abbrev pub heldBy : Block → List ℕ
 heldBy (cell (free n)) = []
 heldBy (cell (held e)) = e .bytes
 heldBy (fixed d) = d
+
+-- a block with its data changed by f
+abbrev pub refill : (List ℕ → List ℕ) → Block → Block
+refill f (cell (free n)) = cell (free n)
+refill f (cell (held e)) = cell (held (holding e (f (e .bytes))))
+refill f (fixed d) = fixed (f d)
 
 -- where the data of the named block begin, 0 for none, and these data
 unfoldable pub placeAmong : Target → ℕ → List Block → ℕ

@@ -7,7 +7,7 @@ use lib.ListN.{length, take, replicate}
 use lib.Dec.{leb, eqb}
 use Rattle.calls.specs.Bays.{over}
 use Rattle.block_type.specs.Limits.{freeCode}
-use Rattle.kinds.specs.Kinds.{Item, codeOf, itemSize}
+use Rattle.kinds.specs.Kinds.{Item, codeOf, holding, itemSize}
 use Rattle.calls.specs.State.{total, is, alter, sized}
 
 -- ---- a bay's blocks: free ones by their size, relocatable ones by what they hold
@@ -124,7 +124,7 @@ edit h f (held e ∷ cs) = held (alter h f e) ∷ edit h f cs
 -- ---- resize: "new data size a = up4(c), old b"
 
 abbrev pub resized : ℕ → Item → Item
-resized a e = record { handle = e .handle; bytes = sized a (e .bytes) }
+resized a e = holding e (sized a (e .bytes))
 
 -- "into the free block right after it if that has at least a − b bytes"; n is a − b
 abbrev pub growInto : Item → ℕ → List Cell → Option (List Cell)

@@ -7,7 +7,7 @@ use Prim.Native.Nat.{ℕ, zero, suc, _+_, _-_}
 use lib.ListN.{length, getD, take, drop, replicate}
 use lib.Dec.{eqb, leb}
 use Rattle.block_type.specs.Limits.{fixedHeader, masterSize, up4}
-use Rattle.kinds.specs.Kinds.{Item, item, itemSize}
+use Rattle.kinds.specs.Kinds.{Item, item, holding, itemSize}
 pub use Rattle.kinds.specs.Kinds.{is}
 use Rattle.calls.specs.Calls.{Target, by-handle, by-pointer, Card, Answer, told}
 use Rattle.calls.specs.Bays.{Bays, last, more, over, findS, findF, maxS, sumS}
@@ -25,7 +25,7 @@ get h (e ∷ es) = cond (is h e) (some e) (get h es)
 
 -- the item with its bytes changed by f, where it has the handle h
 abbrev pub alter : ℕ → (List ℕ → List ℕ) → Item → Item
-alter h f e = cond (is h e) (item (e .handle) (f (e .bytes))) e
+alter h f e = cond (is h e) (holding e (f (e .bytes))) e
 
 -- "Data are zero"
 abbrev pub newItem : ℕ → ℕ → Item

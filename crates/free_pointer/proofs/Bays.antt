@@ -21,7 +21,8 @@ use Rattle.zone.specs.Group.{group, flatten}
 use Rattle.zone.specs.Work.{freePointer}
 use Rattle.zone.proofs.Places.{Tiled, tile-last, tile-more}
 use Rattle.call_laws.specs.Frame.{Refuses, Does}
-use Rattle.locate.specs.Locate.{placeAmong, dataAmong, targetPlace}
+use Rattle.locate.specs.Locate.{targetPlace}
+use Rattle.access.specs.Named.{placeAmong, dataAmong}
 use Rattle.locate.proofs.Among.{content-among}
 use Rattle.free_block.specs.Around.{Around}
 use Rattle.free_block.proofs.Around.{around-here, around-same, around-later}

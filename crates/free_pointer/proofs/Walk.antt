@@ -19,7 +19,8 @@ use Rattle.access.proofs.Zone.{whole-of}
 use Rattle.row.specs.Row.{blocksOf, Stepped}
 use Rattle.row.proofs.Laws.{stepped}
 use Rattle.calls.specs.Calls.{by-pointer}
-use Rattle.locate.specs.Locate.{placeAmong, targetPlace}
+use Rattle.locate.specs.Locate.{targetPlace}
+use Rattle.access.specs.Named.{placeAmong}
 use Rattle.locate.proofs.Laws.{place-start, place-here, place-next, place-end}
 use Rattle.free_block.specs.Walk.{Below, Stopped}
 

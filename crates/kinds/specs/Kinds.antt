@@ -32,6 +32,10 @@ tagOf e = toBE 2 (e .handle)
 abbrev pub masterOf : Item → ℕ
 masterOf e = e .handle
 
+-- the same block with other data
+abbrev pub holding : Item → List ℕ → Item
+holding e d = item (e .handle) d
+
 -- whether it is the block of handle h
 abbrev pub is : ℕ → Item → Bool
 is h e = eqb h (masterOf e)

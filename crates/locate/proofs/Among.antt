@@ -1,4 +1,4 @@
--- The named block among blocks: as the walk finds it, as a handle's master gives it, and as it is found in the bays.
+-- The named block among blocks: as the walk finds it, and as it is found in the bays.
 use mathlib.Core.Path.{_≡_, refl, ap, _∙_}
 use mathlib.Core.Bool.{Bool, true, false, cond, _&&_}
 use mathlib.Core.Option.{Option, none, some}
@@ -9,32 +9,14 @@ use lib.ListN.{length}
 use lib.Dec.{eqb}
 use borrow.Author.Tests.{ne-eqb}
 use Rattle.block_type.specs.Limits.{fixedHeader, relocHeader}
-use Rattle.structure.specs.Structure as Structure
 use Rattle.structure.specs.Structure.{Block, fixed, size, cell, code}
-use Rattle.access.specs.Edit as Edit
 use Rattle.calls.specs.Calls.{Target, by-handle, by-pointer}
 use Rattle.calls.specs.Bays.{Bays, last, more, over, orElse, findS, findF}
 use Rattle.kinds.specs.Kinds.{Item}
 use Rattle.calls.specs.State.{get, Fixed, pointer, content}
 use Rattle.bay.specs.Bay.{items, Cell, free, held}
 use Rattle.zone.specs.Group.{inFront, group}
-use Rattle.locate.specs.Locate.{placeAmong, dataAmong}
-
--- ---- by handle
-
-pub handle-place : (h at : ℕ) (bs : List Block) → Structure.placeOf h at bs ≡ placeAmong (by-handle h) at bs
-unfolding Structure.placeOf placeAmong
-handle-place h at [] = refl
-handle-place h at (cell (free n) ∷ bs) = handle-place h (at + n) bs
-handle-place h at (fixed d ∷ bs) = handle-place h (at + (fixedHeader + length d)) bs
-handle-place h at (cell (held it) ∷ bs) = ap (cond (eqb h (it .handle)) (at + relocHeader)) (handle-place h (at + (relocHeader + length (it .bytes))) bs)
-
-pub handle-data : (h at : ℕ) (bs : List Block) → Edit.dataOf h bs ≡ dataAmong (by-handle h) at bs
-unfolding Edit.dataOf dataAmong
-handle-data h at [] = refl
-handle-data h at (cell (free n) ∷ bs) = handle-data h (at + n) bs
-handle-data h at (fixed d ∷ bs) = handle-data h (at + (fixedHeader + length d)) bs
-handle-data h at (cell (held it) ∷ bs) = ap (cond (eqb h (it .handle)) (it .bytes)) (handle-data h (at + (relocHeader + length (it .bytes))) bs)
+use Rattle.access.specs.Named.{placeAmong, dataAmong}
 
 -- ---- by pointer, one block
 

@@ -1,109 +1,32 @@
 -- The bytes of a zone at the place of the named block are its data.
-use mathlib.Core.Path.{_≡_, refl, sym, ap, _∙_}
-use mathlib.Core.Bool.{Bool, true, false, cond, false≢true}
+use mathlib.Core.Path.{_≡_, sym, ap, _∙_}
+use mathlib.Core.Bool.{true}
 use mathlib.Core.Option.{none, some}
-use mathlib.Core.List.{List, [], _∷_, _++_, map, append-assoc}
-use Prim.Native.Nat.{ℕ, _+_, _-_, _/_, _≤_, _*_}
+use mathlib.Core.List.{List}
+use Prim.Native.Nat.{ℕ, _+_, _-_, _≤_}
 use native.Mathlib.Omega.{arith}
-use lib.ListN.{length, take, drop, length-append, length-take}
-use lib.Seq.{take-at, drop-at, take-take, drop-drop, drop-append-add}
+use lib.ListN.{length, take, drop, length-take}
+use lib.Seq.{take-take, drop-drop}
 use borrow.Author.Tests.{ne-eqb}
-use Rattle.block_type.specs.Limits.{fixedCode, fixedHeader, longestZone, relocCode, relocHeader, typeUnit}
-use Rattle.bigendian.specs.BigEndian.{toBE, slice, Bytes}
-use Rattle.bigendian.proofs.Laws.{length-toBE}
+use Rattle.block_type.specs.Limits.{longestZone}
+use Rattle.bigendian.specs.BigEndian.{slice, Bytes}
 use Rattle.format.specs.WellFormed.{wellFormed, zoneOf, lengthField}
 use Rattle.format.proofs.Walk.{drop-take}
-use Rattle.structure.specs.Structure.{Block, fixed, size, sizes, start, encodeBlock, join, decodeZone, decode, cell}
+use Rattle.structure.specs.Structure.{start, decodeZone, decode}
 use Rattle.structure.proofs.Round.{rest-is}
 use Rattle.structure.proofs.Table.{Whole, whole, len-is, encode-zone}
 use Rattle.structure.proofs.Sound.{valid-zone}
-use Rattle.row.specs.Row.{Sound, bytesOf}
-use Rattle.row.proofs.Laws.{enc-of}
+use Rattle.row.specs.Row.{bytesOf}
 use Rattle.row.proofs.Zone.{valid-sound}
 use Rattle.access.proofs.Checked.{fields-of}
-use Rattle.calls.specs.Calls.{Target, by-handle, by-pointer}
-use Rattle.kinds.specs.Kinds.{item}
+use Rattle.calls.specs.Calls.{Target}
 use Rattle.calls.specs.State.{content}
-use Rattle.bay.specs.Bay.{items, free, held}
+use Rattle.bay.specs.Bay.{items}
 use Rattle.zone.specs.Group.{group}
-use Rattle.locate.specs.Locate.{names, headerOf, heldBy, placeAmong, dataAmong, targetPlace, targetData, Located, ill-formed, absent, present}
+use Rattle.access.specs.Named.{placeAmong, dataAmong}
+use Rattle.access.proofs.Named.{among-low, among-fits, among-bytes}
+use Rattle.locate.specs.Locate.{targetPlace, targetData, Located, ill-formed, absent, present}
 use Rattle.locate.proofs.Among.{content-among}
-
--- ---- one block
-
--- a header, then the data
-pub record Parts (b : Block) : Type 0 where
-  pub head : List ℕ
-  pub bytes : encodeBlock b ≡ head ++ heldBy b
-  pub long : length head ≡ headerOf b
-  pub whole : size b ≡ headerOf b + length (heldBy b)
-
-fixed-parts : (d : List ℕ) → Parts (fixed d)
-unfolding encodeBlock
-fixed-parts d = record { head = toBE 2 (fixedCode * typeUnit + (fixedHeader + length d) / 2); bytes = refl; long = length-toBE 2 (fixedCode * typeUnit + (fixedHeader + length d) / 2); whole = refl }
-
-reloc-parts : (h : ℕ) (d : List ℕ) → Parts (cell (held (item h d)))
-unfolding encodeBlock
-reloc-parts h d = record {
-  head = toBE 2 (relocCode * typeUnit + (relocHeader + length d) / 2) ++ toBE 2 h;
-  bytes = sym (append-assoc (toBE 2 (relocCode * typeUnit + (relocHeader + length d) / 2)) (toBE 2 h) d);
-  long = simp (length-append, length-toBE);
-  whole = refl;
-}
-
-pub named-parts : (t : Target) (at : ℕ) (b : Block) → names t at b ≡ true → Parts b
-named-parts (by-handle h) at (cell (free n)) e = absurd (false≢true e)
-named-parts (by-pointer p) at (cell (free n)) e = absurd (false≢true e)
-named-parts (by-handle h) at (fixed d) e = fixed-parts d
-named-parts (by-pointer p) at (fixed d) e = fixed-parts d
-named-parts (by-handle h) at (cell (held it)) e = reloc-parts (it .handle) (it .bytes)
-named-parts (by-pointer p) at (cell (held it)) e = reloc-parts (it .handle) (it .bytes)
-
--- ---- among blocks
-
-pub among-low : (t : Target) (at : ℕ) (bs : List Block) → (placeAmong t at bs ≡ 0 → ⊥) → at ≤ placeAmong t at bs
-unfolding placeAmong
-among-low t at [] l = absurd (l refl)
-among-low t at (b ∷ bs) l = go (names t at b) l (among-low t (at + size b) bs)
-  where
-    go : (u : Bool) → (cond u (at + headerOf b) (placeAmong t (at + size b) bs) ≡ 0 → ⊥) → ((placeAmong t (at + size b) bs ≡ 0 → ⊥) → at + size b ≤ placeAmong t (at + size b) bs)
-        → at ≤ cond u (at + headerOf b) (placeAmong t (at + size b) bs)
-    go true l f = omega arith
-    go false l f = omega (arith, f l)
-
-pub among-fits : (t : Target) (at : ℕ) (bs : List Block) → (placeAmong t at bs ≡ 0 → ⊥) → placeAmong t at bs + length (dataAmong t at bs) ≤ at + sizes bs
-unfolding placeAmong dataAmong sizes
-among-fits t at [] l = absurd (l refl)
-among-fits t at (b ∷ bs) l = go (names t at b) refl l (among-fits t (at + size b) bs)
-  where
-    go : (u : Bool) → names t at b ≡ u → (cond u (at + headerOf b) (placeAmong t (at + size b) bs) ≡ 0 → ⊥)
-        → ((placeAmong t (at + size b) bs ≡ 0 → ⊥) → placeAmong t (at + size b) bs + length (dataAmong t (at + size b) bs) ≤ at + size b + sizes bs)
-        → cond u (at + headerOf b) (placeAmong t (at + size b) bs) + length (cond u (heldBy b) (dataAmong t (at + size b) bs)) ≤ at + (size b + sizes bs)
-    go true e l f = omega (arith, named-parts t at b e .whole)
-    go false e l f = omega (arith, f l)
-
-pub among-bytes : (t : Target) (at : ℕ) (bs : List Block) → Sound bs → (placeAmong t at bs ≡ 0 → ⊥)
-    → slice (bytesOf bs) (placeAmong t at bs - at) (length (dataAmong t at bs)) ≡ dataAmong t at bs
-unfolding placeAmong dataAmong join
-among-bytes t at [] s l = absurd (l refl)
-among-bytes t at (b ∷ bs) s l = go (names t at b) refl l (among-bytes t (at + size b) bs (s .1))
-  where
-    r : List ℕ
-    r = join (map encodeBlock bs)
-
-    go : (u : Bool) → names t at b ≡ u → (cond u (at + headerOf b) (placeAmong t (at + size b) bs) ≡ 0 → ⊥)
-        → ((placeAmong t (at + size b) bs ≡ 0 → ⊥) → slice r (placeAmong t (at + size b) bs - (at + size b)) (length (dataAmong t (at + size b) bs)) ≡ dataAmong t (at + size b) bs)
-        → slice (encodeBlock b ++ r) (cond u (at + headerOf b) (placeAmong t (at + size b) bs) - at) (length (cond u (heldBy b) (dataAmong t (at + size b) bs)))
-        ≡ cond u (heldBy b) (dataAmong t (at + size b) bs)
-    go true e l f =
-        let p = named-parts t at b e in
-        let k : at + headerOf b - at ≡ headerOf b = omega arith in
-        let q : encodeBlock b ++ r ≡ p .head ++ (heldBy b ++ r) = ap (_++ r) (p .bytes) ∙ append-assoc (p .head) (heldBy b) r in
-        rw (k, q, drop-at (p .head) (heldBy b ++ r) (headerOf b) (p .long)) (take-at (heldBy b) r (length (heldBy b)) refl)
-    go false e l f =
-        let n = enc-of b (s .0) .long in
-        let k : placeAmong t (at + size b) bs - at ≡ length (encodeBlock b) + (placeAmong t (at + size b) bs - (at + size b)) = omega (arith, among-low t (at + size b) bs l) in
-        rw (k, drop-append-add (encodeBlock b) r (placeAmong t (at + size b) bs - (at + size b))) (f l)
 
 -- ---- in a zone, and in a buffer
 
@@ -133,7 +56,7 @@ module _ (s : List ℕ) (y : Bytes s) (wf : wellFormed s ≡ true) (t : Target) 
       let e : a + (p - a) ≡ p = omega (arith, among-low t a bs live) in
       let r : drop a z ≡ bytesOf bs = ap (drop a) (sym (encode-zone z w)) ∙ rest-is (decodeZone z) (valid-zone z w) in
       ap (take (length (dataAmong t a bs))) (ap (λ (k : ℕ). drop k z) (sym e) ∙ sym (drop-drop (p - a) a z) ∙ ap (drop (p - a)) r)
-      ∙ among-bytes t a bs (valid-sound (decodeZone z) (valid-zone z w)) live
+      ∙ among-bytes t a bs live (valid-sound (decodeZone z) (valid-zone z w))
 
   -- n bytes from offset i of the data
   pub target-part : (i n : ℕ) → i + n ≤ length (targetData t z) → slice s (targetPlace t z + i) n ≡ take n (drop i (targetData t z))

@@ -23,8 +23,10 @@ use Rattle.calls.specs.Calls.{Target, by-handle, by-pointer}
 use Rattle.locate.specs.declared.Target.{Target as CodeTarget}
 use Rattle.locate.specs.declared.Target.the-variants.{Handle, Pointer}
 use Rattle.locate.specs.Named.{targetOf}
-use Rattle.locate.specs.Locate.{placeAmong, dataAmong, targetPlace, targetData, absentNumber, Located, ill-formed, absent, present}
-use Rattle.locate.proofs.Among.{handle-place, handle-data, pointer-place, pointer-data}
+use Rattle.locate.specs.Locate.{targetPlace, targetData, absentNumber, Located, ill-formed, absent, present}
+use Rattle.access.specs.Named.{placeAmong, dataAmong}
+use Rattle.locate.proofs.Among.{pointer-place, pointer-data}
+use Rattle.access.proofs.Among.{handle-place, handle-data}
 
 -- ---- by handle
 

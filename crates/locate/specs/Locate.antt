@@ -1,46 +1,17 @@
 -- The block that a handle or a pointer names: where its data lie, and which they are, in the structure of a zone.
 use mathlib.Core.Path.{_≡_}
-use mathlib.Core.Bool.{Bool, true, false, cond}
-use mathlib.Core.List.{List, [], _∷_}
-use Prim.Native.Nat.{ℕ, _+_}
+use mathlib.Core.Bool.{true, false, cond}
+use mathlib.Core.List.{List}
+use Prim.Native.Nat.{ℕ}
 use lib.ListN.{length}
 use lib.Dec.{eqb}
-use Rattle.block_type.specs.Limits.{freeHeader, fixedHeader, relocHeader}
 use Rattle.bigendian.specs.BigEndian.{Bytes}
 use Rattle.format.specs.WellFormed.{wellFormed, zoneOf}
-use Rattle.structure.specs.Structure.{Block, fixed, size, start, decodeZone, cell}
-use Rattle.bay.specs.Bay.{free, held}
+use Rattle.structure.specs.Structure.{start, decodeZone}
+use Rattle.access.specs.Named.{placeAmong, dataAmong}
 use Rattle.calls.specs.Calls.{Target, by-handle, by-pointer}
 
--- whether t names the block that starts at offset `at`; a pointer names a fixed block by where its data begin
-abbrev pub names : Target → ℕ → Block → Bool
-names (by-handle h) at (cell (free n)) = false
-names (by-handle h) at (fixed d) = false
-names (by-handle h) at (cell (held it)) = eqb h (it .handle)
-names (by-pointer p) at (cell (free n)) = false
-names (by-pointer p) at (fixed d) = eqb p (at + fixedHeader)
-names (by-pointer p) at (cell (held it)) = false
-
-abbrev pub headerOf : Block → ℕ
-headerOf (cell (free n)) = freeHeader
-headerOf (fixed d) = fixedHeader
-headerOf (cell (held it)) = relocHeader
-
-abbrev pub heldBy : Block → List ℕ
-heldBy (cell (free n)) = []
-heldBy (fixed d) = d
-heldBy (cell (held it)) = (it .bytes)
-
--- among blocks of which the first starts at offset `at`: where the data of the named block begin, 0 for none, and these data
-unfoldable pub placeAmong : Target → ℕ → List Block → ℕ
-placeAmong t at [] = 0
-placeAmong t at (b ∷ bs) = cond (names t at b) (at + headerOf b) (placeAmong t (at + size b) bs)
-
-unfoldable pub dataAmong : Target → ℕ → List Block → List ℕ
-dataAmong t at [] = []
-dataAmong t at (b ∷ bs) = cond (names t at b) (heldBy b) (dataAmong t (at + size b) bs)
-
--- the same in the bytes of a zone, with none beyond its length
+-- where the data of the named block begin in the bytes of a zone, with none beyond its length, 0 for none, and these data
 unfoldable pub targetPlace : Target → List ℕ → ℕ
 targetPlace t z = placeAmong t (start (decodeZone z)) (decodeZone z .blocks)
 

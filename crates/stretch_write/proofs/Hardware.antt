@@ -15,7 +15,8 @@ use Rattle.bay.specs.Bay.{free, held}
 use Rattle.calls.specs.Calls.{by-pointer}
 use Rattle.zone.specs.Call.{Result}
 use Rattle.zone.specs.Hardware.{HardwareWrites}
-use Rattle.locate.specs.Locate.{placeAmong, targetPlace}
+use Rattle.locate.specs.Locate.{targetPlace}
+use Rattle.access.specs.Named.{placeAmong}
 use Rattle.stretch.specs.Stretch.{stretchNumber}
 use Rattle.stretch.proofs.Answers.{accepted}
 use Rattle.stretch_write.proofs.Laws.{write-is}

@@ -17,18 +17,19 @@ use Rattle.structure.specs.Valid.{Valid}
 use Rattle.structure.proofs.Round.{length-is}
 use Rattle.structure.proofs.Sound.{valid}
 use Rattle.structure.proofs.Table.{encode-decode}
-use Rattle.row.specs.Row.{Sound}
-use Rattle.row.proofs.Zone.{valid-sound}
 use Rattle.calls.specs.Calls.{Target, write, shows}
 use Rattle.zone.specs.Work.{rewrite, Zone}
 use Rattle.calls.specs.State.{withBays}
 use Rattle.zone.specs.Call.{zoneIn, inLine, result, replacing, callWith, call}
 use Rattle.call_laws.proofs.Outcome.{same-length}
-use Rattle.locate.specs.Locate.{placeAmong, targetPlace, targetData}
-use Rattle.locate.proofs.Data.{among-fits, target-fits, target-room}
+use Rattle.locate.specs.Locate.{targetPlace, targetData}
+use Rattle.access.specs.Named.{placeAmong}
+use Rattle.access.proofs.Named.{among-fits}
+use Rattle.locate.proofs.Data.{target-fits, target-room}
 use Rattle.stretch.specs.Stretch.{stretchNumber, Planned, refused, granted}
 use Rattle.stretch.proofs.Answers.{accepted, copy-number}
-use Rattle.stretch_write.proofs.Refill.{flat-rewrite, after, len-same, refill-bytes}
+use Rattle.stretch_write.proofs.Edited.{flat-rewrite}
+use Rattle.stretch_write.proofs.Refill.{after, len-same, refilled}
 
 module _ (t : Target) (i : ℕ) (src s : List ℕ) (y : Bytes s) (wf : wellFormed s ≡ true) where
   abbrev d : Structure
@@ -39,9 +40,6 @@ module _ (t : Target) (i : ℕ) (src s : List ℕ) (y : Bytes s) (wf : wellForme
 
   v : Valid d
   v = valid s y wf
-
-  sound : Sound (d .blocks)
-  sound = valid-sound d v
 
   -- the bytes of the zone whose bays have the data changed are the old ones with src written over them
   pub written : (targetPlace t (zoneOf s) ≡ 0 → ⊥) → i + length src ≤ length (targetData t (zoneOf s))
@@ -54,8 +52,8 @@ module _ (t : Target) (i : ℕ) (src s : List ℕ) (y : Bytes s) (wf : wellForme
       λ j. record { chain = d .chain; blocks = flat-rewrite t (λ (l : List ℕ). sets l i src) (start d) (d .blocks) j } in
       let k : q + i + length src ≤ length (encode d) = omega (arith, among-fits t (start d) (d .blocks) live, length-is d v) in
       ap (replacing s d) line
-      ∙ same-length s y wf u (len-same t i src d)
-      ∙ ap (_++ drop (lengthField s) s) (sym (refill-bytes t i src d v sound live room))
+      ∙ same-length s y wf u (len-same t i src d v live)
+      ∙ ap (_++ drop (lengthField s) s) (sym (refilled t i src d v live room))
       ∙ sym (write-left (encode d) (drop (lengthField s) s) src (q + i) k)
       ∙ ap (λ (x : List ℕ). overwrite x (q + i) src) (encode-decode s y wf)
 

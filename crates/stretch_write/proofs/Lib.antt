@@ -1,3 +1,4 @@
+pub mod Edited
 pub mod Refill
 pub mod Laws
 pub mod Outcomes

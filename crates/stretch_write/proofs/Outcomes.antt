@@ -10,16 +10,19 @@ use borrow.Author.Tests.{ne-eqb, le-leb}
 use Rattle.bigendian.specs.BigEndian.{Bytes}
 use Rattle.format.specs.WellFormed.{wellFormed, zoneOf}
 use Rattle.structure.specs.Structure.{Block, fixed, Structure, size, start, decode, cell}
+use Rattle.structure.proofs.Sound.{valid}
 use Rattle.bay.specs.Bay.{free, held}
 use Rattle.calls.specs.Calls.{Target, by-handle, by-pointer, Call, read, write, shows}
 use Rattle.zone.specs.Call.{zoneIn, inLine, Result, call}
 use Rattle.zone.proofs.Run.{call-well}
 use Rattle.call_laws.proofs.Outcome.{stepAs, after-line}
 use Rattle.call_laws.proofs.Accepted as AtCall
-use Rattle.locate.specs.Locate.{names, headerOf, heldBy, placeAmong, dataAmong, targetPlace, targetData}
+use Rattle.locate.specs.Locate.{targetPlace, targetData}
+use Rattle.access.specs.Named.{names, headerOfBlock, heldBy, refill, placeAmong, dataAmong}
 use Rattle.stretch.specs.Stretch.{partNumber, stretchNumber}
 use Rattle.stretch.proofs.Answers.{block-0, Accepted, accepted, read-is}
-use Rattle.stretch_write.proofs.Refill.{refill, edited, flat-rewrite, after, start-same}
+use Rattle.stretch_write.proofs.Refill.{after, start-same}
+use Rattle.stretch_write.proofs.Edited.{editBlock, edited, edit-hit, edit-miss, flat-rewrite}
 use Rattle.stretch_write.proofs.Laws.{write-is}
 
 -- ---- the changed block is found where it was, with its new data
@@ -33,7 +36,7 @@ module _ (f : List ℕ → List ℕ) where
   names-refill (by-pointer p) at (fixed d) = refl
   names-refill (by-pointer p) at (cell (held it)) = refl
 
-  header-refill : (b : Block) → headerOf (refill f b) ≡ headerOf b
+  header-refill : (b : Block) → headerOfBlock (refill f b) ≡ headerOfBlock b
   header-refill (cell (free n)) = refl
   header-refill (fixed d) = refl
   header-refill (cell (held it)) = refl
@@ -51,20 +54,20 @@ module _ (f : List ℕ → List ℕ) where
     place-after at (b ∷ bs) = go (names t at b) refl (place-after (at + size b) bs)
       where
         go : (u : Bool) → names t at b ≡ u → placeAmong t (at + size b) (edited t f (at + size b) bs) ≡ placeAmong t (at + size b) bs
-            → placeAmong t at (cond u (refill f b) b ∷ edited t f (at + size b) bs) ≡ cond u (at + headerOf b) (placeAmong t (at + size b) bs)
-        go true e i = rw (names-refill t at b, e, header-refill b)
-        go false e i = rw e i
+            → placeAmong t at (editBlock t f at b ∷ edited t f (at + size b) bs) ≡ cond u (at + headerOfBlock b) (placeAmong t (at + size b) bs)
+        go true e i = rw (edit-hit t f at b e, names-refill t at b, e, header-refill b)
+        go false e i = rw (edit-miss t f at b e, e) i
 
     data-after : (at : ℕ) (bs : List Block) → (placeAmong t at bs ≡ 0 → ⊥) → dataAmong t at (edited t f at bs) ≡ f (dataAmong t at bs)
     unfolding placeAmong dataAmong edited
     data-after at [] l = absurd (l refl)
     data-after at (b ∷ bs) l = go (names t at b) refl l (data-after (at + size b) bs)
       where
-        go : (u : Bool) → names t at b ≡ u → (cond u (at + headerOf b) (placeAmong t (at + size b) bs) ≡ 0 → ⊥)
+        go : (u : Bool) → names t at b ≡ u → (cond u (at + headerOfBlock b) (placeAmong t (at + size b) bs) ≡ 0 → ⊥)
             → ((placeAmong t (at + size b) bs ≡ 0 → ⊥) → dataAmong t (at + size b) (edited t f (at + size b) bs) ≡ f (dataAmong t (at + size b) bs))
-            → dataAmong t at (cond u (refill f b) b ∷ edited t f (at + size b) bs) ≡ f (cond u (heldBy b) (dataAmong t (at + size b) bs))
-        go true e l i = rw (names-refill t at b, e) (held-refill t at b e)
-        go false e l i = rw e (i l)
+            → dataAmong t at (editBlock t f at b ∷ edited t f (at + size b) bs) ≡ f (cond u (heldBy b) (dataAmong t (at + size b) bs))
+        go true e l i = rw (edit-hit t f at b e, names-refill t at b, e) (held-refill t at b e)
+        go false e l i = rw (edit-miss t f at b e, e) (i l)
 
 -- ---- a read after a write
 
@@ -97,14 +100,14 @@ module _ (t : Target) (i n : ℕ) (src s : List ℕ) (y : Bytes s) (ys : Bytes s
   unfolding targetPlace decode
   place-is =
       ap (λ (x : Structure). placeAmong t (start x) (x .blocks)) decode-is
-      ∙ ap (λ (a : ℕ). placeAmong t a (edited t f (start (decode s)) (decode s .blocks))) (start-same t i (take n src) (decode s))
+      ∙ ap (λ (a : ℕ). placeAmong t a (edited t f (start (decode s)) (decode s .blocks))) (start-same t i (take n src) (decode s) (valid s y (ok .well)) (ok .live))
       ∙ place-after f t (start (decode s)) (decode s .blocks)
 
   data-is : targetData t (zoneOf s′) ≡ f (targetData t (zoneOf s))
   unfolding targetPlace targetData decode
   data-is =
       ap (λ (x : Structure). dataAmong t (start x) (x .blocks)) decode-is
-      ∙ ap (λ (a : ℕ). dataAmong t a (edited t f (start (decode s)) (decode s .blocks))) (start-same t i (take n src) (decode s))
+      ∙ ap (λ (a : ℕ). dataAmong t a (edited t f (start (decode s)) (decode s .blocks))) (start-same t i (take n src) (decode s) (valid s y (ok .well)) (ok .live))
       ∙ data-after f t (start (decode s)) (decode s .blocks) (ok .live)
 
   again : (have : ℕ) → n ≤ have → stretchNumber t i n have s′ ≡ 0

@@ -1,3 +1,4 @@
 pub mod Image
 pub mod Replace
 pub mod Sound
+pub mod Stays

@@ -148,8 +148,8 @@ module _ (z : Zone) (w : Whole z) where
 tiled-bay : {cs : List Cell} (r : List Block) → Sound cs → BayOk cs → baySize cs ≤ longestZone → ((q : Bool) → Tiled q r) → Tiled false (flatBay cs r)
 tiled-bay r s-nil i l k = k false
 tiled-bay r (s-end b) i l k = (refl, omega (arith, b), b .by4, omega arith, k true)
-tiled-bay r (s-free b (s-held c s)) (i-cons d i) l k = (refl, omega (arith, b), b .by4, omega arith, (omega (arith, c), d .short, d .bytes, tiled-bay r s i (omega arith) k))
-tiled-bay r (s-held b s) (i-cons d i) l k = (omega (arith, b), d .short, d .bytes, tiled-bay r s i (omega arith) k)
+tiled-bay r (s-free b (s-held c s)) (i-cons d i) l k = (refl, omega (arith, b), b .by4, omega arith, (omega (arith, c), omega (arith, d .short), d .bytes, tiled-bay r s i (omega arith) k))
+tiled-bay r (s-held b s) (i-cons d i) l k = (omega (arith, b), omega (arith, d .short), d .bytes, tiled-bay r s i (omega arith) k)
 
 tiled-strip : {p end : ℕ} {s : Bays (List Cell) Fixed} → Places.Tiled p s end → end ≤ longestZone → AllS Sound s → Every BayOk FixedOk s → Tiled false (flatten s)
 tiled-strip (tile-last e) l d (e-last i) = tiled-bay [] d i (omega arith) (λ q. tt)

@@ -5,7 +5,8 @@ use borrow.Author.Needs.{needs}
 use lib.ListN.{length, drop}
 use Rattle.row.specs.Row.{Row, blocksOf}
 use Rattle.calls.specs.Calls.{by-pointer}
-use Rattle.locate.specs.Locate.{placeAmong, dataAmong, targetPlace, targetData}
+use Rattle.locate.specs.Locate.{targetPlace, targetData}
+use Rattle.access.specs.Named.{placeAmong, dataAmong}
 use Rattle.locate.proofs.Laws.{place-start, data-start, place-here, data-here, place-next, data-next, place-end, data-end}
 use Rattle.row.proofs.Zone.{zone-start, zone-row}
 use Rattle.access.proofs.Checked.{zone-8}
