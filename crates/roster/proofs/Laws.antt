@@ -20,8 +20,7 @@ use Rattle.structure.specs.Structure.{decode, decodeZone, start}
 use Rattle.structure.proofs.Table.{len-is}
 use Rattle.access.specs.Edit.{placeIn, dataIn, IsZone, is-zone}
 use Rattle.access.proofs.Zone.{whole-of}
-use Rattle.access.proofs.PutLaws.{data-fits}
-use Rattle.access.proofs.Size.{size-none}
+use Rattle.access.proofs.Size.{size-none, data-fits}
 use Rattle.bigendian.proofs.Overwrite.{len-write, write-write}
 use Rattle.calls.specs.Calls.{Card, Answer, roster, shows, lists}
 use Rattle.zone.specs.Call.{call}
