@@ -7,15 +7,14 @@ use native.Mathlib.Omega.{arith}
 use lib.Dec.{eqb}
 use lib.ListN.{length, length-append}
 use Rattle.structure.proofs.ZoneLayout.{lay, write-mid, lay-same}
-use Rattle.structure.proofs.Append.{sizes-append, place-append, count-handles, handles-append}
+use Rattle.structure.proofs.Append.{sizes-append, place-append, handles-append}
 use Rattle.block_type.specs.Limits.{masterSize, zoneHeader}
 use Rattle.bigendian.specs.BigEndian.{toBE, overwrite}
 use Rattle.bigendian.proofs.Laws.{length-toBE}
 use Rattle.format.proofs.Count.{occurs, offsets}
 use Rattle.bay.specs.Bay.{Cell, gap}
 use Rattle.bay.proofs.Laws.{bsize-gap}
-use Rattle.structure.specs.Structure.{Block, cell, Structure, sizes, relocCount, count, start, len, headOf, placeOf, nextOf, value, encode}
-use Rattle.structure.specs.Valid.{handlesOf}
+use Rattle.structure.specs.Structure.{Block, cell, Structure, sizes, count, start, len, headOf, placeOf, nextOf, value, encode, handlesOf}
 use Rattle.structure.proofs.Round.{place-none}
 use Rattle.row.specs.Row.{bytesOf, Sound}
 use Rattle.row.proofs.Laws.{bytes-append, bytes-long, sound-left, sound-right}
@@ -54,8 +53,8 @@ no-handle (suc n) = refl
 pub rest-size : (n : ℕ) → sizes (rest n) ≡ n
 rest-size n = sym (all-sizes (gap n [])) ∙ bsize-gap n [] ∙ omega arith
 
-with-rest : (pre : List Block) (n : ℕ) → relocCount (pre ++ rest n) ≡ length (handlesOf pre)
-with-rest pre n = count-handles (pre ++ rest n) ∙ ap length (handles-append pre (rest n) ∙ ap (handlesOf pre ++_) (no-handle n) ∙ append-nil (handlesOf pre))
+with-rest : (pre : List Block) (n : ℕ) → length (handlesOf (pre ++ rest n)) ≡ length (handlesOf pre)
+with-rest pre n = ap length (handles-append pre (rest n) ∙ ap (handlesOf pre ++_) (no-handle n) ∙ append-nil (handlesOf pre))
 
 place-rest : (pre : List Block) (n h o : ℕ) → placeOf h o (pre ++ rest n) ≡ cond (eqb (occurs h (handlesOf pre)) 0) 0 (placeOf h o pre)
 unfolding occurs
@@ -70,7 +69,7 @@ module _ (s : Structure) (pre : List Block) (p q : ℕ) (t t′ : List ℕ) (par
   s′ = record { chain = s .chain; blocks = pre ++ rest q }
 
   counts : count s ≡ count s′
-  counts = ap (λ (x : ℕ). x + length (s .chain)) (ap relocCount parts ∙ with-rest pre p ∙ sym (with-rest pre q))
+  counts = ap (λ (x : ℕ). x + length (s .chain)) (ap (λ (b : List Block). length (handlesOf b)) parts ∙ with-rest pre p ∙ sym (with-rest pre q))
 
   starts : start s ≡ start s′
   starts = ap (λ (m : ℕ). zoneHeader + masterSize * m) counts

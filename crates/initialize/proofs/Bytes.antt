@@ -11,7 +11,7 @@ use lib.ListN.{length, drop, replicate, length-append}
 use Rattle.block_type.specs.Limits.{masterSize, zoneHeader, freeHeader}
 use Rattle.bigendian.specs.BigEndian.{toBE, overwrite}
 use Rattle.format.specs.WellFormed.{offsets}
-use Rattle.structure.specs.Structure.{Block, Structure, sizes, relocCount, count, start, len, headOf, placeOf, nextOf, value, words, join, header, encode, encodeBlock}
+use Rattle.structure.specs.Structure.{Block, Structure, sizes, count, start, len, headOf, placeOf, nextOf, value, words, join, header, encode, encodeBlock, handlesOf}
 use Rattle.calls.specs.Calls.{told}
 use Rattle.bay.specs.Bay.{gap}
 use Rattle.calls.specs.State.{handlesFrom}
@@ -46,8 +46,8 @@ words-chain f h (suc k) e =
 abbrev blocksOf : ℕ → List Block
 blocksOf k = flatBay (gap k []) []
 
-no-relocs : (k : ℕ) → relocCount (blocksOf k) ≡ 0
-unfolding relocCount
+no-relocs : (k : ℕ) → length (handlesOf (blocksOf k)) ≡ 0
+unfolding handlesOf
 no-relocs zero = refl
 no-relocs (suc k) = refl
 

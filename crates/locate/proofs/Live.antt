@@ -13,7 +13,8 @@ use Rattle.calls.specs.Bays.{Bays, over, findS}
 use Rattle.calls.specs.State.{get, Fixed}
 use Rattle.bay.specs.Bay.{Cell, items}
 use Rattle.zone.specs.Group.{group}
-use Rattle.locate.proofs.Among.{handle-place, handle-data, orNone, content-among}
+use Rattle.access.proofs.Among.{handle-place, handle-data}
+use Rattle.locate.proofs.Among.{orNone, content-among}
 
 abbrev find : ℕ → Bays (List Cell) Fixed → Option Item
 find h s = findS (λ (b : List Cell). get h (items b)) s

@@ -12,8 +12,8 @@ use Rattle.format.specs.Occurs.{occurs}
 use Rattle.block_type.specs.Limits.{fixedHeader, relocHeader, zoneHeader}
 use Rattle.format.specs.WellFormed.{mastersField, offsets}
 use Rattle.format.proofs.Count.{one-same, one-other}
-use Rattle.structure.specs.Structure.{Block, fixed, start, placeOf, relocCount, decodeZone, cell}
-use Rattle.structure.specs.Valid.{handlesOf, Valid}
+use Rattle.structure.specs.Structure.{Block, fixed, start, placeOf, decodeZone, cell, handlesOf}
+use Rattle.structure.specs.Valid.{Valid}
 use Rattle.structure.proofs.Round.{place-none, offset-le}
 use Rattle.structure.proofs.Sound.{valid-zone}
 use Rattle.structure.proofs.Table.{count-is}
@@ -35,8 +35,8 @@ blockCards (cell (free n) ∷ bs) = blockCards bs
 blockCards (fixed d ∷ bs) = blockCards bs
 blockCards (cell (held it) ∷ bs) = cardOf (it .handle) (it .bytes) ∷ blockCards bs
 
-pub length-cards : (bs : List Block) → length (blockCards bs) ≡ relocCount bs
-unfolding blockCards relocCount
+pub length-cards : (bs : List Block) → length (blockCards bs) ≡ length (handlesOf bs)
+unfolding blockCards handlesOf
 length-cards [] = refl
 length-cards (cell (free n) ∷ bs) = length-cards bs
 length-cards (fixed d ∷ bs) = length-cards bs

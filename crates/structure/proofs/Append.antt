@@ -13,8 +13,7 @@ use Rattle.block_type.specs.Limits.{fixedHeader}
 use Rattle.kinds.specs.Kinds.{headerOf, masterOf, itemSize}
 use Rattle.bay.specs.Bay.{free, held}
 use Rattle.format.proofs.Count.{one, one-same, one-other}
-use Rattle.structure.specs.Structure.{Block, fixed, size, sizes, relocCount, placeOf, cell}
-use Rattle.structure.specs.Valid.{handlesOf}
+use Rattle.structure.specs.Structure.{Block, fixed, size, sizes, placeOf, cell, handlesOf}
 
 pub sizes-append : (a b : List Block) → sizes (a ++ b) ≡ sizes a + sizes b
 unfolding sizes
@@ -31,13 +30,6 @@ handles-append [] b = refl
 handles-append (cell (free n) ∷ a) b = handles-append a b
 handles-append (fixed d ∷ a) b = handles-append a b
 handles-append (cell (held it) ∷ a) b = ap (λ (t : List ℕ). (masterOf it) ∷ t) (handles-append a b)
-
-pub count-handles : (a : List Block) → relocCount a ≡ length (handlesOf a)
-unfolding relocCount handlesOf
-count-handles [] = refl
-count-handles (cell (free n) ∷ a) = count-handles a
-count-handles (fixed d ∷ a) = count-handles a
-count-handles (cell (held it) ∷ a) = ap suc (count-handles a)
 
 pub place-append : (g at : ℕ) (a b : List Block) → placeOf g at (a ++ b) ≡ cond (eqb (occurs g (handlesOf a)) 0) (placeOf g (at + sizes a) b) (placeOf g at a)
 unfolding placeOf sizes handlesOf occurs

@@ -19,14 +19,14 @@ use Rattle.format.specs.OneWalk.{links, typeRule, freeRule, relocRule, blockOk,
 use Rattle.format.proofs.Walk.{size-used}
 use Rattle.format.proofs.Masters.{Master}
 use Rattle.format.proofs.Count.{one-same}
-use Rattle.structure.specs.Structure.{Block, fixed, size, code, encodeBlock, decodeBlock, byType, sizes, relocCount, headOf, placeOf, nextOf, words, join, cell}
+use Rattle.structure.specs.Structure.{Block, fixed, size, code, encodeBlock, decodeBlock, byType, sizes, headOf, placeOf, nextOf, words, join, cell, handlesOf}
 use Rattle.kinds.specs.Kinds.{item, itemIn, itemSize}
 use Rattle.kinds.proofs.KindLaws.{facts, type-of}
 use Rattle.bay.specs.Bay.{Cell, free, held, cellCode}
 use Rattle.bay.specs.Bytes.{encodeCell}
 use Rattle.bay.specs.Sound.{decodeCell, Sound1}
 use Rattle.bay.proofs.CellBytes.{enc, low-part, half}
-use Rattle.structure.specs.Valid.{handlesOf, Tiled}
+use Rattle.structure.specs.Valid.{Tiled}
 
 -- ---- one block
 
@@ -112,12 +112,12 @@ pub record Placed (z : List ℕ) (first at : ℕ) (bs : List Block) : Type 0 whe
 pub record Encs (z : List ℕ) (first : ℕ) (prev : Bool) (at : ℕ) (bs : List Block) : Type 0 where
   pub walk : blocksOk z first prev at (map encodeBlock bs) ≡ true
   pub back : map decodeBlock (map encodeBlock bs) ≡ bs
-  pub counts : relocs (map encodeBlock bs) ≡ relocCount bs
+  pub counts : relocs (map encodeBlock bs) ≡ length (handlesOf bs)
   pub sums : length (join (map encodeBlock bs)) ≡ sizes bs
 
 module _ (z : List ℕ) (first : ℕ) (small : first ≤ handleRange) where
   cons : (prev next : Bool) (at : ℕ) (b : Block) (bs : List Block) → Enc b → blockOk z first prev at (encodeBlock b) ≡ true → isFree (encodeBlock b) ≡ next
-      → cond (isReloc (encodeBlock b)) 1 0 + relocCount bs ≡ relocCount (b ∷ bs) → Encs z first next (at + size b) bs → Encs z first prev at (b ∷ bs)
+      → cond (isReloc (encodeBlock b)) 1 0 + length (handlesOf bs) ≡ length (handlesOf (b ∷ bs)) → Encs z first next (at + size b) bs → Encs z first prev at (b ∷ bs)
   unfolding blocksOk relocs join sizes
   cons prev next at b bs e g f c r = record {
     walk = rw (g, f, e .long) (r .walk);
@@ -127,7 +127,7 @@ module _ (z : List ℕ) (first : ℕ) (small : first ≤ handleRange) where
   }
 
   pub encs : (prev : Bool) (at : ℕ) (bs : List Block) → Tiled prev bs → Placed z first at bs → Encs z first prev at bs
-  unfolding blocksOk relocs join sizes relocCount typeRule isFree isReloc handlesOf occurs placeOf
+  unfolding blocksOk relocs join sizes handlesOf typeRule isFree isReloc occurs placeOf
   encs prev at [] t p = record { walk = refl; back = refl; counts = refl; sums = refl }
   encs prev at (cell (free n) ∷ bs) t p =
       let e = enc-cell (free n) (t .1, t .2, t .3) in

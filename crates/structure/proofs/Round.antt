@@ -17,10 +17,10 @@ use Rattle.format.proofs.OneWalk.{one-walk}
 use Rattle.format.specs.OneWalk.{links, bodyOk}
 use Rattle.format.proofs.Masters.{Master}
 use Rattle.format.proofs.Count.{All, one-same, one-other, occurs-offset, length-offsets}
-use Rattle.structure.specs.Structure.{Block, fixed, Structure, encodeBlock, sizes, relocCount, count, start, len, headOf, placeOf, nextOf, value, words, join, header, encode, decodeZone, decode, cell}
+use Rattle.structure.specs.Structure.{Block, fixed, Structure, encodeBlock, sizes, count, start, len, headOf, placeOf, nextOf, value, words, join, header, encode, decodeZone, decode, cell, handlesOf}
 use Rattle.bay.specs.Bay.{free, held}
 use Rattle.structure.proofs.Codec.{blocks-join}
-use Rattle.structure.specs.Valid.{handlesOf, Tiled, Valid}
+use Rattle.structure.specs.Valid.{Tiled, Valid}
 use Rattle.structure.proofs.Back.{Placed, Encs, encs, Linked, chain-links, chain-back, length-words, words-at}
 
 -- ---- the header
@@ -204,7 +204,7 @@ module _ (s : Structure) (v : Valid s) where
   blocks-is : splitBlocks (drop (start s) e) ≡ map encodeBlock (s .blocks)
   blocks-is = ap (λ (t : List ℕ). splitBlocks t) rest-is ∙ blocks-join e (start s) false (start s) (map encodeBlock (s .blocks)) (es .walk)
 
-  relocs-is : relocs (splitBlocks (drop (start s) e)) ≡ relocCount (s .blocks)
+  relocs-is : relocs (splitBlocks (drop (start s) e)) ≡ length (handlesOf (s .blocks))
   relocs-is = ap relocs blocks-is ∙ es .counts
 
   left-is : count s - relocs (splitBlocks (drop (start s) e)) ≡ length (s .chain)

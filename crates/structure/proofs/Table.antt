@@ -21,7 +21,7 @@ use Rattle.format.proofs.Masters.{Master}
 use Rattle.format.proofs.Header.{header-facts}
 use Rattle.format.proofs.Count.{one, All, one-same, one-other}
 use Rattle.format.proofs.Live.{handles, total, is-held, Parts, body-parts, owned, length-chain}
-use Rattle.structure.specs.Structure.{Block, fixed, Structure, size, encodeBlock, decodeBlock, byType, sizes, relocCount, count, start, len, headOf, placeOf, nextOf, value, words, join, header, encode, decodeZone, decode, cell}
+use Rattle.structure.specs.Structure.{Block, fixed, Structure, size, encodeBlock, decodeBlock, byType, sizes, count, start, len, headOf, placeOf, nextOf, value, words, join, header, encode, decodeZone, decode, cell, handlesOf}
 use Rattle.kinds.specs.Kinds.{item, itemIn}
 use Rattle.bay.specs.Bay.{free, held}
 use Rattle.structure.proofs.Codec.{part-bytes, bytes-drop, bytes-take, tiles-bytes, join-blocks}
@@ -71,10 +71,10 @@ module _ (z : List ℕ) (first : ℕ) (prev : Bool) (at : ℕ) (b : List ℕ) (g
       by (λ k. size (byType k (cell (free (sizeOf b))) (fixed (drop fixedHeader b)) (cell (held (itemIn b)))) ≡ length b)
       (λ e. gb .whole) (λ e. omega (arith, gb .low, gb .whole, length-drop fixedHeader b)) (λ e. omega (arith, gb .low, gb .whole, length-drop relocHeader b))
 
-  pub count-dec : (bs : List Block) → relocCount (decodeBlock b ∷ bs) ≡ cond (isReloc b) 1 0 + relocCount bs
-  unfolding decodeBlock relocCount isReloc
+  pub count-dec : (bs : List Block) → length (handlesOf (decodeBlock b ∷ bs)) ≡ cond (isReloc b) 1 0 + length (handlesOf bs)
+  unfolding decodeBlock handlesOf isReloc
   count-dec bs =
-      by (λ k. relocCount (byType k (cell (free (sizeOf b))) (fixed (drop fixedHeader b)) (cell (held (itemIn b))) ∷ bs) ≡ cond (eqb k 2) 1 0 + relocCount bs)
+      by (λ k. length (handlesOf (byType k (cell (free (sizeOf b))) (fixed (drop fixedHeader b)) (cell (held (itemIn b))) ∷ bs)) ≡ cond (eqb k 2) 1 0 + length (handlesOf bs))
       (λ e. omega arith) (λ e. omega arith) (λ e. omega arith)
 
   pub place-dec : (h o : ℕ) (bs : List Block) → placeOf h o (decodeBlock b ∷ bs) ≡ cond (isReloc b && eqb h (handleOf b)) (o + relocHeader) (placeOf h (o + size (decodeBlock b)) bs)
@@ -91,8 +91,8 @@ module _ (z : List ℕ) (first : ℕ) where
   sizes-decs prev at (b ∷ bs) g =
       omega (arith, size-dec z first prev at b (and-left _ (blocksOk z first (isFree b) (at + length b) bs) g), sizes-decs (isFree b) (at + length b) bs (and-right (blockOk z first prev at b) _ g))
 
-  pub counts-decs : (prev : Bool) (at : ℕ) (bs : List (List ℕ)) → blocksOk z first prev at bs ≡ true → relocCount (map decodeBlock bs) ≡ relocs bs
-  unfolding relocs blocksOk relocCount
+  pub counts-decs : (prev : Bool) (at : ℕ) (bs : List (List ℕ)) → blocksOk z first prev at bs ≡ true → length (handlesOf (map decodeBlock bs)) ≡ relocs bs
+  unfolding relocs blocksOk handlesOf
   counts-decs prev at [] g = refl
   counts-decs prev at (b ∷ bs) g =
       count-dec z first prev at b (and-left _ (blocksOk z first (isFree b) (at + length b) bs) g) (map decodeBlock bs)

@@ -7,7 +7,7 @@ use lib.ListN.{length, drop}
 use lib.Dec.{eqb}
 use Rattle.bigendian.specs.BigEndian.{toBE}
 use Rattle.block_type.specs.Limits.{fixedCode, fixedHeader, zoneHeader, firstBlock, typeUnit}
-use Rattle.kinds.specs.Kinds.{headerOf, is, itemSize, itemIn}
+use Rattle.kinds.specs.Kinds.{headerOf, masterOf, is, itemSize, itemIn}
 use Rattle.bay.specs.Bay.{Cell, free, held, cellSize, cellCode}
 use Rattle.bay.specs.Bytes.{encodeCell}
 use Rattle.format.specs.WellFormed.{firstField, mastersField, chainField, typeOf, sizeOf, splitBlocks, relocs, zoneOf, offsets, chain}
@@ -43,15 +43,16 @@ unfoldable pub sizes : List Block → ℕ
 sizes [] = 0
 sizes (b ∷ bs) = size b + sizes bs
 
-unfoldable pub relocCount : List Block → ℕ
-relocCount [] = 0
-relocCount (cell (free n) ∷ bs) = relocCount bs
-relocCount (cell (held e) ∷ bs) = suc (relocCount bs)
-relocCount (fixed d ∷ bs) = relocCount bs
+-- the handles of the blocks
+unfoldable pub handlesOf : List Block → List ℕ
+handlesOf [] = []
+handlesOf (cell (free n) ∷ bs) = handlesOf bs
+handlesOf (cell (held e) ∷ bs) = masterOf e ∷ handlesOf bs
+handlesOf (fixed d ∷ bs) = handlesOf bs
 
 -- m: "relocatable blocks plus chain length"
 abbrev pub count : Structure → ℕ
-count s = relocCount (s .blocks) + length (s .chain)
+count s = length (handlesOf (s .blocks)) + length (s .chain)
 
 -- bkFst
 abbrev pub start : Structure → ℕ

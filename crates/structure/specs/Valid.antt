@@ -9,15 +9,9 @@ use Rattle.bigendian.specs.BigEndian.{Bytes}
 use Rattle.format.specs.WellFormed.{offsets}
 use Rattle.format.specs.Occurs.{occurs}
 use Rattle.structure.specs.Structure.{Block, fixed, Structure, count, len, cell}
-use Rattle.kinds.specs.Kinds.{masterOf, itemSize}
+unfoldable pub use Rattle.structure.specs.Structure.{handlesOf}
+use Rattle.kinds.specs.Kinds.{itemSize}
 use Rattle.bay.specs.Bay.{free, held}
-
--- the handles of the blocks
-unfoldable pub handlesOf : List Block → List ℕ
-handlesOf [] = []
-handlesOf (cell (free n) ∷ bs) = handlesOf bs
-handlesOf (fixed d ∷ bs) = handlesOf bs
-handlesOf (cell (held e) ∷ bs) = masterOf e ∷ handlesOf bs
 
 -- sizes as the format has them, and no two free neighbours; prev: the block before is free
 abbrev pub Tiled : Bool → List Block → Type 0

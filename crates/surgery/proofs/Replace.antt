@@ -13,12 +13,12 @@ use Rattle.format.specs.WellFormed.{offsets}
 use Rattle.block_type.specs.Limits.{masterSize, zoneHeader}
 use Rattle.bigendian.specs.BigEndian.{overwrite}
 use Rattle.format.proofs.Count.{occurs-append}
-use Rattle.structure.specs.Structure.{Block, Structure, sizes, relocCount, count, start, len, headOf, placeOf, nextOf, value, encode}
-use Rattle.structure.specs.Valid.{handlesOf, Tiled, Valid}
+use Rattle.structure.specs.Structure.{Block, Structure, sizes, count, start, len, headOf, placeOf, nextOf, value, encode, handlesOf}
+use Rattle.structure.specs.Valid.{Tiled, Valid}
 use Rattle.structure.proofs.Round.{next-none}
 use Rattle.row.specs.Row.{bytesOf, Sound}
 use Rattle.row.proofs.Laws.{bytes-append, bytes-long, sound-left, sound-right}
-use Rattle.structure.proofs.Append.{sizes-append, place-append, count-handles, handles-append}
+use Rattle.structure.proofs.Append.{sizes-append, place-append, handles-append}
 use Rattle.surgery.specs.Masters.{setAll}
 use Rattle.structure.proofs.ZoneLayout.{write-mid, lay-same}
 use Rattle.surgery.proofs.Image.{img, encode-img, img-rest, img-same, img-all, all-is, updAll}
@@ -29,9 +29,9 @@ pub occurs-parts : (g : ℕ) (a b c : List Block) → occurs g (handlesOf (a ++ 
 occurs-parts g a b c =
     rw (handles-append a (b ++ c), handles-append b c, occurs-append g (handlesOf a) (handlesOf b ++ handlesOf c), occurs-append g (handlesOf b) (handlesOf c))
 
-count-parts : (a b c : List Block) → relocCount (a ++ (b ++ c)) ≡ length (handlesOf a) + (length (handlesOf b) + length (handlesOf c))
+count-parts : (a b c : List Block) → length (handlesOf (a ++ (b ++ c))) ≡ length (handlesOf a) + (length (handlesOf b) + length (handlesOf c))
 count-parts a b c =
-    count-handles (a ++ (b ++ c)) ∙ (rw (handles-append a (b ++ c), handles-append b c, length-append (handlesOf a) (handlesOf b ++ handlesOf c), length-append (handlesOf b) (handlesOf c)))
+    rw (handles-append a (b ++ c), handles-append b c, length-append (handlesOf a) (handlesOf b ++ handlesOf c), length-append (handlesOf b) (handlesOf c))
 
 pub sizes-parts : (a b c : List Block) → sizes (a ++ (b ++ c)) ≡ sizes a + (sizes b + sizes c)
 sizes-parts a b c = sizes-append a (b ++ c) ∙ ap (λ (x : ℕ). sizes a + x) (sizes-append b c)
@@ -57,7 +57,7 @@ module _ (s : Structure) (v : Valid s) (pre mid mid′ post : List Block) (ks : 
 
   module _ (ct : length (handlesOf mid′) + length ks ≡ length (handlesOf mid) + length (s .chain)) where
     count-same : count s′ ≡ count s
-    count-same = omega (arith, ct, count-parts pre mid′ post, count-parts pre mid post, ap relocCount e)
+    count-same = omega (arith, ct, count-parts pre mid′ post, count-parts pre mid post, ap (λ (b : List Block). length (handlesOf b)) e)
 
     pub start-same : start s′ ≡ start s
     start-same = ap (λ (k : ℕ). zoneHeader + masterSize * k) count-same

@@ -10,7 +10,7 @@ use mir.Syntax.{w8}
 use Rattle.block_type.specs.Limits.{fixedHeader, mostMasters}
 use Rattle.bigendian.specs.BigEndian.{Bytes}
 use Rattle.format.specs.WellFormed.{wellFormed, countOf, splitBlocks, zoneOf, firstField}
-use Rattle.structure.specs.Structure.{Block, fixed, decode, decodeZone, start, relocCount, cell}
+use Rattle.structure.specs.Structure.{Block, fixed, decode, decodeZone, start, cell, handlesOf}
 use Rattle.structure.proofs.Table.{Whole, whole, counts-decs}
 use Rattle.structure.proofs.Sound.{valid}
 use Rattle.calls.specs.Bays.{Bays, last, more, sumS}
@@ -34,8 +34,8 @@ live-held : (e : Item) (s : Bays (List Cell) Fixed) → liveS (inFront (held e) 
 live-held e (last b) = refl
 live-held e (more b x s) = omega arith
 
-pub live-is : (p : ℕ) (bs : List Block) → relocCount bs ≡ liveS (group p bs)
-unfolding relocCount
+pub live-is : (p : ℕ) (bs : List Block) → length (handlesOf bs) ≡ liveS (group p bs)
+unfolding handlesOf
 live-is p [] = refl
 live-is p (cell (free n) ∷ bs) = live-is (p + n) bs ∙ sym (live-gap n (group (p + n) bs))
 live-is p (fixed d ∷ bs) = omega (arith, live-is (p + (fixedHeader + length d)) bs)
@@ -55,7 +55,7 @@ check-is s true count y e k = rw (← e) (ap (toldTwo 0 1) (k ∙ count-live s y
 check-is s false count y e k = rw (← e) (ap (toldTwo 0 0) (k ∙ (rw (← e))))
 
 module _ (s : List ℕ) (y : Bytes s) (h : wellFormed s ≡ true) where
-  pub count-blocks : countOf s ≡ relocCount (decode s .blocks)
+  pub count-blocks : countOf s ≡ length (handlesOf (decode s .blocks))
   count-blocks = count-live s y h ∙ sym (live-is (start (decode s)) (decode s .blocks))
 
   pub count-few : countOf s ≤ mostMasters

@@ -12,8 +12,8 @@ use Rattle.format.specs.WellFormed.{offsets}
 use Rattle.block_type.specs.Limits.{mostMasters, longestZone, masterSize, zoneHeader}
 use Rattle.format.proofs.Count.{All, sumOver, sum-occurs, one-same, length-offsets, occurs-append}
 use Rattle.structure.proofs.Round.{offset-le}
-use Rattle.structure.specs.Structure.{Block, fixed, sizes, relocCount, count, start, len, cell}
-use Rattle.structure.specs.Valid.{handlesOf, Tiled, Valid}
+use Rattle.structure.specs.Structure.{Block, fixed, sizes, count, start, len, cell, handlesOf}
+use Rattle.structure.specs.Valid.{Tiled, Valid}
 use Rattle.calls.specs.Bays.{Bays, last, more}
 use Rattle.zone.specs.PickBays.{AllS}
 use Rattle.bay.specs.Bay as Bay
@@ -82,13 +82,6 @@ unfolding occurs handlesOf
 live-strip h (last b) = live-bay h b [] ∙ add-zero _
 live-strip h (more b x s) = live-bay h b (fixed (x .bytes) ∷ flatten s) ∙ ap (Counted.count h (items b) +_) (live-strip h s)
 
-length-handles : (bs : List Block) → length (handlesOf bs) ≡ relocCount bs
-unfolding handlesOf relocCount
-length-handles [] = refl
-length-handles (cell (free n) ∷ bs) = length-handles bs
-length-handles (fixed d ∷ bs) = length-handles bs
-length-handles (cell (held it) ∷ bs) = ap suc (length-handles bs)
-
 -- ---- as many handles as masters
 
 each-of : (P : ℕ → Type 0) (xs : List ℕ) → ((x : ℕ) → 0 < occurs x xs → P x) → All P xs
@@ -130,7 +123,6 @@ module _ (z : Zone) (w : Whole z) where
   count-line =
       omega (
         arith,
-        length-handles (flatten (z .bays)),
         length-append (handlesOf (flatten (z .bays))) (z .chain),
         counted (w .m) (handlesOf (flatten (z .bays)) ++ z .chain) (λ h. occurs-append h (handlesOf (flatten (z .bays))) (z .chain) ∙ owns-line h),
       )

@@ -11,7 +11,7 @@ use Rattle.format.proofs.Bool.{and-left, and-right}
 use Rattle.bigendian.specs.BigEndian.{Bytes, fromBE, toBE}
 use Rattle.memory.specs.Zeros.{allZero}
 use Rattle.format.specs.WellFormed.{wellFormed, headerOk, zoneRules, blockRules, every, typeOk, sizeOk, tileOk, zerosOk, neighboursOk, handlesOk, chainFrom, typeOf, sizeOf, handleOf, isFree, isReloc, splitFrom, isMaster, relocs, chain, offsets, masterAt}
-use Rattle.structure.specs.Structure.{encodeBlock, sizes, relocCount, placeOf, nextOf, words, join, header, encode, decodeBlock, decodeZone, decode}
+use Rattle.structure.specs.Structure.{encodeBlock, sizes, placeOf, nextOf, words, join, header, encode, decodeBlock, decodeZone, decode, handlesOf}
 use Rattle.calls.specs.Calls.{Call, Answer, beside, secondOf}
 use Rattle.ledger.specs.Ledger.{run, initial}
 use Rattle.zone.specs.Call.{call, initialize}
@@ -71,5 +71,5 @@ recipe-stays = refl
 
 -- in the bytes: the recipe's master before the profile grows, and after
 pub recipe-slides : (masterAt (bytesAfter (take 9 calls) fresh) 24 ≡ 56) × (masterAt (bytesAfter (take 10 calls) fresh) 24 ≡ 64)
-unfolding wellFormed headerOk zoneRules blockRules every typeOk sizeOk tileOk zerosOk neighboursOk handlesOk chainFrom typeOf sizeOf handleOf isFree isReloc splitFrom isMaster relocs chain allZero fromBE encode header toBE words join encodeBlock decodeBlock decode decodeZone placeOf nextOf sizes relocCount offsets
+unfolding wellFormed headerOk zoneRules blockRules every typeOk sizeOk tileOk zerosOk neighboursOk handlesOk chainFrom typeOf sizeOf handleOf isFree isReloc splitFrom isMaster relocs chain allZero fromBE encode header toBE words join encodeBlock decodeBlock decode decodeZone placeOf nextOf sizes handlesOf offsets
 recipe-slides = (refl, refl)
