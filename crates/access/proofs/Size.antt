@@ -52,7 +52,7 @@ place-four h at (cell (free n) ∷ bs) l = omega (arith, place-four h (at + n) b
 place-four h at (fixed d ∷ bs) l = omega (arith, place-four h (at + (fixedHeader + length d)) bs l)
 place-four h at (cell (held it) ∷ bs) l = go (eqb h (it .handle)) l (place-four h (at + (relocHeader + length (it .bytes))) bs)
   where
-    go : (t : Bool) → 0 < cond t (at + relocHeader) (placeOf h (at + (relocHeader + length (it .bytes))) bs) → (0 < placeOf h (at + (relocHeader + length (it .bytes))) bs → at + (relocHeader + length (it .bytes)) + 4 ≤ placeOf h (at + (relocHeader + length (it .bytes))) bs)
+    go : (t : Bool) → 0 < cond t (at + relocHeader) (placeOf h (at + (relocHeader + length (it .bytes))) bs) → (0 < placeOf h (at + (relocHeader + length (it .bytes))) bs → at + (relocHeader + length (it .bytes)) + relocHeader ≤ placeOf h (at + (relocHeader + length (it .bytes))) bs)
         → at + relocHeader ≤ cond t (at + relocHeader) (placeOf h (at + (relocHeader + length (it .bytes))) bs)
     go true l f = omega arith
     go false l f = omega (arith, f l)

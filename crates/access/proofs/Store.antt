@@ -7,7 +7,7 @@ use native.Mathlib.Omega.{arith}
 use lib.Dec.{eqb}
 use lib.ListN.{length, take, drop, length-append, length-replicate}
 use Rattle.format.specs.WellFormed.{offsets}
-use Rattle.block_type.specs.Limits.{fixedHeader, relocCode, relocHeader, typeUnit, zoneHeader}
+use Rattle.block_type.specs.Limits.{fixedHeader, relocCode, relocHeader, typeUnit, zoneHeader, masterSize}
 use Rattle.bigendian.specs.BigEndian.{toBE, overwrite, Bytes}
 use Rattle.bigendian.proofs.Laws.{length-toBE}
 use Rattle.bigendian.proofs.Overwrite.{write-right, write-left, write-length}
@@ -40,7 +40,7 @@ length-enc prev (cell (held it)) bs t = simp (length-append, length-toBE) (omega
 headR : ℕ → ℕ → List ℕ
 headR k n = toBE 2 (relocCode * typeUnit + (relocHeader + n) / 2) ++ toBE 2 k
 
-length-headR : (k n : ℕ) → length (headR k n) ≡ 4
+length-headR : (k n : ℕ) → length (headR k n) ≡ relocHeader
 unfolding headR
 length-headR k n = simp (length-append, length-toBE)
 
@@ -169,7 +169,7 @@ module _ (h off : ℕ) (src : List ℕ) where
 
 -- ---- the whole zone
 
-pub length-words : (f : ℕ → ℕ) (hs : List ℕ) → length (words f hs) ≡ 4 * length hs
+pub length-words : (f : ℕ → ℕ) (hs : List ℕ) → length (words f hs) ≡ masterSize * length hs
 unfolding words
 length-words f [] = refl
 length-words f (h ∷ hs) = simp (length-append, length-toBE) (omega (arith, length-words f hs))

@@ -7,6 +7,7 @@ use native.Mathlib.Nat.{add-zero}
 use native.Mathlib.Omega.{arith}
 use lib.Dec.{eqb}
 use lib.ListN.{length, drop}
+use Rattle.block_type.specs.Limits.{freeCode}
 use Rattle.format.specs.WellFormed.{isFree, firstField}
 use Rattle.structure.specs.Structure.{Block, cell, fixed, size, sizes, decodeZone}
 use Rattle.structure.proofs.Append.{sizes-append}
@@ -28,7 +29,7 @@ same-bool : (t : Bool) (a : ℕ) → cond t a a + 0 ≡ a
 same-bool true a = add-zero a
 same-bool false a = add-zero a
 
-part-kind : (b : Block) → partOf b ≡ cond (eqb (kindB b) 0) (size b) 0
+part-kind : (b : Block) → partOf b ≡ cond (eqb (kindB b) freeCode) (size b) 0
 part-kind (cell (free n)) = refl
 part-kind (cell (held e)) = refl
 part-kind (fixed d) = refl

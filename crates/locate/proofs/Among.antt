@@ -8,7 +8,7 @@ use native.Mathlib.Omega.{arith}
 use lib.ListN.{length}
 use lib.Dec.{eqb}
 use borrow.Author.Tests.{ne-eqb}
-use Rattle.block_type.specs.Limits.{fixedHeader, relocHeader}
+use Rattle.block_type.specs.Limits.{fixedHeader, relocHeader, fixedCode}
 use Rattle.structure.specs.Structure as Structure
 use Rattle.structure.specs.Structure.{Block, fixed, size, cell}
 use Rattle.access.specs.Edit as Edit
@@ -40,13 +40,13 @@ handle-data h at (cell (held it) ∷ bs) = ap (cond (eqb h (it .handle)) (it .by
 -- ---- by pointer, one block
 
 module _ (p at : ℕ) (bs : List Block) where
-  pub pointer-place : (b : Block) → placeAmong (by-pointer p) at (b ∷ bs) ≡ cond (eqb (kindB b) 1 && eqb p (at + fixedHeader)) (at + fixedHeader) (placeAmong (by-pointer p) (at + size b) bs)
+  pub pointer-place : (b : Block) → placeAmong (by-pointer p) at (b ∷ bs) ≡ cond (eqb (kindB b) fixedCode && eqb p (at + fixedHeader)) (at + fixedHeader) (placeAmong (by-pointer p) (at + size b) bs)
   unfolding placeAmong
   pointer-place (cell (free n)) = refl
   pointer-place (fixed d) = refl
   pointer-place (cell (held it)) = refl
 
-  pub pointer-data : (b : Block) → length (dataAmong (by-pointer p) at (b ∷ bs)) ≡ cond (eqb (kindB b) 1 && eqb p (at + fixedHeader)) (size b - fixedHeader) (length (dataAmong (by-pointer p) (at + size b) bs))
+  pub pointer-data : (b : Block) → length (dataAmong (by-pointer p) at (b ∷ bs)) ≡ cond (eqb (kindB b) fixedCode && eqb p (at + fixedHeader)) (size b - fixedHeader) (length (dataAmong (by-pointer p) (at + size b) bs))
   unfolding dataAmong
   pointer-data (cell (free n)) = refl
   pointer-data (fixed d) = go (eqb p (at + fixedHeader))

@@ -5,7 +5,7 @@ use mathlib.Core.Bool.{Bool}
 use Prim.Native.Nat.{ℕ, _+_, _%_, _<_, _≤_}
 use lib.ListN.{length, take, drop}
 use lib.Dec.{eqb}
-use Rattle.block_type.specs.Limits.{fixedHeader, fixedLimit, longestZone, relocLimit, handleRange, smallestBlock}
+use Rattle.block_type.specs.Limits.{fixedHeader, fixedLimit, longestZone, relocLimit, handleRange, smallestBlock, relocCode, freeCode, fixedCode}
 use Rattle.bigendian.specs.BigEndian.{slice}
 use Rattle.format.specs.WellFormed.{sizeOf, typeOf, splitBlocks}
 use Rattle.structure.specs.Structure.{Block, fixed, size, encodeBlock, decodeBlock, join, cell}
@@ -21,15 +21,15 @@ bytesOf bs = join (map encodeBlock bs)
 
 -- the type of a block
 abbrev pub kindB : Block → ℕ
-kindB (cell (free n)) = 0
-kindB (fixed d) = 1
-kindB (cell (held it)) = 2
+kindB (cell (free n)) = freeCode
+kindB (fixed d) = fixedCode
+kindB (cell (held it)) = relocCode
 
 abbrev pub freeB : Block → Bool
-freeB b = eqb (kindB b) 0
+freeB b = eqb (kindB b) freeCode
 
 abbrev pub fixedB : Block → Bool
-fixedB b = eqb (kindB b) 1
+fixedB b = eqb (kindB b) fixedCode
 
 -- the sizes that the format has
 abbrev pub Sound1 : Block → Type 0

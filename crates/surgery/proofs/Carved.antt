@@ -12,7 +12,7 @@ use lib.ListN.{length, take, drop, replicate, length-replicate}
 use lib.Seq.{drop-drop, drop-at, take-at}
 use Rattle.format.specs.Occurs.{occurs}
 use Rattle.format.specs.WellFormed.{offsets}
-use Rattle.block_type.specs.Limits.{largestBlock, longestZone, zoneHeader}
+use Rattle.block_type.specs.Limits.{largestBlock, longestZone, zoneHeader, relocHeader, chainAt}
 use Rattle.bigendian.specs.BigEndian.{toBE, slice, overwrite, Bytes}
 use Rattle.format.proofs.Count.{one, one-same, one-other}
 use Rattle.structure.specs.Structure.{Block, fixed, Structure, sizes, count, start, len, headOf, placeOf, nextOf, value, encode, cell}
@@ -67,7 +67,7 @@ gap-length n = go (eqb n 0)
     go false = refl
 
 module _ (s : Structure) (v : Valid s) (pre post : List Block) (need h n : ℕ) (ks : List ℕ) (e : s .blocks ≡ pre ++ ((cell (free n) ∷ []) ++ post)) (el : s .chain ≡ h ∷ ks)
-    (low : 4 ≤ need) (fit : need ≤ n) (four : need % 4 ≡ 0) (high : need ≤ largestBlock) where
+    (low : relocHeader ≤ need) (fit : need ≤ n) (four : need % 4 ≡ 0) (high : need ≤ largestBlock) where
   abbrev new : List Block
   new = carvedFrom need h n
 
@@ -87,8 +87,8 @@ module _ (s : Structure) (v : Valid s) (pre post : List Block) (need h n : ℕ) 
   pub is-master : 0 < occurs h (offsets zoneHeader (count s))
   is-master = omega (arith, v .owned h, in-chain)
 
-  long-new : length (replicate {A = ℕ} (need - 4) 0) ≡ need - 4
-  long-new = length-replicate {A = ℕ} (need - 4) 0
+  long-new : length (replicate {A = ℕ} (need - relocHeader) 0) ≡ need - relocHeader
+  long-new = length-replicate {A = ℕ} (need - relocHeader) 0
 
   so : Sound new
   so = ((omega (arith, long-new), omega (arith, long-new), (let q = offset-is h zoneHeader (count s) is-master in omega (arith, q .1, v .few))), gap-sound (n - need) (omega (arith, here .2)) (omega (arith, here .3)))
@@ -109,7 +109,7 @@ module _ (s : Structure) (v : Valid s) (pre post : List Block) (need h n : ℕ) 
   unfolding handlesOf occurs
   new-is k = omega (arith, gap-none (n - need) k)
 
-  place-new : placeOf h o new ≡ o + 4
+  place-new : placeOf h o new ≡ o + relocHeader
   unfolding placeOf
   place-new = rw (eq-eqb h h refl)
 
@@ -127,14 +127,14 @@ module _ (s : Structure) (v : Valid s) (pre post : List Block) (need h n : ℕ) 
       occ (fixed d ∷ a) = occ a
       occ (cell (held it) ∷ a) = omega (arith, occ a)
 
-  holds : (k : ℕ) → upd (value s) h (o + 4) k ≡ value s′ k
+  holds : (k : ℕ) → upd (value s) h (o + relocHeader) k ≡ value s′ k
   holds k = go (ℕ-discrete k h)
     where
-      go : Dec (k ≡ h) → upd (value s) h (o + 4) k ≡ value s′ k
+      go : Dec (k ≡ h) → upd (value s) h (o + relocHeader) k ≡ value s′ k
       go (yes p) =
-          let a : value s′ h ≡ o + 4 =
+          let a : value s′ h ≡ o + relocHeader =
           ap₂ (λ (a b : ℕ). a + b) (place-mid s v pre (cell (free n) ∷ []) new post ks e sz so ct h once-pre (omega (arith, new-is h, one-same h h refl)) ∙ place-new)
-          (next-none h ks (omega (arith, handle-once s v h, in-chain))) ∙ add-zero (o + 4) in
+          (next-none h ks (omega (arith, handle-once s v h, in-chain))) ∙ add-zero (o + relocHeader) in
           rw (eq-eqb k h p) (sym a ∙ ap (value s′) (sym p))
       go (no p) =
           rw (ne-eqb k h p)
@@ -145,16 +145,16 @@ module _ (s : Structure) (v : Valid s) (pre post : List Block) (need h n : ℕ) 
       let l = len s in let f = start s in let m = count s in let c = headOf (s .chain) in
       let r = bytesOf (s .blocks) in
       let r′ = overwrite r (sizes pre) (bytesOf new) in
-      ap (λ (x : List ℕ). overwrite (overwrite (overwrite x o (bytesOf new)) 12 (toBE 2 (headOf ks))) h (toBE 4 (o + 4))) (encode-img s)
-      ∙ ap (λ (x : List ℕ). overwrite (overwrite x 12 (toBE 2 (headOf ks))) h (toBE 4 (o + 4))) (img-rest l f m c (sizes pre) o (value s) r (bytesOf new) refl)
-      ∙ ap (λ (x : List ℕ). overwrite x h (toBE 4 (o + 4))) (img-chain l f m c (headOf ks) (value s) r′)
-      ∙ img-master l f m (headOf ks) h (o + 4) (value s) r′ is-master
-      ∙ replaced s v pre (cell (free n) ∷ []) new post ks e sz so ct (upd (value s) h (o + 4)) (λ k p. holds k)
+      ap (λ (x : List ℕ). overwrite (overwrite (overwrite x o (bytesOf new)) chainAt (toBE 2 (headOf ks))) h (toBE 4 (o + relocHeader))) (encode-img s)
+      ∙ ap (λ (x : List ℕ). overwrite (overwrite x chainAt (toBE 2 (headOf ks))) h (toBE 4 (o + relocHeader))) (img-rest l f m c (sizes pre) o (value s) r (bytesOf new) refl)
+      ∙ ap (λ (x : List ℕ). overwrite x h (toBE 4 (o + relocHeader))) (img-chain l f m c (headOf ks) (value s) r′)
+      ∙ img-master l f m (headOf ks) h (o + relocHeader) (value s) r′ is-master
+      ∙ replaced s v pre (cell (free n) ∷ []) new post ks e sz so ct (upd (value s) h (o + relocHeader)) (λ k p. holds k)
 
   pub carved-valid : Valid s′
   unfolding occurs
   carved-valid =
       replaced-valid s v pre (cell (free n) ∷ []) new post ks e sz so ct
       (tiled-join false pre (new ++ post) (tiled-left false pre (cell (free n) ∷ post) (subst (Tiled false) e (v .tiled)))
-      (omega (arith, long-new), omega (arith, long-new), zeros-bytes (need - 4), gap-tiled (n - need) post (omega (arith, here .2)) (omega (arith, here .3)) (here .4)))
+      (omega (arith, long-new), omega (arith, long-new), zeros-bytes (need - relocHeader), gap-tiled (n - need) post (omega (arith, here .2)) (omega (arith, here .3)) (here .4)))
       (λ k. omega (arith, new-is k, old-none k, ap (occurs k) el))

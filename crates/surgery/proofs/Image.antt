@@ -11,7 +11,7 @@ use borrow.Author.Tests.{eqb-true, eq-eqb, ne-eqb}
 use lib.ListN.{length, set, length-map}
 use Rattle.format.specs.Occurs.{occurs}
 use Rattle.format.specs.WellFormed.{offsets}
-use Rattle.block_type.specs.Limits.{fixedHeader, masterSize, relocHeader, zoneHeader}
+use Rattle.block_type.specs.Limits.{fixedHeader, masterSize, relocHeader, zoneHeader, chainAt}
 use Rattle.bigendian.specs.BigEndian.{toBE, overwrite}
 use Rattle.format.proofs.Count.{one, one-same, length-offsets}
 use Rattle.structure.specs.Structure.{Block, fixed, Structure, size, count, start, len, headOf, placeOf, value, encode, cell}
@@ -32,7 +32,7 @@ encode-img s = encode-lay s
 abbrev pub upd : (ℕ → ℕ) → ℕ → ℕ → ℕ → ℕ
 upd g h v k = cond (eqb k h) v (g k)
 
-pub img-chain : (l f m c c′ : ℕ) (g : ℕ → ℕ) (r : List ℕ) → overwrite (img l f m c g r) 12 (toBE 2 c′) ≡ img l f m c′ g r
+pub img-chain : (l f m c c′ : ℕ) (g : ℕ → ℕ) (r : List ℕ) → overwrite (img l f m c g r) chainAt (toBE 2 c′) ≡ img l f m c′ g r
 img-chain l f m c c′ g r = lay-chain l f m c c′ (map g (offsets zoneHeader m)) r
 
 pub img-master : (l f m c h v : ℕ) (g : ℕ → ℕ) (r : List ℕ) → 0 < occurs h (offsets zoneHeader m) → overwrite (img l f m c g r) h (toBE 4 v) ≡ img l f m c (upd g h v) r
@@ -42,7 +42,7 @@ img-master l f m c h v g r o =
     let e : h ≡ zoneHeader + masterSize * i = omega (arith, q .0, q .2) in
     let li : i < m = omega (arith, q .0, q .1) in
     let ln : length (map g (offsets zoneHeader m)) ≡ m = length-map (offsets zoneHeader m) g ∙ length-offsets zoneHeader m in
-    let vs = values-set g (upd g h v) h 16 m i e li (λ k ne. rw (ne-eqb k h ne)) in
+    let vs = values-set g (upd g h v) h zoneHeader m i e li (λ k ne. rw (ne-eqb k h ne)) in
     let at-h : upd g h v h ≡ v = rw (eq-eqb h h refl) in
     ap (λ (x : ℕ). overwrite (img l f m c g r) x (toBE 4 v)) e
     ∙ lay-master l f m c i v (map g (offsets zoneHeader m)) r (omega arith)
@@ -68,7 +68,7 @@ img-same l f m c g g′ r e = ap (λ (vs : List ℕ). lay l f m c vs r) (map-sam
 unfoldable pub updOne : (ℕ → ℕ) → ℕ → Block → ℕ → ℕ
 updOne g at (cell (free n)) = g
 updOne g at (fixed d) = g
-updOne g at (cell (held it)) = upd g (it .handle) (at + 4)
+updOne g at (cell (held it)) = upd g (it .handle) (at + relocHeader)
 
 unfoldable pub updAll : (ℕ → ℕ) → ℕ → List Block → ℕ → ℕ
 updAll g at [] = g
@@ -81,8 +81,8 @@ img-all l f m c at [] g r o = refl
 img-all l f m c at (cell (free n) ∷ bs) g r o = img-all l f m c (at + n) bs g r o
 img-all l f m c at (fixed d ∷ bs) g r o = img-all l f m c (at + (fixedHeader + length d)) bs g r o
 img-all l f m c at (cell (held it) ∷ bs) g r o =
-    ap (setAll (at + (relocHeader + length (it .bytes))) bs) (img-master l f m c (it .handle) (at + 4) g r (o (it .handle) (omega (arith, one-same (it .handle) (it .handle) refl))))
-    ∙ img-all l f m c (at + (relocHeader + length (it .bytes))) bs (upd g (it .handle) (at + 4)) r (λ k p. o k (omega arith))
+    ap (setAll (at + (relocHeader + length (it .bytes))) bs) (img-master l f m c (it .handle) (at + relocHeader) g r (o (it .handle) (omega (arith, one-same (it .handle) (it .handle) refl))))
+    ∙ img-all l f m c (at + (relocHeader + length (it .bytes))) bs (upd g (it .handle) (at + relocHeader)) r (λ k p. o k (omega arith))
 
 -- what a master holds after the pass: the place of its block, where it has one among these
 pub all-is : (g : ℕ → ℕ) (at k : ℕ) (bs : List Block) → occurs k (handlesOf bs) ≤ 1
@@ -91,10 +91,10 @@ unfolding updAll updOne handlesOf occurs placeOf
 all-is g at k [] o = refl
 all-is g at k (cell (free n) ∷ bs) o = all-is g (at + n) k bs o
 all-is g at k (fixed d ∷ bs) o = all-is g (at + (fixedHeader + length d)) k bs o
-all-is g at k (cell (held it) ∷ bs) o = go (eqb k (it .handle)) refl (all-is (upd g (it .handle) (at + 4)) (at + (relocHeader + length (it .bytes))) k bs (omega arith))
+all-is g at k (cell (held it) ∷ bs) o = go (eqb k (it .handle)) refl (all-is (upd g (it .handle) (at + relocHeader)) (at + (relocHeader + length (it .bytes))) k bs (omega arith))
   where
-    go : (t : Bool) → eqb k (it .handle) ≡ t → updAll (upd g (it .handle) (at + 4)) (at + (relocHeader + length (it .bytes))) bs k ≡ cond (eqb (occurs k (handlesOf bs)) 0) (cond (eqb k (it .handle)) (at + 4) (g k)) (placeOf k (at + (relocHeader + length (it .bytes))) bs)
-        → updAll (upd g (it .handle) (at + 4)) (at + (relocHeader + length (it .bytes))) bs k ≡ cond (eqb (one k (it .handle) + occurs k (handlesOf bs)) 0) (g k) (cond t (at + 4) (placeOf k (at + (relocHeader + length (it .bytes))) bs))
+    go : (t : Bool) → eqb k (it .handle) ≡ t → updAll (upd g (it .handle) (at + relocHeader)) (at + (relocHeader + length (it .bytes))) bs k ≡ cond (eqb (occurs k (handlesOf bs)) 0) (cond (eqb k (it .handle)) (at + relocHeader) (g k)) (placeOf k (at + (relocHeader + length (it .bytes))) bs)
+        → updAll (upd g (it .handle) (at + relocHeader)) (at + (relocHeader + length (it .bytes))) bs k ≡ cond (eqb (one k (it .handle) + occurs k (handlesOf bs)) 0) (g k) (cond t (at + relocHeader) (placeOf k (at + (relocHeader + length (it .bytes))) bs))
     go true e i =
         let q = one-same k (it .handle) (eqb-true k (it .handle) e) in
         let z : occurs k (handlesOf bs) ≡ 0 = omega arith in

@@ -6,7 +6,7 @@ use Prim.Native.Nat.{ℕ, _+_, _-_, _<_, _≤_}
 use native.Mathlib.Omega.{arith}
 use Rattle.format.specs.Occurs.{occurs}
 use Rattle.format.specs.WellFormed.{offsets}
-use Rattle.block_type.specs.Limits.{zoneHeader}
+use Rattle.block_type.specs.Limits.{zoneHeader, handleRange, masterSize}
 use Rattle.format.proofs.Count.{one-same}
 use Rattle.structure.specs.Structure.{Block, fixed, Structure, count, start, cell}
 use Rattle.bay.specs.Bay.{free, held}
@@ -16,14 +16,14 @@ use Rattle.row.specs.Row.{Sound}
 use Rattle.compact_bay.specs.Tidy.{Low}
 pub use Rattle.surgery.specs.Bays.{lastFree, firstFree}
 
-tiled-sound : (prev : Bool) (bs : List Block) → Tiled prev bs → ((h : ℕ) → 0 < occurs h (handlesOf bs) → h < 65536) → Sound bs
+tiled-sound : (prev : Bool) (bs : List Block) → Tiled prev bs → ((h : ℕ) → 0 < occurs h (handlesOf bs) → h < handleRange) → Sound bs
 unfolding handlesOf occurs
 tiled-sound prev [] t f = tt
 tiled-sound prev (cell (free n) ∷ bs) t f = ((t .1, t .2, t .3), tiled-sound true bs (t .4) f)
 tiled-sound prev (fixed d ∷ bs) t f = ((t .0, t .1), tiled-sound false bs (t .3) f)
 tiled-sound prev (cell (held it) ∷ bs) t f = ((t .0, t .1, f (it .handle) (omega (arith, one-same (it .handle) (it .handle) refl))), tiled-sound false bs (t .3) (λ k l. f k (omega arith)))
 
-all-low : (lim : ℕ) (bs : List Block) → ((h : ℕ) → 0 < occurs h (handlesOf bs) → (h + 4 ≤ lim) × (0 < h)) → Low lim bs
+all-low : (lim : ℕ) (bs : List Block) → ((h : ℕ) → 0 < occurs h (handlesOf bs) → (h + masterSize ≤ lim) × (0 < h)) → Low lim bs
 unfolding handlesOf occurs
 all-low lim [] f = tt
 all-low lim (cell (free n) ∷ bs) f = all-low lim bs f
