@@ -1,9 +1,8 @@
 -- The block of a live handle: its place and its data, and what stands before it and behind it.
-use mathlib.Core.Path.{_≡_, refl, sym, ap, _∙_, subst}
-use mathlib.Core.Bool.{Bool, true, cond, false≢true}
+use mathlib.Core.Path.{_≡_, refl, ap, _∙_}
+use mathlib.Core.Bool.{true, cond, false≢true}
 use mathlib.Core.List.{List, [], _∷_, _++_}
 use Prim.Native.Nat.{ℕ, _+_}
-use native.Mathlib.Omega.{arith}
 use lib.ListN.{length}
 use Rattle.block_type.specs.Limits.{fixedHeader}
 use Rattle.kinds.specs.Kinds.{Item, headerOf, is, itemSize}

@@ -2,13 +2,14 @@
 use mathlib.Core.Path.{_≡_, sym, ap, _∙_}
 use mathlib.Core.List.{List}
 use mathlib.Core.Bool.{Bool, true, false, not}
-use Prim.Native.Nat.{ℕ, _≤_}
+use Prim.Native.Nat.{ℕ, _+_, _≤_}
 use native.Mathlib.Omega.{arith}
 use mir.Val.{Fits}
 use mir.Syntax.{w8}
 use borrow.Author.Tests.{not-false}
 use lib.ListN.{length, getD, take, length-take}
-use Rattle.bigendian.specs.BigEndian.{fromBE, slice, Bytes}
+use Rattle.bigendian.specs.BigEndian.{fromBE, Bytes}
+use Rattle.block_type.specs.Limits.{lengthAt, firstAt, chainAt}
 use Rattle.format.specs.WellFormed.{wellFormed, zoneOf, lengthField, firstField, mastersField, chainField}
 use Rattle.format.specs.Steps.{Fields}
 use Rattle.format.proofs.Bool.{and-left}
@@ -36,7 +37,7 @@ fields-of s h = header-facts s (and-left _ _ h)
 
 -- the first block's offset, read in the zone or in the buffer
 pub first-of : (s : List ℕ) → wellFormed s ≡ true → firstField (zoneOf s) ≡ firstField s
-first-of s h = let f = fields-of s h in ap fromBE (slice-take s (lengthField s) 4 4 (omega arith))
+first-of s h = let f = fields-of s h in ap fromBE (slice-take s (lengthField s) firstAt 4 (omega arith))
 
 -- the length of the structure is the length in the header
 pub length-is : (s : List ℕ) → Bytes s → wellFormed s ≡ true → len (decode s) ≡ lengthField s
@@ -49,13 +50,13 @@ module _ (s : List ℕ) (ok : Bool) (e : ok ≡ wellFormed s) (q : not ok ≡ fa
   pub is-well : wellFormed s ≡ true
   is-well = sym e ∙ not-false ok q
 
-  pub has-length : 4 ≤ length s
+  pub has-length : lengthAt + 4 ≤ length s
   has-length = omega (arith, fields-of s is-well .long)
 
-  pub has-first : 8 ≤ length s
+  pub has-first : firstAt + 4 ≤ length s
   has-first = omega (arith, fields-of s is-well .long)
 
-  module _ (l : ℕ) (el : l ≡ fromBE (slice s 0 4)) where
+  module _ (l : ℕ) (el : l ≡ lengthField s) where
     pub has-zone : l ≤ length s
     has-zone = omega (arith, fields-of s is-well .room)
 
@@ -64,8 +65,8 @@ module _ (s : List ℕ) (ok : Bool) (e : ok ≡ wellFormed s) (q : not ok ≡ fa
 
 -- ---- the zone
 
-pub zone-14 : (z : List ℕ) → IsZone z → 14 ≤ length z
+pub zone-14 : (z : List ℕ) → IsZone z → chainAt + 2 ≤ length z
 zone-14 z i = omega (arith, whole-of z i .long)
 
-pub zone-8 : (z : List ℕ) → IsZone z → 8 ≤ length z
+pub zone-8 : (z : List ℕ) → IsZone z → firstAt + 4 ≤ length z
 zone-8 z i = omega (arith, whole-of z i .long)

@@ -4,13 +4,14 @@ ghost use mathlib.Core.Path.{_≡_};
 ghost use Prim.Native.Nat.{_<_};
 ghost use lib.ListN.{length};
 ghost use Rattle.access.specs.Edit.{placeIn, dataIn, IsZone};
+ghost use Rattle.block_type.specs.Limits.{argumentRange};
 
 // Where the data of handle h lies; 0 where h is not live.
 pub fn place(z: &[u8], h: usize) -> usize
-    requires { ⌜ (IsZone (now z)) × (h < 4294967296) ⌝ }
+    requires { ⌜ (IsZone (now z)) × (h < argumentRange) ⌝ }
     ensures { λ r. ⌜ r ≡ placeIn (now (z .entry)) h ⌝ }
 {
-    let first = bigendian::get4(z, 4) as usize;
+    let first = bigendian::get4(z, block_type::FIRST_AT) as usize;
     if block_check::is_master(first, h) {
         let v = bigendian::get4(z, h) as usize;
         if first <= v {
@@ -23,7 +24,7 @@ pub fn place(z: &[u8], h: usize) -> usize
 
 // The data size of handle h; 0 where h is not live.
 pub fn data_size(z: &[u8], h: usize) -> usize
-    requires { ⌜ (IsZone (now z)) × (h < 4294967296) ⌝ }
+    requires { ⌜ (IsZone (now z)) × (h < argumentRange) ⌝ }
     ensures { λ r. ⌜ r ≡ length (dataIn (now (z .entry)) h) ⌝ }
 {
     let at = place(z, h);

@@ -9,8 +9,8 @@ use lib.Dec.{leb}
 use lib.ListN.{length, getD, take, drop}
 use mir.Val.{Fits}
 use mir.Syntax.{w8, w32, w64}
-use Rattle.bigendian.specs.BigEndian.{fromBE, slice}
 use Rattle.block_type.specs.Limits.{fixedHeader, fixedNeed, fixedLimit}
+use Rattle.format.specs.WellFormed.{firstField}
 use Rattle.structure.specs.Structure.{Structure, start, len, decodeZone, encode}
 use Rattle.access.specs.Edit.{IsZone}
 use Rattle.calls.specs.Calls.{told, allocate-fixed}
@@ -51,7 +51,7 @@ in-3 z c number R q l = refuses (record { some = λ x. omega arith; is = λ buf.
 
 -- ---- the bay
 
-module _ (z : List ℕ) (i : IsZone z) (first : ℕ) (ef : first ≡ fromBE (slice z 4 4)) (c need a e sum tail : ℕ) (f : Bool) (l : c ≤ fixedLimit) (en : need ≡ fixedNeed c)
+module _ (z : List ℕ) (i : IsZone z) (first : ℕ) (ef : first ≡ firstField z) (c need a e sum tail : ℕ) (f : Bool) (l : c ≤ fixedLimit) (en : need ≡ fixedNeed c)
     (q : bayN f a e sum tail ≡ highBay need first (baysAt z first)) where
   abbrev d : Structure
   d = decodeZone z

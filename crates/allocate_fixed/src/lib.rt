@@ -21,7 +21,7 @@ fn place(z: &mut [u8], need: usize, a: usize, e: usize, sum: usize, tail: usize)
     bigendian::put2(
         z,
         e - need,
-        (BlockType::FIXED_CODE as usize * 16384 + need / 2) as u32,
+        (BlockType::FIXED_CODE as usize * BlockType::TYPE_UNIT + need / 2) as u32,
     );
 }
 
@@ -58,7 +58,7 @@ fn plan_in(z: &[u8], c: u32) -> Plan
         return no_plan(3);
     }
     let need = (BlockType::FIXED_HEADER + c as usize + 3) / 4 * 4;
-    let first = bigendian::get4(z, 4) as usize;
+    let first = bigendian::get4(z, block_type::FIRST_AT) as usize;
     let b = bays::find_high(z, first, need);
     let found = b.found;
     let start = b.start;
@@ -88,7 +88,7 @@ fn plan_zone(zone: &[u8], c: u32) -> Plan
     if !ok {
         return no_plan(1);
     }
-    let l = bigendian::get4(zone, 0) as usize;
+    let l = bigendian::get4(zone, block_type::LENGTH_AT) as usize;
     let p = plan_in(&zone[..l], c);
     let number = p.number;
     let need = p.need;

@@ -4,7 +4,7 @@ use mathlib.Core.Bool.{Bool, true, false, cond}
 use mathlib.Core.List.{List, [], _∷_, _++_, map}
 use Prim.Native.Nat.{ℕ, _+_, _-_, _≤_}
 use native.Mathlib.Omega.{arith}
-use Rattle.block_type.specs.Limits.{longestZone, zoneHeader, masterSize}
+use Rattle.block_type.specs.Limits.{longestZone, zoneHeader, masterSize, chainAt}
 use Rattle.bigendian.specs.BigEndian.{toBE, overwrite}
 use Rattle.structure.specs.Structure.{Block, cell, Structure, sizes, start, headOf, encode, decodeZone}
 use Rattle.structure.specs.Valid.{Valid}
@@ -35,7 +35,7 @@ module _ (s : Structure) (v : Valid s) (before after : List Block) (bay : List C
   fit-at = rw (ey, ea, en) (fill-fit s v before after bay ps x is h ks linked need z l)
 
   done-at : Sound1 (held (blank need h)) → (next : ℕ) → next ≡ headOf ks
-      → settled (overwrite y 12 (toBE 2 next)) at (held (blank need h) ∷ gap (n - need) []) ≡ encode (record { chain = ks; blocks = before ++ (map cell (fill (blank need h) x) ++ after) })
+      → settled (overwrite y chainAt (toBE 2 next)) at (held (blank need h) ∷ gap (n - need) []) ≡ encode (record { chain = ks; blocks = before ++ (map cell (fill (blank need h) x) ++ after) })
   done-at ok next eh =
       let b = blank-size need h (z .low) in
       let k : n - need ≡ x .size - itemSize (blank need h) = omega arith in
@@ -99,7 +99,7 @@ module _ (z : List ℕ) (need h next a e at n : ℕ) (t : Bool) (x : GoingIn z n
     fit-there =
         fit-at s v before after bay (parts b) (x .room .hole) is-there need h (b .ks) (b .is-chain) (b .size) fits z (sym (is-z b)) at n place-is (x .room .size)
 
-    pub done-there : (y : List ℕ) → y ≡ settled (overwrite z 12 (toBE 2 next)) at (held (blank need h) ∷ gap (n - need) []) → y ≡ encode (allocated need (decodeZone z))
+    pub done-there : (y : List ℕ) → y ≡ settled (overwrite z chainAt (toBE 2 next)) at (held (blank need h) ∷ gap (n - need) []) → y ≡ encode (allocated need (decodeZone z))
     done-there y ey =
         ey
         ∙ done-at s v before after bay (parts b) (x .room .hole) is-there need h (b .ks) (b .is-chain) (b .size) fits z (sym (is-z b)) at n place-is (x .room .size)
@@ -129,7 +129,7 @@ module _ (z : List ℕ) (need h next a e at n : ℕ) (t : Bool) (x : GoingIn z n
     pub fit-made : Fit z₁ at n need h
     fit-made = fit-at s₁ v₁ before after (compactBay bay) refl (x .room .hole) is-made need h (b .ks) (b .is-chain) (b .size) fits z₁ bytes₁ at n place₁ (x .room .size)
 
-    pub done-made : (y : List ℕ) → y ≡ settled (overwrite z₁ 12 (toBE 2 next)) at (held (blank need h) ∷ gap (n - need) []) → y ≡ encode (allocated need (decodeZone z))
+    pub done-made : (y : List ℕ) → y ≡ settled (overwrite z₁ chainAt (toBE 2 next)) at (held (blank need h) ∷ gap (n - need) []) → y ≡ encode (allocated need (decodeZone z))
     done-made y ey =
         ey
         ∙ done-at s₁ v₁ before after (compactBay bay) refl (x .room .hole) is-made need h (b .ks) (b .is-chain) (b .size) fits z₁ bytes₁ at n place₁ (x .room .size) ok next (x .is-next)

@@ -4,7 +4,7 @@ use mathlib.Core.List.{List, [], _∷_}
 use Prim.Native.Nat.{ℕ, _+_, _-_, _≤_}
 use native.Mathlib.Omega.{arith}
 use lib.ListN.{length, take}
-use Rattle.block_type.specs.Limits.{relocHeader, zoneHeader}
+use Rattle.block_type.specs.Limits.{relocHeader, zoneHeader, chainAt}
 use Rattle.bigendian.specs.BigEndian.{toBE, overwrite}
 use Rattle.bigendian.proofs.Laws.{length-toBE}
 use Rattle.bigendian.proofs.Overwrite.{write-length, drop-write}
@@ -15,10 +15,10 @@ use Rattle.slide.proofs.One.{set-one}
 use Rattle.place.specs.Fit.{blank, Fit}
 
 -- the chain's head lies before the block
-pub carve-fit : (z z₁ : List ℕ) (at n need h next : ℕ) → Fit z at n need h → zoneHeader ≤ h → z₁ ≡ overwrite z 12 (toBE 2 next) → Fit z₁ at n need h
+pub carve-fit : (z z₁ : List ℕ) (at n need h next : ℕ) → Fit z at n need h → zoneHeader ≤ h → z₁ ≡ overwrite z chainAt (toBE 2 next) → Fit z₁ at n need h
 carve-fit z z₁ at n need h next x l e =
     let b = length-toBE 2 next in
-    let m : length z₁ ≡ length z = rw e (write-length z (toBE 2 next) 12 (omega (arith, x .inside, x .below))) in
+    let m : length z₁ ≡ length z = rw e (write-length z (toBE 2 next) chainAt (omega (arith, x .inside, x .below))) in
     record {
       inside = omega (arith, x .inside);
       short = omega (arith, x .short);
@@ -26,7 +26,7 @@ carve-fit z z₁ at n need h next x l e =
       size = x .size;
       fits = x .fits;
       four-n = x .four-n;
-      bytes = rw e (ap (take n) (drop-write z 12 at (toBE 2 next) (omega (arith, x .below)) (omega (arith, x .inside))) ∙ x .bytes);
+      bytes = rw e (ap (take n) (drop-write z chainAt at (toBE 2 next) (omega (arith, x .below)) (omega (arith, x .inside))) ∙ x .bytes);
     }
 
 pub carve-done : (z z₁ z₂ z₃ : List ℕ) (at n need h next : ℕ) → zoneHeader ≤ h → z₁ ≡ overwrite z 12 (toBE 2 next) → z₂ ≡ overwrite z₁ at (bytesOf (held (blank need h) ∷ gap (n - need) []))

@@ -8,8 +8,7 @@ use borrow.Author.Tests.{le-leb, lt-leb}
 use lib.ListN.{length, drop}
 use lib.Dec.{leb}
 use Rattle.block_type.specs.Limits.{longestZone, relocLimit, relocNeed}
-use Rattle.bigendian.specs.BigEndian.{fromBE, slice}
-use Rattle.format.specs.WellFormed.{firstField}
+use Rattle.format.specs.WellFormed.{firstField, chainField}
 use Rattle.structure.specs.Structure.{Structure, start, headOf, decodeZone}
 use Rattle.structure.specs.Valid.{Valid}
 use Rattle.structure.proofs.Table.{start-is, head-is}
@@ -53,7 +52,7 @@ module _ (z : List ℕ) (c : ℕ) where
     pub in-3 : number ≡ 3 → relocLimit < c → PlannedIn (allocate-relocatable c) z number R
     in-3 q l = refuses (record { some = λ y. omega arith; is = λ buf. asked (lt-leb c relocLimit l) refl refl buf ∙ sym q })
 
-    module _ (l : c ≤ relocLimit) (i : IsZone z) (k : ℕ) (ek : k ≡ fromBE (slice z 12 2)) where
+    module _ (l : c ≤ relocLimit) (i : IsZone z) (k : ℕ) (ek : k ≡ chainField z) where
       v : Valid s
       v = valid-zone z (whole-of z i)
 
@@ -69,7 +68,7 @@ module _ (z : List ℕ) (c : ℕ) where
 
 -- ---- the bay
 
-module _ (z : List ℕ) (c : ℕ) (l : c ≤ relocLimit) (i : IsZone z) (k : ℕ) (ek : k ≡ fromBE (slice z 12 2)) (k0 : k ≡ 0 → ⊥) (first : ℕ) (ef : first ≡ firstField z) where
+module _ (z : List ℕ) (c : ℕ) (l : c ≤ relocLimit) (i : IsZone z) (k : ℕ) (ek : k ≡ chainField z) (k0 : k ≡ 0 → ⊥) (first : ℕ) (ef : first ≡ firstField z) where
   linked : (ks : List ℕ) × (decodeZone z .chain ≡ k ∷ ks)
   linked = go (decodeZone z .chain) refl
     where

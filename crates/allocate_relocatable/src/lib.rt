@@ -3,7 +3,7 @@ ghost use mathlib.Core.Path.{_≡_};
 ghost use mathlib.Core.List.{[], _∷_};
 ghost use Prim.Native.Nat.{_-_, _≤_};
 ghost use lib.ListN.{take};
-ghost use Rattle.block_type.specs.Limits.{zoneHeader};
+ghost use Rattle.block_type.specs.Limits.{zoneHeader, chainAt};
 ghost use Rattle.bigendian.specs.BigEndian.{toBE, overwrite};
 ghost use Rattle.structure.specs.Structure.{encode, decodeZone};
 ghost use Rattle.access.specs.Edit.{IsZone};
@@ -33,9 +33,9 @@ pub struct Plan {
 // Master h leaves the chain, which goes on with `next`, for a new block in the free block of n bytes at `at`.
 fn carve(z: &mut [u8], at: usize, n: usize, need: usize, h: usize, next: u32)
     requires { ⌜ Fit (now z) at n need h × (zoneHeader ≤ h) ⌝ }
-    ensures { λ _. ⌜ now (z .exit) ≡ settled (overwrite (now (z .entry)) 12 (toBE 2 next)) at (held (blank need h) ∷ gap (n - need) []) ⌝ }
+    ensures { λ _. ⌜ now (z .exit) ≡ settled (overwrite (now (z .entry)) chainAt (toBE 2 next)) at (held (blank need h) ∷ gap (n - need) []) ⌝ }
 {
-    bigendian::put2(z, 12, next);
+    bigendian::put2(z, block_type::CHAIN_AT, next);
     place::cut_block(z, at, n, need, h);
     bigendian::put4(z, h, (at + BlockType::RELOCATABLE_HEADER) as u32);
 }
@@ -102,12 +102,12 @@ fn plan_in(z: &[u8], c: u32) -> Plan
     if BlockType::RELOCATABLE_LIMIT < c {
         return no_plan(3);
     }
-    let h = bigendian::get2(z, 12) as usize;
+    let h = bigendian::get2(z, block_type::CHAIN_AT) as usize;
     if h == 0 {
         return no_plan(4);
     }
     let need = (BlockType::RELOCATABLE_HEADER + c as usize + 3) / 4 * 4;
-    let first = bigendian::get4(z, 4) as usize;
+    let first = bigendian::get4(z, block_type::FIRST_AT) as usize;
     let b = bays::find_low(z, first, need);
     let found = b.found;
     let start = b.start;
@@ -128,7 +128,7 @@ fn plan_zone(zone: &[u8], c: u32) -> Plan
     if !ok {
         return no_plan(1);
     }
-    let l = bigendian::get4(zone, 0) as usize;
+    let l = bigendian::get4(zone, block_type::LENGTH_AT) as usize;
     let p = plan_in(&zone[..l], c);
     let number = p.number;
     let need = p.need;

@@ -1,19 +1,18 @@
 -- Which hole is taken, when a block grows where it stands, when a bay is compacted: the laws of `specs/Choice` hold.
-use mathlib.Core.Path.{_≡_, refl, ap, ap₂, sym, _∙_}
+use mathlib.Core.Path.{_≡_, refl, ap, ap₂, _∙_}
 use mathlib.Core.Bool.{Bool, true, false, cond, false≢true}
 use mathlib.Core.Option.{Option, none, some, Option·getD}
 use mathlib.Core.List.{List, [], _∷_, _++_, map, append-nil}
 use Prim.Native.Nat.{ℕ, _+_, _-_, _≤_, _<_}
-use native.Mathlib.Omega.{arith}
 use native.Mathlib.Nat.{add-zero}
 use lib.ListN.{length}
-use lib.Dec.{leb, eqb}
+use lib.Dec.{leb}
 use borrow.Author.Tests.{le-leb, lt-leb, eq-eqb}
 use Rattle.calls.specs.Bays.{over}
 use Rattle.kinds.specs.Kinds.{Item, itemSize}
 use Rattle.calls.specs.State.{is, get}
 use Rattle.calls.specs.Table.{isNone}
-use Rattle.bay.specs.Bay.{Cell, free, held, baySum, items, gap, packed, compactBay, Hole, behind, holes, choose, fill, put, trim, takeHigh, resized, growInto, inPlace, growHere, reshape}
+use Rattle.bay.specs.Bay.{Cell, free, held, baySum, items, gap, packed, Hole, behind, holes, choose, fill, trim, takeHigh, resized, inPlace, growHere}
 use Rattle.bay.proofs.Laws.{items-append, bsum-append}
 use Rattle.bay.specs.Choice.{Smaller, no-cell, a-hole, a-block, inOrder, WhichHole, GrowsInPlace, TakesTheEnd, FreeAtTheEnd}
 

@@ -9,7 +9,7 @@ use native.Mathlib.Omega.{arith}
 use Rattle.kinds.specs.Kinds.{Item, itemSize}
 use Rattle.calls.specs.State.{is, get}
 use Rattle.bay.specs.Bay.{Cell, free, held, items, gap, joinBays, release}
-use Rattle.bay.specs.Ends.{freePart, endFree, startFree}
+use Rattle.bay.specs.Ends.{endFree, startFree}
 use Rattle.bay.specs.Counted.{count}
 use Rattle.bay.proofs.Sound.{Block, Sound, s-nil, s-end, s-free, s-held}
 

@@ -1,15 +1,14 @@
 -- The hole that is chosen is a free block of the bay that is big enough; what a bay is with a new block in it.
-use mathlib.Core.Path.{_≡_, refl, ap, sym, subst, _∙_}
-use mathlib.Core.Option.{Option, none, some, Option·getD}
-use mathlib.Core.List.{List, [], _∷_, _++_, map, append-nil, List·Permᴰ, List·Permᴰ·trans, Permᴰ·refl, Permᴰ·middle}
-use Prim.Native.Nat.{ℕ, zero, suc, _+_, _-_, _≤_}
+use mathlib.Core.Path.{_≡_, refl, ap}
+use mathlib.Core.Option.{Option, Option·getD}
+use mathlib.Core.List.{List, [], _∷_, _++_, map, append-nil, Permᴰ·middle}
+use Prim.Native.Nat.{ℕ, _-_, _≤_}
 use native.Mathlib.Omega.{arith}
 use lib.Dec.{leb}
 use borrow.Author.Tests.{leb-true}
 use Rattle.calls.specs.Bays.{over}
 use Rattle.kinds.specs.Kinds.{Item, itemSize}
-use Rattle.calls.specs.State.{total}
-use Rattle.bay.specs.Bay.{Cell, free, held, cellSize, baySize, baySum, items, gap, packed, Hole, behind, holes, choose, fill, put}
+use Rattle.bay.specs.Bay.{Cell, free, held, baySize, baySum, items, gap, packed, Hole, behind, holes, choose, fill, put}
 use Rattle.bay.proofs.Each.{Each, nothing, just, each-cond}
 use Rattle.bay.proofs.Laws.{bsize-split, bsize-gap, bsize-packed, items-gap, items-packed, bsize-append, items-append, Keeps}
 

@@ -1,10 +1,10 @@
 -- One bay of a zone: its blocks in address order, and what each call does to it.
-use mathlib.Core.Bool.{Bool, cond}
+use mathlib.Core.Bool.{cond}
 use mathlib.Core.Option.{Option, none, some, Option·getD}
 use mathlib.Core.List.{List, [], _∷_, _++_, map}
 use Prim.Native.Nat.{ℕ, zero, suc, _+_, _-_}
-use lib.ListN.{length, take, replicate}
-use lib.Dec.{leb, eqb}
+use lib.ListN.{length}
+use lib.Dec.{leb}
 use Rattle.calls.specs.Bays.{over}
 use Rattle.block_type.specs.Limits.{freeCode}
 use Rattle.kinds.specs.Kinds.{Item, codeOf, holding, itemSize}

@@ -8,7 +8,7 @@ use lib.Dec.{eqb}
 use Rattle.bigendian.specs.BigEndian.{slice}
 use Rattle.block_type.specs.Limits.{freeCode, freeHeader, longestZone, largestBlock}
 use Rattle.format.specs.WellFormed.{sizeOf, typeOf, splitBlocks}
-use Rattle.kinds.specs.Kinds.{codeOf, itemSize, itemIn, ItemOk}
+use Rattle.kinds.specs.Kinds.{itemSize, itemIn, ItemOk}
 use Rattle.bay.specs.Bay.{Cell, free, held, cellSize, cellCode}
 use Rattle.bay.specs.Bytes.{encodeCell}
 

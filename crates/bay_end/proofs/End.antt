@@ -8,7 +8,7 @@ use lib.Dec.{eqb}
 use lib.ListN.{length, length-append}
 use Rattle.structure.proofs.ZoneLayout.{lay, write-mid, lay-same}
 use Rattle.structure.proofs.Append.{sizes-append, place-append, handles-append}
-use Rattle.block_type.specs.Limits.{masterSize, zoneHeader}
+use Rattle.block_type.specs.Limits.{masterSize, zoneHeader, lengthAt}
 use Rattle.bigendian.specs.BigEndian.{toBE, overwrite}
 use Rattle.bigendian.proofs.Laws.{length-toBE}
 use Rattle.format.proofs.Count.{occurs, offsets}
@@ -22,7 +22,7 @@ use Rattle.surgery.proofs.Image.{img, encode-img, img-rest, img-same}
 use Rattle.settle.proofs.Cells.{all-sizes}
 
 -- another length
-lay-length : (l l′ f m c : ℕ) (vs r : List ℕ) → overwrite (lay l f m c vs r) 0 (toBE 4 l′) ≡ lay l′ f m c vs r
+lay-length : (l l′ f m c : ℕ) (vs r : List ℕ) → overwrite (lay l f m c vs r) lengthAt (toBE 4 l′) ≡ lay l′ f m c vs r
 unfolding lay
 lay-length l l′ f m c vs r = write-mid [] (toBE 4 l) (toBE 4 l′) _ 0 refl (length-toBE 4 l ∙ sym (length-toBE 4 l′))
 
@@ -94,14 +94,14 @@ module _ (s : Structure) (pre : List Block) (p q : ℕ) (t t′ : List ℕ) (par
       (omega (arith, length-append (bytesOf (rest p)) t, length-append (bytesOf (rest q)) t′, bytes-long (rest p) (sound-right pre (rest p) sound-parts), bytes-long (rest q) so′, rest-size p, rest-size q))
       ∙ ap (bytesOf pre ++_) (append-nil w) ∙ sym (append-assoc (bytesOf pre) (bytesOf (rest q)) t′) ∙ ap (_++ t′) (sym (bytes-append pre (rest q)))
 
-  pub end-changed : (l : ℕ) → l ≡ len s′ → overwrite (overwrite (encode s ++ t) (start s + sizes pre) (bytesOf (rest q) ++ t′)) 0 (toBE 4 l) ≡ encode s′ ++ t′
+  pub end-changed : (l : ℕ) → l ≡ len s′ → overwrite (overwrite (encode s ++ t) (start s + sizes pre) (bytesOf (rest q) ++ t′)) lengthAt (toBE 4 l) ≡ encode s′ ++ t′
   end-changed l el =
       let f = start s in let m = count s in let c = headOf (s .chain) in
       let r = bytesOf (s .blocks) in
       let w = bytesOf (rest q) ++ t′ in
       let vs = map (value s) (offsets zoneHeader m) in
-      ap (λ (x : List ℕ). overwrite (overwrite x (f + sizes pre) w) 0 (toBE 4 l)) (ap (_++ t) (encode-img s) ∙ sym (lay-behind (len s) f m c vs r t))
-      ∙ ap (λ (x : List ℕ). overwrite x 0 (toBE 4 l)) (img-rest (len s) f m c (sizes pre) (f + sizes pre) (value s) (r ++ t) w refl)
+      ap (λ (x : List ℕ). overwrite (overwrite x (f + sizes pre) w) lengthAt (toBE 4 l)) (ap (_++ t) (encode-img s) ∙ sym (lay-behind (len s) f m c vs r t))
+      ∙ ap (λ (x : List ℕ). overwrite x lengthAt (toBE 4 l)) (img-rest (len s) f m c (sizes pre) (f + sizes pre) (value s) (r ++ t) w refl)
       ∙ lay-length (len s) l f m c vs (overwrite (r ++ t) (sizes pre) w)
       ∙ ap (img l f m c (value s)) bodies
       ∙ lay-behind l f m c vs (bytesOf (pre ++ rest q)) t′

@@ -53,9 +53,9 @@ free-zeros z at n e l =
     ap (λ (x : ℕ). drop x (encodeCell (free n))) j ∙ drop-append-add t (replicate (n - freeHeader) 0) 0 in
     rw (← drop-drop freeHeader at z, ← drop-take freeHeader n (drop at z), e, d)
 
-four-zeros : (n : ℕ) → 4 ≤ n → replicate n 0 ≡ toBE 4 0 ++ replicate (n - 4) 0
+four-zeros : (n : ℕ) → freeHeader ≤ n → replicate n 0 ≡ toBE 4 0 ++ replicate (n - freeHeader) 0
 unfolding toBE
-four-zeros n l = let e : n ≡ suc (suc (suc (suc (n - 4)))) = omega arith in ap (λ (k : ℕ). replicate k 0) e
+four-zeros n l = let e : n ≡ suc (suc (suc (suc (n - freeHeader)))) = omega arith in ap (λ (k : ℕ). replicate k 0) e
 
 -- the header of what is left, and zeros to the end
 gap-zeros : (r n : ℕ) → r % 4 ≡ 0 → freeHeader ≤ n → bytesOf (gap r []) ++ replicate n 0 ≡ toBE 4 (r / 2) ++ replicate (r + n - freeHeader) 0

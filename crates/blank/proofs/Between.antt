@@ -40,7 +40,7 @@ within : (z y₁ y₂ : List ℕ) (from low high to : ℕ) → from + freeHeader
 unfolding encodeBlock
 within z y₁ y₂ from low high to l₁ l₂ l₃ l₄ za zb e₁ e₂ =
     let x = toBE 4 ((to - from) / 2) in
-    let n : length x ≡ 4 = length-toBE 4 ((to - from) / 2) in
+    let n : length x ≡ freeHeader = length-toBE 4 ((to - from) / 2) in
     let p = take from z ++ x in
     let a = low - (from + freeHeader) in
     let b = high - low in

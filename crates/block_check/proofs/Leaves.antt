@@ -10,7 +10,7 @@ use lib.Dec.{eqb, leb}
 use borrow.Author.Tests.{eq-eqb, ne-eqb, leb-true, eqb-true, le-leb, lt-leb, not-true, not-false}
 use lib.ListN.{length, getD, take, drop, length-drop}
 use lib.Seq.{getD-drop, drop-drop}
-use Rattle.block_type.specs.Limits.{longestZone, masterSize, mostMasters, typeUnit, zoneHeader, freeHeader, relocHeader, smallestBlock}
+use Rattle.block_type.specs.Limits.{longestZone, masterSize, mostMasters, typeUnit, zoneHeader, freeHeader, relocHeader, smallestBlock, freeCode, fixedCode, relocCode, handleAt, typeByteUnit, zerosAt}
 use Rattle.bigendian.specs.BigEndian.{fromBE, slice}
 use Rattle.memory.specs.Zeros.{allZero}
 use Rattle.format.proofs.Bool.{and-left, and-right, is-false, not-both}
@@ -20,27 +20,27 @@ use Rattle.format.proofs.Masters.{is-master}
 use Rattle.format.proofs.Walk.{is-first, first-rule, drop-take, turn, stop, end, end-count}
 use Rattle.format.specs.Steps.{GoodSize}
 
-pub kind-law : (z : List ℕ) (at : ℕ) → getD z at 0 / 64 ≡ typeOf (drop at z)
+pub kind-law : (z : List ℕ) (at : ℕ) → getD z at 0 / typeByteUnit ≡ typeOf (drop at z)
 unfolding typeOf
 kind-law z at = rw (getD-drop, add-zero)
 
-pub size-free : (r : List ℕ) (k b : ℕ) → k ≡ typeOf r → k ≡ 0 → b ≡ fromBE (take 4 r) → b * 2 ≡ sizeOf r
+pub size-free : (r : List ℕ) (k b : ℕ) → k ≡ typeOf r → k ≡ freeCode → b ≡ fromBE (take 4 r) → b * 2 ≡ sizeOf r
 unfolding sizeOf
 size-free r k b e z eb = rw (← e, z, eb)
 
-pub size-used : (r : List ℕ) (k b : ℕ) → k ≡ typeOf r → (k ≡ 0 → ⊥) → b ≡ fromBE (take 2 r) → b % typeUnit * 2 ≡ sizeOf r
+pub size-used : (r : List ℕ) (k b : ℕ) → k ≡ typeOf r → (k ≡ freeCode → ⊥) → b ≡ fromBE (take 2 r) → b % typeUnit * 2 ≡ sizeOf r
 unfolding sizeOf
-size-used r k b e z eb = rw (← e, ne-eqb k 0 z, eb)
+size-used r k b e z eb = rw (← e, ne-eqb k freeCode z, eb)
 
-pub reloc-yes : (r : List ℕ) (k : ℕ) → k ≡ typeOf r → k ≡ 2 → _≡_ {A = ℕ} 1 (cond (isReloc r) 1 0)
+pub reloc-yes : (r : List ℕ) (k : ℕ) → k ≡ typeOf r → k ≡ relocCode → _≡_ {A = ℕ} 1 (cond (isReloc r) 1 0)
 unfolding isReloc
 reloc-yes r k e q = rw (← e, q)
 
-pub reloc-no : (r : List ℕ) (k : ℕ) → k ≡ typeOf r → (k ≡ 2 → ⊥) → _≡_ {A = ℕ} 0 (cond (isReloc r) 1 0)
+pub reloc-no : (r : List ℕ) (k : ℕ) → k ≡ typeOf r → (k ≡ relocCode → ⊥) → _≡_ {A = ℕ} 0 (cond (isReloc r) 1 0)
 unfolding isReloc
-reloc-no r k e q = rw (← e, ne-eqb k 2 q)
+reloc-no r k e q = rw (← e, ne-eqb k relocCode q)
 
-pub free-law : (r : List ℕ) (k : ℕ) → k ≡ typeOf r → eqb k 0 ≡ isFree r
+pub free-law : (r : List ℕ) (k : ℕ) → k ≡ typeOf r → eqb k freeCode ≡ isFree r
 unfolding isFree
 free-law r k e = rw e
 
@@ -64,30 +64,30 @@ free-rule z at n prev t e h q =
     let d : at + n - (at + freeHeader) ≡ n - freeHeader = omega arith in
     rw (e, drop-take freeHeader n (drop at z), drop-drop freeHeader at z, ← d) q
 
-pub reloc-rule : (z : List ℕ) (first at h v : ℕ) (t : Bool) → h ≡ fromBE (slice z (at + 2) 2) → t ≡ isMaster first h → t ≡ true → v ≡ fromBE (slice z h 4)
+pub reloc-rule : (z : List ℕ) (first at h v : ℕ) (t : Bool) → h ≡ fromBE (slice z (at + handleAt) 2) → t ≡ isMaster first h → t ≡ true → v ≡ fromBE (slice z h 4)
     → eqb v (at + relocHeader) ≡ relocRule z first at (handleOf (drop at z))
 unfolding relocRule handleOf
-reloc-rule z first at h v t e q y w = rw (drop-drop 2 at z, ← e, ← q, y, w)
+reloc-rule z first at h v t e q y w = rw (drop-drop handleAt at z, ← e, ← q, y, w)
 
-pub reloc-rule-no : (z : List ℕ) (first at h : ℕ) (t : Bool) → h ≡ fromBE (slice z (at + 2) 2) → t ≡ isMaster first h → t ≡ false
+pub reloc-rule-no : (z : List ℕ) (first at h : ℕ) (t : Bool) → h ≡ fromBE (slice z (at + handleAt) 2) → t ≡ isMaster first h → t ≡ false
     → false ≡ relocRule z first at (handleOf (drop at z))
 unfolding relocRule handleOf
-reloc-rule-no z first at h t e q y = rw (drop-drop 2 at z, ← e, ← q, y)
+reloc-rule-no z first at h t e q y = rw (drop-drop handleAt at z, ← e, ← q, y)
 
 module _ (k : ℕ) (free reloc : Bool) where
-  pub rule-free : (r : List ℕ) (t : Bool) → k ≡ typeOf r → k ≡ 0 → t ≡ free → t ≡ typeRule (typeOf r) free reloc
+  pub rule-free : (r : List ℕ) (t : Bool) → k ≡ typeOf r → k ≡ freeCode → t ≡ free → t ≡ typeRule (typeOf r) free reloc
   unfolding typeRule
   rule-free r t e q h = rw (← e, q) h
 
-  pub rule-reloc : (r : List ℕ) (t : Bool) → k ≡ typeOf r → k ≡ 2 → t ≡ reloc → t ≡ typeRule (typeOf r) free reloc
+  pub rule-reloc : (r : List ℕ) (t : Bool) → k ≡ typeOf r → k ≡ relocCode → t ≡ reloc → t ≡ typeRule (typeOf r) free reloc
   unfolding typeRule
   rule-reloc r t e q h = rw (← e, q) h
 
-  pub rule-other : (r : List ℕ) → k ≡ typeOf r → (k ≡ 2 → ⊥) → (k ≡ 0 → ⊥) → eqb k 1 ≡ typeRule (typeOf r) free reloc
+  pub rule-other : (r : List ℕ) → k ≡ typeOf r → (k ≡ relocCode → ⊥) → (k ≡ freeCode → ⊥) → eqb k fixedCode ≡ typeRule (typeOf r) free reloc
   unfolding typeRule
   rule-other r e a b = rw (← e) (go k a b)
     where
-      go : (k : ℕ) → (k ≡ 2 → ⊥) → (k ≡ 0 → ⊥) → eqb k 1 ≡ typeRule k free reloc
+      go : (k : ℕ) → (k ≡ relocCode → ⊥) → (k ≡ freeCode → ⊥) → eqb k fixedCode ≡ typeRule k free reloc
       go zero a b = absurd (b refl)
       go (suc zero) a b = refl
       go (suc (suc zero)) a b = absurd (a refl)
@@ -190,6 +190,6 @@ unfolding headerOk
 header-short s h = rw (lt-leb zoneHeader (length s) h)
 
 pub header-law : (s : List ℕ) (l first m : ℕ) → zoneHeader ≤ length s → l ≡ lengthField s → first ≡ firstField s → m ≡ mastersField s
-    → (eqb (getD s 14 0) 0 && eqb (getD s 15 0) 0 && eqb (l % 4) 0 && leb l (length s) && leb l longestZone && leb m mostMasters && eqb first (zoneHeader + masterSize * m) && leb first l) ≡ headerOk s
+    → (eqb (getD s zerosAt 0) 0 && eqb (getD s (zerosAt + 1) 0) 0 && eqb (l % 4) 0 && leb l (length s) && leb l longestZone && leb m mostMasters && eqb first (zoneHeader + masterSize * m) && leb first l) ≡ headerOk s
 unfolding headerOk
 header-law s l first m h e₁ e₂ e₃ = rw (le-leb zoneHeader (length s) h, e₁, e₂, e₃)

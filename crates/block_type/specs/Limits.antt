@@ -1,5 +1,5 @@
--- The numbers of document 01: block types, header lengths, limits, the header of a zone. (Where a field lies in its header stands at the
--- fields' own definitions.)
+-- The numbers of document 01: block types, header lengths, limits, the header of a zone and where its fields lie. `tools/numbers.py` tests
+-- that they stand by name everywhere else.
 use Prim.Native.Nat.{ℕ, _+_, _*_, _/_}
 
 -- ---- block types: "0 free, 1 fixed (non-relocatable), 2 relocatable"
@@ -24,6 +24,15 @@ fixedHeader = 2
 abbrev pub relocHeader : ℕ
 relocHeader = 4
 
+-- "Relocatable: the same 14 bits, then the handle (2 bytes)"
+abbrev pub handleAt : ℕ
+handleAt = 2
+
+-- ---- "A block's first two bits are its type": of its first byte the type is what stands above 6 bits
+
+abbrev pub typeByteUnit : ℕ
+typeByteUnit = 64
+
 -- ---- "14-bit size in words": of a block's first two bytes the type is what stands above 14 bits, and a block that is not free has at most
 -- this size ("Sizes include the header, are multiples of 4")
 
@@ -33,13 +42,17 @@ typeUnit = 16384
 abbrev pub largestBlock : ℕ
 largestBlock = 32764
 
--- no block is smaller than a free one's header
+-- "at least 4": no block is smaller than a free one's header
 abbrev pub smallestBlock : ℕ
 smallestBlock = 4
 
 -- "the handle (2 bytes)": handles are below
 abbrev pub handleRange : ℕ
 handleRange = 65536
+
+-- "Arguments are unsigned 32-bit": they, and the values answered, are below
+abbrev pub argumentRange : ℕ
+argumentRange = 4294967296
 
 -- ---- the largest data sizes that may be asked for: "c above 32,760 (relocatable, resize) or 32,762 (fixed)" is refused
 
@@ -73,13 +86,36 @@ masterSize = 4
 abbrev pub firstBlock : ℕ → ℕ
 firstBlock m = zoneHeader + masterSize * m
 
+-- "L is a multiple of 4, at most the buffer's length and 1,048,576; m ≤ 8,188"
+
 abbrev pub longestZone : ℕ
 longestZone = 1048576
 
 abbrev pub mostMasters : ℕ
 mostMasters = 8188
 
--- ---- a roster: "8 bytes a live handle"
+-- ---- where the header's fields lie: "at 0 the length L (4 bytes); at 4 bkFst, offset of the first block (4); at 8 m, the number of master
+-- pointers (4); at 12 hFstFree, offset of the first free master, 0 for none (2); at 14 two zero bytes"
+
+abbrev pub lengthAt : ℕ
+lengthAt = 0
+
+abbrev pub firstAt : ℕ
+firstAt = 4
+
+abbrev pub mastersAt : ℕ
+mastersAt = 8
+
+abbrev pub chainAt : ℕ
+chainAt = 12
+
+abbrev pub zerosAt : ℕ
+zerosAt = 14
+
+-- ---- a roster: "8 bytes a live handle (handle, data size; 4 bytes each)"
 
 abbrev pub recordSize : ℕ
 recordSize = 8
+
+abbrev pub amountAt : ℕ
+amountAt = 4

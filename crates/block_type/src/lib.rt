@@ -1,7 +1,9 @@
-// The block types of a zone: type codes, header lengths and largest data sizes, as the type's own constants.
+// The block types of a zone: type codes, header lengths and largest data sizes, as the type's own constants; and the zone's own numbers beside them.
 // Each is tied to the definition's number by a function that returns it.
 ghost use mathlib.Core.Path.{_≡_};
-ghost use Rattle.block_type.specs.Limits.{freeCode, fixedCode, relocCode, freeHeader, fixedHeader, relocHeader, fixedLimit, relocLimit};
+ghost use Prim.Native.Nat.{_+_};
+ghost use Rattle.block_type.specs.Limits.{freeCode, fixedCode, relocCode, freeHeader, fixedHeader, relocHeader, handleAt, typeByteUnit, typeUnit, smallestBlock, fixedLimit, relocLimit};
+ghost use Rattle.block_type.specs.Limits.{zoneHeader, masterSize, longestZone, mostMasters, lengthAt, firstAt, mastersAt, chainAt, zerosAt, recordSize, amountAt};
 
 pub enum BlockType {
     Free,
@@ -21,6 +23,18 @@ impl BlockType {
     pub const FIXED_HEADER: usize = 2;
 
     pub const RELOCATABLE_HEADER: usize = 4;
+
+    // "Relocatable: the same 14 bits, then the handle (2 bytes)"
+    pub const HANDLE_AT: usize = 2;
+
+    // "A block's first two bits are its type": what stands above 6 bits of its first byte
+    pub const TYPE_BYTE_UNIT: u8 = 64;
+
+    // "14-bit size in words": the type is what stands above 14 bits of its first two bytes
+    pub const TYPE_UNIT: usize = 16384;
+
+    // "Sizes include the header, are multiples of 4 and at least 4"
+    pub const SMALLEST: usize = 4;
 
     pub const FIXED_LIMIT: u32 = 32762;
 
@@ -62,6 +76,30 @@ impl BlockType {
         BlockType::RELOCATABLE_HEADER
     }
 
+    pub fn handle_at() -> usize
+        ensures { λ r. ⌜ r ≡ handleAt ⌝ }
+    {
+        BlockType::HANDLE_AT
+    }
+
+    pub fn type_byte_unit() -> u8
+        ensures { λ r. ⌜ r ≡ typeByteUnit ⌝ }
+    {
+        BlockType::TYPE_BYTE_UNIT
+    }
+
+    pub fn type_unit() -> usize
+        ensures { λ r. ⌜ r ≡ typeUnit ⌝ }
+    {
+        BlockType::TYPE_UNIT
+    }
+
+    pub fn smallest() -> usize
+        ensures { λ r. ⌜ r ≡ smallestBlock ⌝ }
+    {
+        BlockType::SMALLEST
+    }
+
     pub fn fixed_limit() -> u32
         ensures { λ r. ⌜ r ≡ fixedLimit ⌝ }
     {
@@ -73,4 +111,112 @@ impl BlockType {
     {
         BlockType::RELOCATABLE_LIMIT
     }
+}
+
+// ---- the zone
+
+// "Header, 16 bytes"
+pub const ZONE_HEADER: usize = 16;
+
+// "Masters follow, 4 bytes each"
+pub const MASTER_SIZE: usize = 4;
+
+// "L is a multiple of 4, at most the buffer's length and 1,048,576"
+pub const LONGEST_ZONE: usize = 1048576;
+
+// "m ≤ 8,188"
+pub const MOST_MASTERS: usize = 8188;
+
+// "at 0 the length L (4 bytes)"
+pub const LENGTH_AT: usize = 0;
+
+// "at 4 bkFst, offset of the first block (4)"
+pub const FIRST_AT: usize = 4;
+
+// "at 8 m, the number of master pointers (4)"
+pub const MASTERS_AT: usize = 8;
+
+// "at 12 hFstFree, offset of the first free master, 0 for none (2)"
+pub const CHAIN_AT: usize = 12;
+
+// "at 14 two zero bytes"
+pub const ZEROS_AT: usize = 14;
+
+pub const SECOND_ZERO_AT: usize = 15;
+
+// a roster: "8 bytes a live handle (handle, data size; 4 bytes each)"
+pub const RECORD_SIZE: usize = 8;
+
+pub const AMOUNT_AT: usize = 4;
+
+pub fn zone_header() -> usize
+    ensures { λ r. ⌜ r ≡ zoneHeader ⌝ }
+{
+    ZONE_HEADER
+}
+
+pub fn master_size() -> usize
+    ensures { λ r. ⌜ r ≡ masterSize ⌝ }
+{
+    MASTER_SIZE
+}
+
+pub fn longest_zone() -> usize
+    ensures { λ r. ⌜ r ≡ longestZone ⌝ }
+{
+    LONGEST_ZONE
+}
+
+pub fn most_masters() -> usize
+    ensures { λ r. ⌜ r ≡ mostMasters ⌝ }
+{
+    MOST_MASTERS
+}
+
+pub fn length_at() -> usize
+    ensures { λ r. ⌜ r ≡ lengthAt ⌝ }
+{
+    LENGTH_AT
+}
+
+pub fn first_at() -> usize
+    ensures { λ r. ⌜ r ≡ firstAt ⌝ }
+{
+    FIRST_AT
+}
+
+pub fn masters_at() -> usize
+    ensures { λ r. ⌜ r ≡ mastersAt ⌝ }
+{
+    MASTERS_AT
+}
+
+pub fn chain_at() -> usize
+    ensures { λ r. ⌜ r ≡ chainAt ⌝ }
+{
+    CHAIN_AT
+}
+
+pub fn zeros_at() -> usize
+    ensures { λ r. ⌜ r ≡ zerosAt ⌝ }
+{
+    ZEROS_AT
+}
+
+pub fn second_zero_at() -> usize
+    ensures { λ r. ⌜ r ≡ zerosAt + 1 ⌝ }
+{
+    SECOND_ZERO_AT
+}
+
+pub fn record_size() -> usize
+    ensures { λ r. ⌜ r ≡ recordSize ⌝ }
+{
+    RECORD_SIZE
+}
+
+pub fn amount_at() -> usize
+    ensures { λ r. ⌜ r ≡ amountAt ⌝ }
+{
+    AMOUNT_AT
 }

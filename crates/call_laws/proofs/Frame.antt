@@ -9,7 +9,7 @@ use mir.Val.{Fits}
 use mir.Syntax.{w8}
 use borrow.Author.Tests.{ne-eqb, not-true, not-false}
 use lib.ListN.{length, getD, take, drop, replicate, length-take, take-append-drop}
-use Rattle.bigendian.specs.BigEndian.{fromBE, slice, Bytes}
+use Rattle.bigendian.specs.BigEndian.{Bytes}
 use Rattle.format.specs.WellFormed.{wellFormed, zoneOf, lengthField}
 use Rattle.structure.specs.Structure.{Structure, len, encode, decode, decodeZone}
 use Rattle.structure.proofs.Table.{whole, len-is}
@@ -39,11 +39,11 @@ module _ (c : Call) (s : List ℕ) (number l : ℕ) (R : Type 0) (ok : Bool) (e 
       refusal (λ z. omega arith) (subst (λ (t : Bool). refusalOf c (facts t (zoneIn s)) ≡ 1) w i ∙ sym k)
 
   -- the zone in the buffer's first k bytes refuses the call
-  pub plan-no : not ok ≡ false → (k : ℕ) → k ≡ fromBE (slice s 0 4) → (number ≡ 0 → ⊥) → refusalOf c (facts true (zoneAt (length s) (take k s))) ≡ number → Planned c s number l R
+  pub plan-no : not ok ≡ false → (k : ℕ) → k ≡ lengthField s → (number ≡ 0 → ⊥) → refusalOf c (facts true (zoneAt (length s) (take k s))) ≡ number → Planned c s number l R
   plan-no q k ek ne r = let w : wellFormed s ≡ true = sym e ∙ not-false ok q in refusal ne ((λ j. refusalOf c (facts (w j) (zone-is s k ek j))) ∙ r)
 
 -- what is planned in the zone's bytes
-pub plan-well : (c : Call) (s : List ℕ) (number l : ℕ) (R : Type 0) (ok : Bool) → ok ≡ wellFormed s → not ok ≡ false → l ≡ fromBE (slice s 0 4)
+pub plan-well : (c : Call) (s : List ℕ) (number l : ℕ) (R : Type 0) (ok : Bool) → ok ≡ wellFormed s → not ok ≡ false → l ≡ lengthField s
     → PlannedIn c (take l s) number R → Planned c s number l R
 plan-well c s number l R ok e q el (refuses r) = plan-no c s number l R ok e q l el (r .some) (r .is (length s))
 plan-well c s number l R ok e q el (goes k r) = ready k (sym e ∙ not-false ok q) el (has-zone s ok e q l el) r

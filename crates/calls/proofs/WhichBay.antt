@@ -1,10 +1,9 @@
 -- Which bay is chosen: the laws of `specs/WhichBay` hold.
 use mathlib.Core.Path.{_≡_, refl, ap, _∙_}
-use mathlib.Core.Bool.{Bool, true, false, cond}
+use mathlib.Core.Bool.{Bool, cond}
 use mathlib.Core.List.{List, [], _∷_}
-use Prim.Native.Nat.{ℕ, _≤_, _<_, max}
+use Prim.Native.Nat.{ℕ, _≤_, _<_}
 use native.Mathlib.Omega.{arith}
-use lib.Dec.{leb}
 use borrow.Author.Tests.{le-leb, lt-leb}
 use Rattle.calls.specs.Bays.{Bays, last, more, onLowest, maxS}
 use Rattle.calls.specs.State.{Fixed, newFixed, cutHigh}

@@ -1,6 +1,6 @@
 -- What a zone and a ledger are both made of: relocatable blocks by handle and data, fixed blocks by place and data, and beside the bays
 -- the lengths and the free handles. B is what is kept of a bay.
-use mathlib.Core.Bool.{Bool, cond}
+use mathlib.Core.Bool.{cond}
 use mathlib.Core.Option.{Option, none, some, Option·getD}
 use mathlib.Core.List.{List, [], _∷_, _++_}
 use Prim.Native.Nat.{ℕ, zero, suc, _+_, _-_}

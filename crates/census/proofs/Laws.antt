@@ -14,8 +14,7 @@ use lib.Seq.{getD-set-same, getD-set-other}
 use mir.Val.{Fits}
 use mir.Syntax.{w8}
 use Rattle.block_type.specs.Limits.{freeCode}
-use Rattle.bigendian.specs.BigEndian.{fromBE, slice}
-use Rattle.format.specs.WellFormed.{isFree, wellFormed, firstField, zoneOf}
+use Rattle.format.specs.WellFormed.{isFree, wellFormed, firstField, zoneOf, lengthField}
 use Rattle.structure.specs.Structure.{Block, fixed, size, decode, cell}
 use Rattle.bay.specs.Bay.{free, held}
 use Rattle.row.specs.Row.{blocksOf, Stepped, blockAt, freeB}
@@ -190,7 +189,7 @@ in-law z first cs e q =
 pub census-1 : (s : List ℕ) (ok : Bool) → ok ≡ wellFormed s → not ok ≡ true → counted 1 (replicate 19 0) ≡ census s
 census-1 s ok e q = rw (← e, not-true ok q)
 
-pub census-0 : (s : List ℕ) (ok : Bool) (l : ℕ) (cs : List ℕ) → ok ≡ wellFormed s → not ok ≡ false → l ≡ fromBE (slice s 0 4) → ((i : ℕ) → Fits w8 (getD s i 0))
+pub census-0 : (s : List ℕ) (ok : Bool) (l : ℕ) (cs : List ℕ) → ok ≡ wellFormed s → not ok ≡ false → l ≡ lengthField s → ((i : ℕ) → Fits w8 (getD s i 0))
     → CountsIn (take l s) cs → counted 0 cs ≡ census s
 unfolding decode
 census-0 s ok l cs e q el y (counts-in c) =

@@ -84,7 +84,7 @@ fn count_in(z: &[u8]) -> [u32; 19]
     requires { ⌜ IsZone (now z) ⌝ }
     ensures { λ r. ⌜ CountsIn (now (z .entry)) r ⌝ }
 {
-    let first = bigendian::get4(z, 4) as usize;
+    let first = bigendian::get4(z, block_type::FIRST_AT) as usize;
     count_all(z, first, [0u32; 19])
 }
 
@@ -100,7 +100,7 @@ pub fn census(zone: &[u8]) -> Counts
             counts: [0u32; 19],
         };
     }
-    let l = bigendian::get4(zone, 0) as usize;
+    let l = bigendian::get4(zone, block_type::LENGTH_AT) as usize;
     let counts = count_in(&zone[..l]);
     Counts { number: 0, counts }
 }

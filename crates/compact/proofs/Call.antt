@@ -6,7 +6,8 @@ use native.Mathlib.Omega.{arith}
 use lib.ListN.{length, getD, take, drop, length-take}
 use mir.Val.{Fits}
 use mir.Syntax.{w8, w32}
-use Rattle.bigendian.specs.BigEndian.{fromBE, slice}
+use Rattle.bigendian.specs.BigEndian.{fromBE}
+use Rattle.block_type.specs.Limits.{firstAt}
 use Rattle.format.specs.WellFormed.{firstField}
 use Rattle.structure.specs.Structure.{Structure, fixed, sizes, start, decodeZone, encode}
 use Rattle.structure.proofs.Sound.{valid-zone}
@@ -30,8 +31,8 @@ use Rattle.compact.specs.Compacted.{largest, compacted}
 use Rattle.compact.specs.Ready.{ReadyIn}
 
 -- in a zone, by the first bytes of the buffer
-pub in-0 : (s : List ℕ) (l first : ℕ) → IsZone (take l s) → first ≡ fromBE (slice s 4 4) → PlannedIn compact (take l s) 0 (ReadyIn (take l s) first)
-in-0 s l first i e = goes refl (record { zone = i; is-first = e ∙ ap fromBE (sym (slice-take s l 4 4 (omega (arith, zone-8 (take l s) i, length-take l s)))) })
+pub in-0 : (s : List ℕ) (l first : ℕ) → IsZone (take l s) → first ≡ firstField s → PlannedIn compact (take l s) 0 (ReadyIn (take l s) first)
+in-0 s l first i e = goes refl (record { zone = i; is-first = e ∙ ap fromBE (sym (slice-take s l firstAt 4 (omega (arith, zone-8 (take l s) i, length-take l s)))) })
 
 does : (z : List ℕ) (buf v : ℕ) → v ≡ largest (decodeZone z) → Does compact buf z (told 0 v) (compacted (decodeZone z))
 does z buf v e = record { passed = refl; answer = ap (told 0) (sym e); line = refl }

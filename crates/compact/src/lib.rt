@@ -75,8 +75,8 @@ fn plan(zone: &[u8]) -> CompactPlan
             first: 0,
         };
     }
-    let l = bigendian::get4(zone, 0) as usize;
-    let first = bigendian::get4(zone, 4) as usize;
+    let l = bigendian::get4(zone, block_type::LENGTH_AT) as usize;
+    let first = bigendian::get4(zone, block_type::FIRST_AT) as usize;
     CompactPlan {
         number: 0,
         len: l,

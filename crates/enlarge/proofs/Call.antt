@@ -8,8 +8,9 @@ use lib.ListN.{length, getD, take, drop, length-take, length-drop}
 use lib.Seq.{take-add}
 use mir.Val.{Fits}
 use mir.Syntax.{w8, w64}
-use Rattle.bigendian.specs.BigEndian.{fromBE, slice, toBE, overwrite}
-use Rattle.format.specs.WellFormed.{wellFormed}
+use Rattle.bigendian.specs.BigEndian.{toBE, overwrite}
+use Rattle.block_type.specs.Limits.{lengthAt}
+use Rattle.format.specs.WellFormed.{wellFormed, lengthField}
 use Rattle.structure.specs.Structure.{encodeBlock, decodeZone, cell}
 use Rattle.access.specs.Edit.{IsZone}
 use Rattle.blank.specs.Between.{Between}
@@ -26,12 +27,12 @@ use Rattle.enlarge.proofs.Zone.{within, limit, number-is, grows, idle, 
 
 -- ---- the writes
 
-pub extend-law : (z x y f : List ℕ) (from l : ℕ) → x ≡ overwrite z from f → y ≡ overwrite x 0 (toBE 4 l) → y ≡ overwrite (overwrite z from f) 0 (toBE 4 l)
-extend-law z x y f from l e q = q ∙ ap (λ (u : List ℕ). overwrite u 0 (toBE 4 l)) e
+pub extend-law : (z x y f : List ℕ) (from l : ℕ) → x ≡ overwrite z from f → y ≡ overwrite x lengthAt (toBE 4 l) → y ≡ overwrite (overwrite z from f) lengthAt (toBE 4 l)
+extend-law z x y f from l e q = q ∙ ap (λ (u : List ℕ). overwrite u lengthAt (toBE 4 l)) e
 
 -- ---- the plan
 
-module _ (s : List ℕ) (k l : ℕ) (ok t : Bool) (e : ok ≡ wellFormed s) (q : not ok ≡ false) (el : l ≡ fromBE (slice s 0 4)) (et : t ≡ accepts (length s) (l + k) k) (g : (i : ℕ) → Fits w8 (getD s i 0)) where
+module _ (s : List ℕ) (k l : ℕ) (ok t : Bool) (e : ok ≡ wellFormed s) (q : not ok ≡ false) (el : l ≡ lengthField s) (et : t ≡ accepts (length s) (l + k) k) (g : (i : ℕ) → Fits w8 (getD s i 0)) where
   zone : IsZone (take l s)
   zone = has-whole s ok e q l el (bytes-of s g)
 
@@ -82,10 +83,10 @@ module _ (s : List ℕ) (k number l from : ℕ) (p : Planned (enlarge k) s numbe
         (subst (λ (j : ℕ). Between (take l s ++ new) from j (length (take l s ++ new)) (length (take l s ++ new))) (sym long)
         (rw (r .tail) (between (take l s) (r .zone) k (length s) accepted (omega arith) new new-long)))
 
-    pub call-end : (x : List ℕ) → ((i : ℕ) → Fits w8 (getD s i 0)) → x ≡ overwrite (overwrite (take (l + k) s) from (encodeBlock (cell (free (length (take (l + k) s) - from))))) 0 (toBE 4 (length (take (l + k) s)))
+    pub call-end : (x : List ℕ) → ((i : ℕ) → Fits w8 (getD s i 0)) → x ≡ overwrite (overwrite (take (l + k) s) from (encodeBlock (cell (free (length (take (l + k) s) - from))))) lengthAt (toBE 4 (length (take (l + k) s)))
         → result (told 0 0) (x ++ drop (l + k) s) ≡ call (enlarge k) s
     call-end x g e =
         frame-grown (enlarge k) s number l _ p g z (grows (take l s) (r .zone) k (length s) accepted) none-lent k refl x
-        (e ∙ ap (λ (b : List ℕ). overwrite (overwrite b from (encodeBlock (cell (free (length b - from))))) 0 (toBE 4 (length b))) (sym both)
-        ∙ ap (λ (o : ℕ). overwrite (overwrite (take l s ++ new) o (encodeBlock (cell (free (length (take l s ++ new) - o))))) 0 (toBE 4 (length (take l s ++ new)))) (r .tail)
+        (e ∙ ap (λ (b : List ℕ). overwrite (overwrite b from (encodeBlock (cell (free (length b - from))))) lengthAt (toBE 4 (length b))) (sym both)
+        ∙ ap (λ (o : ℕ). overwrite (overwrite (take l s ++ new) o (encodeBlock (cell (free (length (take l s ++ new) - o))))) lengthAt (toBE 4 (length (take l s ++ new)))) (r .tail)
         ∙ written (take l s) (r .zone) k (length s) accepted (omega arith) new new-long)

@@ -10,10 +10,9 @@ use lib.ListN.{length, length-append}
 use lib.Seq.{take-at}
 use Rattle.structure.proofs.Append.{sizes-append}
 use Rattle.free_block.proofs.Hole.{free-hole}
-use Rattle.bigendian.proofs.Overwrite.{swap}
 use Rattle.blank.specs.Between.{Hole, nothing, zeros, Between}
 use Rattle.bigendian.specs.BigEndian.{slice, toBE, overwrite}
-use Rattle.block_type.specs.Limits.{freeHeader, longestZone}
+use Rattle.block_type.specs.Limits.{freeHeader, longestZone, lengthAt}
 use Rattle.format.specs.WellFormed.{firstField}
 use Rattle.format.proofs.Bool.{and-left, and-right}
 use Rattle.format.proofs.Walk.{slice-take}
@@ -191,7 +190,7 @@ module _ (z : List ℕ) (i : IsZone z) where
         behind = nothing refl;
       }
 
-      pub written : overwrite (overwrite (z ++ g) (lastFree d) (encodeBlock (cell (free (length (z ++ g) - lastFree d))))) 0 (toBE 4 (length (z ++ g))) ≡ encode (longer k d)
+      pub written : overwrite (overwrite (z ++ g) (lastFree d) (encodeBlock (cell (free (length (z ++ g) - lastFree d))))) lengthAt (toBE 4 (length (z ++ g))) ≡ encode (longer k d)
       written =
           let n = endFree b + k in
           let so : Sound (rest n) = all-sound (gap n []) (gap-sound n [] sum-four (omega (arith, limit buf (length z + k) k a, total)) tt) in
@@ -199,8 +198,8 @@ module _ (z : List ℕ) (i : IsZone z) where
           let e₁ : z ++ g ≡ encode d ++ g = ap (_++ g) (sym (encode-zone z w)) in
           let e₂ : length (z ++ g) - lastFree d ≡ n = omega (arith, long, total) in
           let e₃ : length (z ++ g) ≡ len (record { chain = d .chain; blocks = pre ++ rest n }) = omega (arith, long, len-zone, lens d pre (endFree b) n g [] parts (valid-sound d v) so same) in
-          (λ j. overwrite (overwrite (e₁ j) (is-from j) (encodeBlock (cell (free (e₂ j))))) 0 (toBE 4 (length (z ++ g))))
-          ∙ ap (λ (x : List ℕ). overwrite (overwrite (encode d ++ g) (start d + sizes pre) x) 0 (toBE 4 (length (z ++ g)))) (sym (free-bytes n (omega arith)))
+          (λ j. overwrite (overwrite (e₁ j) (is-from j) (encodeBlock (cell (free (e₂ j))))) lengthAt (toBE 4 (length (z ++ g))))
+          ∙ ap (λ (x : List ℕ). overwrite (overwrite (encode d ++ g) (start d + sizes pre) x) lengthAt (toBE 4 (length (z ++ g)))) (sym (free-bytes n (omega arith)))
           ∙ end-changed d pre (endFree b) n g [] parts (valid-sound d v) so same (length (z ++ g)) e₃
           ∙ append-nil _
           ∙ ap (λ (bs : List Block). encode (record { chain = d .chain; blocks = bs })) (sym grown)

@@ -3,6 +3,7 @@ ghost use mathlib.Core.Path.{_≡_};
 ghost use Prim.Native.Nat.{_-_};
 ghost use lib.ListN.{length};
 ghost use Rattle.bigendian.specs.BigEndian.{toBE, overwrite};
+ghost use Rattle.block_type.specs.Limits.{lengthAt};
 ghost use Rattle.structure.specs.Structure.{encodeBlock, decodeZone, cell};
 ghost use Rattle.bay.specs.Bay.{free};
 ghost use Rattle.access.specs.Edit.{IsZone};
@@ -18,7 +19,7 @@ use calls::Told;
 fn is_accepted(buf: usize, n: usize, k: usize) -> bool
     ensures { λ r. ⌜ r ≡ accepts buf n k ⌝ }
 {
-    (k % 4 == 0) & (n <= buf) & (n <= 1048576)
+    (k % 4 == 0) & (n <= buf) & (n <= block_type::LONGEST_ZONE)
 }
 
 // Where the last block starts if it is free, else where the blocks end. Every bay's sum reaches 0, so the highest such bay is the last.
@@ -26,7 +27,7 @@ fn last_free(z: &[u8]) -> usize
     requires { ⌜ IsZone (now z) ⌝ }
     ensures { λ r. ⌜ r ≡ lastFree (decodeZone (now (z .entry))) ⌝ }
 {
-    let first = bigendian::get4(z, 4) as usize;
+    let first = bigendian::get4(z, block_type::FIRST_AT) as usize;
     let b = bays::find_high(z, first, 0);
     let end = b.end;
     let tail = b.tail;
@@ -52,7 +53,7 @@ fn enlarge_plan(zone: &[u8], k: u32) -> EnlargePlan
             from: 0,
         };
     }
-    let l = bigendian::get4(zone, 0) as usize;
+    let l = bigendian::get4(zone, block_type::LENGTH_AT) as usize;
     let n = l + k as usize;
     if is_accepted(zone.len(), n, k as usize) {
         let from = last_free(&zone[..l]);
@@ -72,11 +73,11 @@ fn enlarge_plan(zone: &[u8], k: u32) -> EnlargePlan
 // The zone's length is that of z, and from `from` on z is one free block, of which the bytes from `old` on are new.
 fn extend(z: &mut [u8], from: usize, old: usize)
     requires { ⌜ Between (now z) from old (length (now z)) (length (now z)) ⌝ }
-    ensures { λ _. ⌜ now (z .exit) ≡ overwrite (overwrite (now (z .entry)) from (encodeBlock (cell (free (length (now (z .entry)) - from))))) 0 (toBE 4 (length (now (z .entry)))) ⌝ }
+    ensures { λ _. ⌜ now (z .exit) ≡ overwrite (overwrite (now (z .entry)) from (encodeBlock (cell (free (length (now (z .entry)) - from))))) lengthAt (toBE 4 (length (now (z .entry)))) ⌝ }
 {
     let n = z.len();
     blank::blank_between(z, from, old, n, n);
-    bigendian::put4(z, 0, n as u32);
+    bigendian::put4(z, block_type::LENGTH_AT, n as u32);
 }
 
 // Lengthens the zone by k bytes. Answers the refusal number, 0 if done, and 0.

@@ -8,7 +8,7 @@ use lib.Dec.{eqb, leb}
 use borrow.Author.Tests.{leb-true, eqb-true, eqb-false}
 use lib.ListN.{length, drop, length-append}
 use Rattle.format.specs.Occurs.{occurs}
-use Rattle.block_type.specs.Limits.{masterSize, zoneHeader, relocHeader}
+use Rattle.block_type.specs.Limits.{masterSize, zoneHeader, relocHeader, relocCode}
 use Rattle.format.proofs.Bool.{and-left, and-right}
 use Rattle.format.specs.WellFormed.{typeOf, handleOf, isFree, isReloc, splitBlocks, isMaster, masterAt, relocs, offsets}
 use Rattle.format.specs.OneWalk.{links, typeRule, relocRule, blockOk, blocksOk, bodyOk}
@@ -50,7 +50,7 @@ pub record Held (z : List ℕ) (first at h : ℕ) : Type 0 where
 pub is-held : (z : List ℕ) (first : ℕ) (prev : Bool) (at : ℕ) (b : List ℕ) → blockOk z first prev at b ≡ true → isReloc b ≡ true → Held z first at (handleOf b)
 unfolding isReloc typeRule relocRule
 is-held z first prev at b g r =
-    let k = eqb-true (typeOf b) 2 r in
+    let k = eqb-true (typeOf b) relocCode r in
     let q : relocRule z first at (handleOf b) ≡ true = rw k at (is-good z first prev at b g .rule) in
     record {
       master = is-master first (handleOf b) (and-left _ (eqb (masterAt z (handleOf b)) (at + relocHeader)) q);

@@ -10,6 +10,7 @@ use native.Mathlib.Decide.{ℕ-discrete}
 use lib.ListN.{length, drop}
 use lib.Dec.{eqb, leb, eqb·suc-suc}
 use borrow.Author.Tests.{eq-eqb, ne-eqb, eqb-true, le-leb, lt-leb, leb-true}
+use Rattle.block_type.specs.Limits.{freeCode, relocCode}
 use Rattle.format.proofs.Bool.{and-left, and-right, is-false}
 use Rattle.format.specs.WellFormed.{headerOk, firstField, mastersField, chainField, handleOf, isFree, isReloc, splitBlocks, relocs, every, typeOk, sizeOk, tileOk, zerosOk, neighboursOk, isMaster, masterAt, handlesOk, linked, chainFrom, countsOk, zoneOf, blockRules, zoneRules, wellFormed}
 use Rattle.format.specs.OneWalk.{links, typeRule, freeRule, relocRule, blockOk, blocksOk, bodyOk}
@@ -43,7 +44,7 @@ type-last false p q l d e f = simp and-false
 
 -- the rules that depend on the type k, by type
 by-type : (k : ℕ) (prev zeros reloc : Bool)
-    → (leb k 2 && (not (eqb k 0) || zeros) && not (prev && eqb k 0) && (not (eqb k 2) || reloc)) ≡ typeRule k (not prev && zeros) reloc
+    → (leb k relocCode && (not (eqb k freeCode) || zeros) && not (prev && eqb k freeCode) && (not (eqb k relocCode) || reloc)) ≡ typeRule k (not prev && zeros) reloc
 unfolding typeRule
 by-type zero true true reloc = refl
 by-type zero true false reloc = refl
@@ -51,7 +52,7 @@ by-type zero false true reloc = refl
 by-type zero false false reloc = refl
 by-type (suc zero) prev zeros reloc = simp and-false
 by-type (suc (suc zero)) prev zeros reloc = simp and-false
-by-type (suc (suc (suc k))) prev zeros reloc = rw (lt-leb (suc (suc (suc k))) 2 (omega arith))
+by-type (suc (suc (suc k))) prev zeros reloc = rw (lt-leb (suc (suc (suc k))) relocCode (omega arith))
 
 module _ (z : List ℕ) (first : ℕ) where
   block-walk : (prev : Bool) (at : ℕ) (b : List ℕ)

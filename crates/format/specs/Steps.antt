@@ -4,7 +4,7 @@ use mathlib.Core.List.{List}
 use mathlib.Core.Bool.{Bool, false, cond}
 use Prim.Native.Nat.{ℕ, _+_, _*_, _%_, _≤_}
 use lib.ListN.{length, getD, take, drop}
-use Rattle.block_type.specs.Limits.{longestZone, masterSize, mostMasters, zoneHeader, smallestBlock}
+use Rattle.block_type.specs.Limits.{longestZone, masterSize, mostMasters, zoneHeader, smallestBlock, zerosAt}
 use Rattle.format.specs.WellFormed.{lengthField, firstField, mastersField, chainField, sizeOf, isFree, isReloc, splitBlocks, relocs}
 use Rattle.format.specs.OneWalk.{blockOk, blocksOk}
 
@@ -15,8 +15,8 @@ pub record Fields (s : List ℕ) (l first m head : ℕ) : Type 0 where
   pub is-masters : m ≡ mastersField s
   pub is-chain : head ≡ chainField s
   pub long : zoneHeader ≤ length s
-  pub zero14 : getD s 14 0 ≡ 0
-  pub zero15 : getD s 15 0 ≡ 0
+  pub first-zero : getD s zerosAt 0 ≡ 0
+  pub second-zero : getD s (zerosAt + 1) 0 ≡ 0
   pub four : l % 4 ≡ 0
   pub room : l ≤ length s
   pub limit : l ≤ longestZone

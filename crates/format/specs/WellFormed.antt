@@ -9,29 +9,29 @@ use lib.ListN.{length, getD, take, drop}
 use lib.Dec.{eqb, leb}
 use Rattle.bigendian.specs.BigEndian.{fromBE, slice}
 use Rattle.memory.specs.Zeros.{allZero}
-use Rattle.block_type.specs.Limits.{freeCode, relocCode, freeHeader, relocHeader, zoneHeader, masterSize, firstBlock, longestZone, mostMasters, typeUnit, smallestBlock}
+use Rattle.block_type.specs.Limits.{freeCode, relocCode, freeHeader, relocHeader, zoneHeader, masterSize, firstBlock, longestZone, mostMasters, typeUnit, smallestBlock, handleAt, typeByteUnit, lengthAt, firstAt, mastersAt, chainAt, zerosAt}
 
 -- ---- the header: "at 0 the length L (4 bytes); at 4 bkFst, .. (4); at 8 m, .. (4); at 12 hFstFree, .. (2)"
 
 abbrev pub lengthField : List ℕ → ℕ
-lengthField s = fromBE (slice s 0 4)
+lengthField s = fromBE (slice s lengthAt 4)
 
 abbrev pub firstField : List ℕ → ℕ
-firstField s = fromBE (slice s 4 4)
+firstField s = fromBE (slice s firstAt 4)
 
 abbrev pub mastersField : List ℕ → ℕ
-mastersField s = fromBE (slice s 8 4)
+mastersField s = fromBE (slice s mastersAt 4)
 
 abbrev pub chainField : List ℕ → ℕ
-chainField s = fromBE (slice s 12 2)
+chainField s = fromBE (slice s chainAt 2)
 
 -- "the buffer has at least 16 bytes; header bytes 14 and 15 are zero; .. L is a multiple of 4, at most the buffer's length and
 -- 1,048,576; m ≤ 8,188; bkFst as above and ≤ L"
 unfoldable pub headerOk : List ℕ → Bool
 headerOk s =
     leb zoneHeader (length s)
-    && (eqb (getD s 14 0) 0
-    && eqb (getD s 15 0) 0
+    && (eqb (getD s zerosAt 0) 0
+    && eqb (getD s (zerosAt + 1) 0) 0
     && eqb (lengthField s % 4) 0
     && leb (lengthField s) (length s)
     && leb (lengthField s) longestZone
@@ -43,7 +43,7 @@ headerOk s =
 
 -- "A block's first two bits are its type"
 unfoldable pub typeOf : List ℕ → ℕ
-typeOf b = getD b 0 0 / 64
+typeOf b = getD b 0 0 / typeByteUnit
 
 -- in bytes, the header included: "Free: a 4-byte size in 2-byte words", "Fixed: 14-bit size in words", "Relocatable: the same"
 unfoldable pub sizeOf : List ℕ → ℕ
@@ -51,7 +51,7 @@ sizeOf b = cond (eqb (typeOf b) freeCode) (fromBE (take 4 b) * 2) (fromBE (take 
 
 -- "then the handle (2 bytes)"
 unfoldable pub handleOf : List ℕ → ℕ
-handleOf b = fromBE (slice b 2 2)
+handleOf b = fromBE (slice b handleAt 2)
 
 unfoldable pub isFree : List ℕ → Bool
 isFree b = eqb (typeOf b) freeCode

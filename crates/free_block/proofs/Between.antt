@@ -4,8 +4,9 @@ use mathlib.Core.List.{List, [], _∷_, _++_, map, append-assoc}
 use Prim.Native.Nat.{ℕ, _+_, _-_, _≤_}
 use native.Mathlib.Omega.{arith}
 use lib.ListN.{length}
-use Rattle.bigendian.specs.BigEndian.{toBE, fromBE, slice, overwrite}
-use Rattle.block_type.specs.Limits.{masterSize, zoneHeader}
+use Rattle.bigendian.specs.BigEndian.{toBE, overwrite}
+use Rattle.block_type.specs.Limits.{masterSize, zoneHeader, chainAt}
+use Rattle.format.specs.WellFormed.{chainField}
 use Rattle.bay.specs.Bay.{free, gap}
 use Rattle.bay.specs.Ends.{endFree, startFree}
 use Rattle.structure.specs.Structure.{Block, cell, Structure, sizes, start, count, headOf, encodeBlock, encode, decodeZone}
@@ -94,7 +95,7 @@ module _ (z : List ℕ) (bs′ : List Block) (b : Block) (from at end to : ℕ) 
     pub freeing-master : h + masterSize ≤ length z
     freeing-master = omega (arith, offset-is h zoneHeader (count s) (master-in s v a h n) .1, len-is z w, w .all)
 
-    pub freeing-owned : (head : ℕ) (y : List ℕ) → head ≡ fromBE (slice z 12 2) → y ≡ overwrite (overwrite (overwrite z from x) 12 (toBE 2 h)) h (toBE 4 head) → y ≡ encode (record { chain = h ∷ s .chain; blocks = bs′ })
+    pub freeing-owned : (head : ℕ) (y : List ℕ) → head ≡ chainField z → y ≡ overwrite (overwrite (overwrite z from x) chainAt (toBE 2 h)) h (toBE 4 head) → y ≡ encode (record { chain = h ∷ s .chain; blocks = bs′ })
     freeing-owned head y eh e =
         let q : head ≡ headOf (s .chain) = eh ∙ sym (head-is z w) in
-        e ∙ ap₂ (λ (y : List ℕ) (k : ℕ). overwrite (overwrite y 12 (toBE 2 h)) h (toBE 4 k)) written q ∙ freed-owned s v a h n
+        e ∙ ap₂ (λ (y : List ℕ) (k : ℕ). overwrite (overwrite y chainAt (toBE 2 h)) h (toBE 4 k)) written q ∙ freed-owned s v a h n

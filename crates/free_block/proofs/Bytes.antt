@@ -11,7 +11,7 @@ use borrow.Author.Tests.{eqb-true, eqb-false}
 use lib.ListN.{length}
 use Rattle.format.specs.Occurs.{occurs}
 use Rattle.format.specs.WellFormed.{offsets}
-use Rattle.block_type.specs.Limits.{zoneHeader}
+use Rattle.block_type.specs.Limits.{zoneHeader, chainAt}
 use Rattle.bigendian.specs.BigEndian.{toBE, overwrite}
 use Rattle.format.proofs.Count.{one, one-same, one-other}
 use Rattle.bay.specs.Bay.{free}
@@ -117,10 +117,10 @@ module _ (s : Structure) (v : Valid s) {bs′ : List Block} {b : Block} (a : Aro
             let o : occurs k (handlesOf (inside s v a)) ≡ 0 = omega (arith, inside-once k, one-other k h (eqb-false k h e)) in
             ap (λ (p : ℕ). p + nextOf k (s .chain)) (sym (place-same s v (before s v a) (inside s v a) new (after s v a) ks (old-parts s v a) same-size (free-sound s v a) count-owned k o (rw no-handles)))
 
-    pub freed-owned : overwrite (overwrite (overwrite (encode s) place x) 12 (toBE 2 h)) h (toBE 4 (headOf (s .chain))) ≡ encode (record { chain = h ∷ s .chain; blocks = bs′ })
+    pub freed-owned : overwrite (overwrite (overwrite (encode s) place x) chainAt (toBE 2 h)) h (toBE 4 (headOf (s .chain))) ≡ encode (record { chain = h ∷ s .chain; blocks = bs′ })
     freed-owned =
         let r = overwrite (bytesOf (s .blocks)) (sizes (before s v a)) (bytesOf new) in
-        ap (λ (y : List ℕ). overwrite (overwrite y 12 (toBE 2 h)) h (toBE 4 (headOf (s .chain)))) rest-written
+        ap (λ (y : List ℕ). overwrite (overwrite y chainAt (toBE 2 h)) h (toBE 4 (headOf (s .chain)))) rest-written
         ∙ ap (λ (y : List ℕ). overwrite y h (toBE 4 (headOf (s .chain)))) (img-chain (len s) (start s) (count s) (headOf (s .chain)) h (value s) r)
         ∙ img-master (len s) (start s) (count s) h h (headOf (s .chain)) (value s) r master-in
         ∙ replaced s v (before s v a) (inside s v a) new (after s v a) ks (old-parts s v a) same-size (free-sound s v a) count-owned (upd (value s) h (headOf (s .chain))) (λ k l. holds k)

@@ -4,15 +4,14 @@ use mathlib.Core.List.{List, [], _∷_, _++_}
 use Prim.Native.Nat.{ℕ, _+_, _-_, _<_, _≤_}
 use native.Mathlib.Omega.{arith}
 use mir.Val.{Fits}
-use mir.Syntax.{w8, w64}
+use mir.Syntax.{w8}
 use lib.ListN.{length, getD, take, drop}
 use Rattle.access.proofs.Checked.{zone-14}
-use Rattle.bigendian.specs.BigEndian.{fromBE, toBE, slice, overwrite}
-use Rattle.block_type.specs.Limits.{masterSize, relocHeader}
+use Rattle.bigendian.specs.BigEndian.{toBE, overwrite}
+use Rattle.block_type.specs.Limits.{masterSize, relocHeader, argumentRange, chainAt}
 use Rattle.format.specs.WellFormed.{firstField}
-use Rattle.kinds.specs.Kinds.{Item, itemSize}
-use Rattle.bay.specs.Bay.{free, held, baySize}
-use Rattle.structure.specs.Structure.{sizes, start, decodeZone, encode, encodeBlock, cell}
+use Rattle.bay.specs.Bay.{free, held}
+use Rattle.structure.specs.Structure.{decodeZone, encode, encodeBlock, cell}
 use Rattle.structure.specs.Valid.{handlesOf}
 use Rattle.access.specs.Edit.{placeIn, dataIn, IsZone}
 use Rattle.blank.specs.Between.{Between}
@@ -50,19 +49,19 @@ module _ (z : List ℕ) (h head from at end to : ℕ) (r : ReadyIn z h head from
   unfolding handlesOf
   handles = ap (_∷ []) (r .its)
 
-  pub write-word : h < 4294967296
+  pub write-word : h < argumentRange
   write-word = omega (arith, freeing-master z _ _ from at end to (r .freeing) h handles, write-between .short)
 
-  pub write-head : (y : List ℕ) → length y ≡ length z → 12 + 2 ≤ length y
+  pub write-head : (y : List ℕ) → length y ≡ length z → chainAt + 2 ≤ length y
   write-head y e = omega (arith, zone-14 z (r .freeing .zone))
 
   pub write-master : (x y : List ℕ) → length x ≡ length z → length y ≡ length x → h + masterSize ≤ length y
   write-master x y e q = omega (arith, freeing-master z _ _ from at end to (r .freeing) h handles)
 
-  pub written : (y₁ y₂ y₃ : List ℕ) → y₁ ≡ overwrite z from (encodeBlock (cell (free (to - from)))) → y₂ ≡ overwrite y₁ 12 (toBE 2 h) → y₃ ≡ overwrite y₂ h (toBE 4 head) → y₃ ≡ encode (freed h (decodeZone z))
+  pub written : (y₁ y₂ y₃ : List ℕ) → y₁ ≡ overwrite z from (encodeBlock (cell (free (to - from)))) → y₂ ≡ overwrite y₁ chainAt (toBE 2 h) → y₃ ≡ overwrite y₂ h (toBE 4 head) → y₃ ≡ encode (freed h (decodeZone z))
   written y₁ y₂ y₃ e₁ e₂ e₃ =
       freeing-owned z _ _ from at end to (r .freeing) h handles head y₃ (r .is-head)
-      (e₃ ∙ ap (λ (y : List ℕ). overwrite y h (toBE 4 head)) (e₂ ∙ ap (λ (y : List ℕ). overwrite y 12 (toBE 2 h)) e₁))
+      (e₃ ∙ ap (λ (y : List ℕ). overwrite y h (toBE 4 head)) (e₂ ∙ ap (λ (y : List ℕ). overwrite y chainAt (toBE 2 h)) e₁))
 
 -- ---- the call
 

@@ -2,7 +2,7 @@
 use mathlib.Core.Path.{_≡_}
 use mathlib.Core.List.{List}
 use Prim.Native.Nat.{ℕ}
-use Rattle.bigendian.specs.BigEndian.{fromBE, slice}
+use Rattle.format.specs.WellFormed.{chainField}
 use Rattle.kinds.specs.Kinds.{Item, masterOf}
 use Rattle.bay.specs.Bay.{held}
 use Rattle.structure.specs.Structure.{decodeZone, cell}
@@ -16,7 +16,7 @@ pub record ReadyIn (z : List ℕ) (h head from at end to : ℕ) : Type 0 where
   pub block : Item
   pub its : masterOf block ≡ h
   pub freeing : Freeing z (freed h (decodeZone z) .blocks) (cell (held block)) from at end to
-  pub is-head : head ≡ fromBE (slice z 12 2)
+  pub is-head : head ≡ chainField z
 
 -- the plan p of freeing h in the zone z is ready
 abbrev pub Ready : List ℕ → ℕ → FreePlan → Type 0

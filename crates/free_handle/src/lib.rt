@@ -2,6 +2,7 @@
 use block_type::BlockType;
 ghost use mathlib.Core.Path.{_≡_};
 ghost use Prim.Native.Nat.{_<_};
+ghost use Rattle.block_type.specs.Limits.{argumentRange};
 ghost use Rattle.structure.specs.Structure.{encode, decodeZone};
 ghost use Rattle.access.specs.Edit.{IsZone};
 ghost use Rattle.calls.specs.Calls.{told, free-handle};
@@ -38,7 +39,7 @@ fn no_plan(number: u32) -> FreePlan
 
 // The plan in a well-formed zone.
 fn free_in(z: &[u8], h: usize) -> FreePlan
-    requires { ⌜ (IsZone (now z)) × (h < 4294967296) ⌝ }
+    requires { ⌜ (IsZone (now z)) × (h < argumentRange) ⌝ }
     ensures { λ r. ⌜ PlannedIn (free-handle h) (now (z .entry)) (r .number) (Ready (now (z .entry)) h r) ⌝ }
 {
     let place = access::place(z, h);
@@ -46,8 +47,8 @@ fn free_in(z: &[u8], h: usize) -> FreePlan
         return no_plan(6);
     }
     let n = access::data_size(z, h);
-    let first = bigendian::get4(z, 4) as usize;
-    let head = bigendian::get2(z, 12);
+    let first = bigendian::get4(z, block_type::FIRST_AT) as usize;
+    let head = bigendian::get2(z, block_type::CHAIN_AT);
     let at = place - BlockType::RELOCATABLE_HEADER;
     let end = place + n;
     let s = free_block::walk_to(z, first, at);
@@ -75,7 +76,7 @@ fn free_plan(zone: &[u8], h: u32) -> FreePlan
     if !ok {
         return no_plan(1);
     }
-    let l = bigendian::get4(zone, 0) as usize;
+    let l = bigendian::get4(zone, block_type::LENGTH_AT) as usize;
     let p = free_in(&zone[..l], h as usize);
     let number = p.number;
     let head = p.head;
@@ -101,7 +102,7 @@ fn release(z: &mut [u8], h: usize, p: FreePlan)
 {
     let head = p.head;
     blank::blank_between(z, p.from, p.at, p.end, p.to);
-    bigendian::put2(z, 12, h as u32);
+    bigendian::put2(z, block_type::CHAIN_AT, h as u32);
     bigendian::put4(z, h, head);
 }
 

@@ -33,7 +33,7 @@ module _ (p : ℕ) where
   find s = findF (λ (x : Fixed). eqb p (pointer x)) s
 
   -- the pointer lies below all blocks
-  none-above : {q end : ℕ} {s : Bays (List Cell) Fixed} → Tiled q s end → p < q + 2 → find s ≡ none
+  none-above : {q end : ℕ} {s : Bays (List Cell) Fixed} → Tiled q s end → p < q + fixedHeader → find s ≡ none
   none-above (tile-last e) l = refl
   none-above (tile-more {x = x} e t) l = rw (ne-eqb p (pointer x) (λ k. omega arith)) (none-above t (omega arith))
 

@@ -44,7 +44,7 @@ fn plan_in(z: &[u8], p: u32) -> FreePlan
     if z.len() < place {
         return no_plan(7);
     }
-    let first = bigendian::get4(z, 4) as usize;
+    let first = bigendian::get4(z, block_type::FIRST_AT) as usize;
     let s = free_block::walk_to(z, first, place - BlockType::FIXED_HEADER);
     let at = s.at;
     let prev = s.prev;
@@ -78,7 +78,7 @@ fn free_plan(zone: &[u8], p: u32) -> FreePlan
     if !ok {
         return no_plan(1);
     }
-    let l = bigendian::get4(zone, 0) as usize;
+    let l = bigendian::get4(zone, block_type::LENGTH_AT) as usize;
     let f = plan_in(&zone[..l], p);
     let number = f.number;
     let from = f.from;

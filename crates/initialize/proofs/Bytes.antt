@@ -86,7 +86,7 @@ module _ (buf n m : ℕ) (x : Fresh buf n m) where
       let c = count-is in
       let s : start u ≡ zoneHeader + masterSize * m = omega arith in
       let hd : header u ≡ headBytes n m =
-      rw (len-is, s, c) (ap₂ (λ (h : ℕ) (z : List ℕ). toBE 4 n ++ (toBE 4 (zoneHeader + masterSize * m) ++ (toBE 4 m ++ (toBE 2 h ++ z)))) (head-handles 16 m) two-zeros ∙ (simp append-assoc)) in
+      rw (len-is, s, c) (ap₂ (λ (h : ℕ) (z : List ℕ). toBE 4 n ++ (toBE 4 (zoneHeader + masterSize * m) ++ (toBE 4 m ++ (toBE 2 h ++ z)))) (head-handles zoneHeader m) two-zeros ∙ (simp append-assoc)) in
       ap₂ _++_ hd (ap₂ _++_ (ap (λ (k : ℕ). words (value u) (offsets zoneHeader k)) c ∙ words-chain (value u) zoneHeader m (λ g l. value-is g)) (free-bytes (n - (zoneHeader + masterSize * m))))
 
   pub fresh-long : length (freshBytes n m) ≡ n

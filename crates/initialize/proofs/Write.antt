@@ -7,7 +7,7 @@ use native.Mathlib.Omega.{arith}
 use lib.Dec.{eqb, leb}
 use borrow.Author.Tests.{eq-eqb, ne-eqb}
 use lib.ListN.{length, take, replicate, length-append, length-replicate}
-use Rattle.block_type.specs.Limits.{longestZone, masterSize, mostMasters, relocHeader, zoneHeader, freeHeader}
+use Rattle.block_type.specs.Limits.{longestZone, masterSize, mostMasters, relocHeader, zoneHeader, freeHeader, lengthAt, firstAt, mastersAt, chainAt, zerosAt}
 use Rattle.bigendian.specs.BigEndian.{toBE, overwrite}
 use Rattle.bigendian.proofs.Laws.{length-toBE}
 use Rattle.bigendian.proofs.Overwrite.{take-write, drop-write}
@@ -48,7 +48,7 @@ pub head-long : (n m : ℕ) → length (headBytes n m) ≡ zoneHeader
 unfolding headBytes sizeBytes
 head-long n m = simp (length-append, length-toBE)
 
-pub chain-long : (h k : ℕ) → length (chainBytes h k) ≡ 4 * k
+pub chain-long : (h k : ℕ) → length (chainBytes h k) ≡ masterSize * k
 unfolding chainBytes
 chain-long h zero = refl
 chain-long h (suc k) = simp (length-append, length-toBE) (omega (arith, chain-long (h + masterSize) k))
@@ -67,7 +67,7 @@ pub head-some : (m : ℕ) → (m ≡ 0 → ⊥) → _≡_ {A = ℕ} zoneHeader (
 head-some m e = rw (ne-eqb m 0 e)
 
 pub sizes-done : (z z₁ z₂ z₃ : List ℕ) (n m : ℕ) → Fresh (length z) n m
-    → z₁ ≡ overwrite z 0 (toBE 4 n) → z₂ ≡ overwrite z₁ 4 (toBE 4 (zoneHeader + masterSize * m)) → z₃ ≡ overwrite z₂ 8 (toBE 4 m) → z₃ ≡ overwrite z 0 (sizeBytes n m)
+    → z₁ ≡ overwrite z lengthAt (toBE 4 n) → z₂ ≡ overwrite z₁ firstAt (toBE 4 (zoneHeader + masterSize * m)) → z₃ ≡ overwrite z₂ mastersAt (toBE 4 m) → z₃ ≡ overwrite z 0 (sizeBytes n m)
 unfolding sizeBytes
 sizes-done z z₁ z₂ z₃ n m x e₁ e₂ e₃ =
     let a = toBE 4 n in
@@ -77,16 +77,16 @@ sizes-done z z₁ z₂ z₃ n m x e₁ e₂ e₃ =
     let lb = length-toBE 4 (zoneHeader + masterSize * m) in
     let lc = length-toBE 4 m in
     let lab = length-append a b in
-    let p₂ : z₂ ≡ overwrite z 0 (a ++ b) = e₂ ∙ (rw e₁ (write-more z a b 0 4 (omega arith) (omega arith))) in
-    let p₃ : z₃ ≡ overwrite z 0 ((a ++ b) ++ toBE 4 m) = e₃ ∙ (rw p₂ (write-more z (a ++ b) (toBE 4 m) 0 8 (omega arith) (omega arith))) in
+    let p₂ : z₂ ≡ overwrite z 0 (a ++ b) = e₂ ∙ (rw e₁ (write-more z a b lengthAt firstAt (omega arith) (omega arith))) in
+    let p₃ : z₃ ≡ overwrite z 0 ((a ++ b) ++ toBE 4 m) = e₃ ∙ (rw p₂ (write-more z (a ++ b) (toBE 4 m) lengthAt mastersAt (omega arith) (omega arith))) in
     p₃ ∙ ap (λ (x : List ℕ). overwrite z 0 x) (append-assoc a b (toBE 4 m))
 
-sizes-long : (n m : ℕ) → length (sizeBytes n m) ≡ 12
+sizes-long : (n m : ℕ) → length (sizeBytes n m) ≡ chainAt
 unfolding sizeBytes
 sizes-long n m = simp (length-append, length-toBE)
 
 pub header-done : (z z₁ z₂ z₃ : List ℕ) (n m h : ℕ) → Fresh (length z) n m → h ≡ cond (eqb m 0) 0 zoneHeader
-    → z₁ ≡ overwrite z 0 (sizeBytes n m) → z₂ ≡ overwrite z₁ 12 (toBE 2 h) → z₃ ≡ overwrite z₂ 14 (toBE 2 0) → z₃ ≡ overwrite z 0 (headBytes n m)
+    → z₁ ≡ overwrite z 0 (sizeBytes n m) → z₂ ≡ overwrite z₁ chainAt (toBE 2 h) → z₃ ≡ overwrite z₂ zerosAt (toBE 2 0) → z₃ ≡ overwrite z 0 (headBytes n m)
 unfolding headBytes
 header-done z z₁ z₂ z₃ n m h x eh e₁ e₂ e₃ =
     let a = sizeBytes n m in
@@ -95,15 +95,15 @@ header-done z z₁ z₂ z₃ n m h x eh e₁ e₂ e₃ =
     let lb = length-toBE 2 h in
     let lc = length-toBE 2 0 in
     let lab = length-append a (toBE 2 h) in
-    let p₂ : z₂ ≡ overwrite z 0 (a ++ toBE 2 h) = e₂ ∙ (rw e₁ (write-more z a (toBE 2 h) 0 12 (omega arith) (omega arith))) in
-    let p₃ : z₃ ≡ overwrite z 0 ((a ++ toBE 2 h) ++ toBE 2 0) = e₃ ∙ (rw p₂ (write-more z (a ++ toBE 2 h) (toBE 2 0) 0 14 (omega arith) (omega arith))) in
+    let p₂ : z₂ ≡ overwrite z 0 (a ++ toBE 2 h) = e₂ ∙ (rw e₁ (write-more z a (toBE 2 h) lengthAt chainAt (omega arith) (omega arith))) in
+    let p₃ : z₃ ≡ overwrite z 0 ((a ++ toBE 2 h) ++ toBE 2 0) = e₃ ∙ (rw p₂ (write-more z (a ++ toBE 2 h) (toBE 2 0) lengthAt zerosAt (omega arith) (omega arith))) in
     p₃ ∙ ap (λ (x : List ℕ). overwrite z 0 x) (append-assoc a (toBE 2 h) (toBE 2 0) ∙ ap (λ (y : ℕ). a ++ (toBE 2 y ++ toBE 2 0)) eh)
 
 -- ---- chain, from the last of m masters down
 
 -- how many masters there are from `at` on
 abbrev pub mastersFrom : ℕ → ℕ → ℕ
-mastersFrom m at = (zoneHeader + masterSize * m - at) / 4
+mastersFrom m at = (zoneHeader + masterSize * m - at) / masterSize
 
 -- the master at `at`, where there is one
 abbrev pub masterOrNone : ℕ → ℕ → ℕ
@@ -142,7 +142,7 @@ module _ (at m : ℕ) (low : zoneHeader < at) (four : at % 4 ≡ 0) (high : at �
       ∙ write-before s a b (at - masterSize) (omega arith)
       ∙ (rw (one-from, r, en))
 
-pub chain-end : (s z : List ℕ) (at m : ℕ) → zoneHeader ≤ at → at ≤ zoneHeader → z ≡ overwrite s at (chainBytes at (mastersFrom m at)) → z ≡ overwrite s 16 (chainBytes zoneHeader m)
+pub chain-end : (s z : List ℕ) (at m : ℕ) → zoneHeader ≤ at → at ≤ zoneHeader → z ≡ overwrite s at (chainBytes at (mastersFrom m at)) → z ≡ overwrite s zoneHeader (chainBytes zoneHeader m)
 chain-end s z at m l h e =
     let a : at ≡ zoneHeader = omega arith in
     let k : mastersFrom m zoneHeader ≡ m = omega arith in
@@ -167,7 +167,7 @@ module _ (z : List ℕ) (first n : ℕ) where
 
 -- ---- all of it
 
-pub make-done : (z z₁ z₂ z₃ : List ℕ) (n m : ℕ) → Fresh (length z) n m → z₁ ≡ overwrite z 0 (headBytes n m) → z₂ ≡ overwrite z₁ 16 (chainBytes zoneHeader m)
+pub make-done : (z z₁ z₂ z₃ : List ℕ) (n m : ℕ) → Fresh (length z) n m → z₁ ≡ overwrite z 0 (headBytes n m) → z₂ ≡ overwrite z₁ zoneHeader (chainBytes zoneHeader m)
     → z₃ ≡ overwrite z₂ (zoneHeader + masterSize * m) (freeBytes (n - (zoneHeader + masterSize * m))) → z₃ ≡ overwrite z 0 (freshBytes n m)
 unfolding freshBytes
 make-done z z₁ z₂ z₃ n m x e₁ e₂ e₃ =
@@ -178,6 +178,6 @@ make-done z z₁ z₂ z₃ n m x e₁ e₂ e₃ =
     let lc = chain-long zoneHeader m in
     let lf = free-long (n - (zoneHeader + masterSize * m)) (omega arith) in
     let la = length-append (headBytes n m) (chainBytes zoneHeader m) in
-    let p₂ : z₂ ≡ overwrite z 0 (headBytes n m ++ chainBytes zoneHeader m) = e₂ ∙ (rw e₁ (write-more z (headBytes n m) (chainBytes zoneHeader m) 0 16 (omega arith) (omega arith))) in
+    let p₂ : z₂ ≡ overwrite z 0 (headBytes n m ++ chainBytes zoneHeader m) = e₂ ∙ (rw e₁ (write-more z (headBytes n m) (chainBytes zoneHeader m) lengthAt zoneHeader (omega arith) (omega arith))) in
     e₃ ∙ (rw p₂ (write-more z (headBytes n m ++ chainBytes zoneHeader m) (freeBytes (n - (zoneHeader + masterSize * m))) 0 (zoneHeader + masterSize * m) (omega arith) (omega arith)))
     ∙ ap (λ (y : List ℕ). overwrite z 0 y) (append-assoc (headBytes n m) (chainBytes zoneHeader m) (freeBytes (n - (zoneHeader + masterSize * m))))

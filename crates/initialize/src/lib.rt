@@ -4,7 +4,7 @@ ghost use mathlib.Core.Bool.{cond};
 ghost use Prim.Native.Nat.{_+_, _*_, _-_, _%_, _<_, _≤_};
 ghost use lib.ListN.{length};
 ghost use lib.Dec.{eqb};
-ghost use Rattle.block_type.specs.Limits.{longestZone, masterSize, mostMasters, zoneHeader};
+ghost use Rattle.block_type.specs.Limits.{longestZone, masterSize, mostMasters, zoneHeader, argumentRange};
 ghost use Rattle.bigendian.specs.BigEndian.{overwrite};
 ghost use Rattle.calls.specs.Calls.{told};
 ghost use Rattle.zone.specs.Call.{result, initialize};
@@ -14,20 +14,24 @@ use calls::Told;
 
 // Whether a zone of n bytes with m masters can be made in a buffer of `buf` bytes.
 fn is_accepted(buf: usize, n: usize, m: usize) -> bool
-    requires { ⌜ m < 4294967296 ⌝ }
+    requires { ⌜ m < argumentRange ⌝ }
     ensures { λ r. ⌜ r ≡ accepts buf n m ⌝ }
 {
-    (n % 4 == 0) & (16 + 4 * m <= n) & (n <= buf) & (n <= 1048576) & (m <= 8188)
+    (n % 4 == 0)
+        & (block_type::ZONE_HEADER + block_type::MASTER_SIZE * m <= n)
+        & (n <= buf)
+        & (n <= block_type::LONGEST_ZONE)
+        & (m <= block_type::MOST_MASTERS)
 }
 
 // The first master, 0 for none.
 fn head_of(m: usize) -> u32
-    ensures { λ r. ⌜ r ≡ cond (eqb m 0) 0 16 ⌝ }
+    ensures { λ r. ⌜ r ≡ cond (eqb m 0) 0 zoneHeader ⌝ }
 {
     if m == 0 {
         return 0;
     }
-    16
+    block_type::ZONE_HEADER as u32
 }
 
 // The zone's length, its first block and the number of its masters.
@@ -35,9 +39,13 @@ fn put_sizes(z: &mut [u8], n: usize, m: usize)
     requires { ⌜ Fresh (length (now z)) n m ⌝ }
     ensures { λ _. ⌜ now (z .exit) ≡ overwrite (now (z .entry)) 0 (sizeBytes n m) ⌝ }
 {
-    bigendian::put4(z, 0, n as u32);
-    bigendian::put4(z, 4, (16 + 4 * m) as u32);
-    bigendian::put4(z, 8, m as u32);
+    bigendian::put4(z, block_type::LENGTH_AT, n as u32);
+    bigendian::put4(
+        z,
+        block_type::FIRST_AT,
+        (block_type::ZONE_HEADER + block_type::MASTER_SIZE * m) as u32,
+    );
+    bigendian::put4(z, block_type::MASTERS_AT, m as u32);
 }
 
 fn put_header(z: &mut [u8], n: usize, m: usize)
@@ -46,19 +54,19 @@ fn put_header(z: &mut [u8], n: usize, m: usize)
 {
     put_sizes(z, n, m);
     let head = head_of(m);
-    bigendian::put2(z, 12, head);
-    bigendian::put2(z, 14, 0);
+    bigendian::put2(z, block_type::CHAIN_AT, head);
+    bigendian::put2(z, block_type::ZEROS_AT, 0);
 }
 
 // The masters, from the last one down, each with the offset of the one after it, which was written just before; 0 in the last.
 fn put_chain(z: &mut [u8], m: usize)
     requires { ⌜ (zoneHeader + masterSize * m ≤ length (now z)) × (m ≤ mostMasters) ⌝ }
-    ensures { λ _. ⌜ now (z .exit) ≡ overwrite (now (z .entry)) 16 (chainBytes zoneHeader m) ⌝ }
+    ensures { λ _. ⌜ now (z .exit) ≡ overwrite (now (z .entry)) zoneHeader (chainBytes zoneHeader m) ⌝ }
 {
     let mut next = 0;
-    let mut at = 16 + 4 * m;
-    while 16 < at {
-        at -= 4;
+    let mut at = block_type::ZONE_HEADER + block_type::MASTER_SIZE * m;
+    while block_type::ZONE_HEADER < at {
+        at -= block_type::MASTER_SIZE;
         bigendian::put4(z, at, next);
         next = at as u32;
     }
@@ -82,7 +90,7 @@ fn make(z: &mut [u8], n: usize, m: usize)
 {
     put_header(z, n, m);
     put_chain(z, m);
-    put_free(z, 16 + 4 * m, n);
+    put_free(z, block_type::ZONE_HEADER + block_type::MASTER_SIZE * m, n);
 }
 
 // Makes a zone of `length` bytes with m masters at the start of the buffer. Answers the refusal number, 0 if done, and 0.

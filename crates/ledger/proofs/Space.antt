@@ -1,6 +1,6 @@
 -- "No space" comes exactly when no bay's sum reaches what is needed of that bay.
 use mathlib.Core.Path.{_≡_, refl, ap, ap₂, sym, _∙_}
-use mathlib.Core.Bool.{Bool, true, false, cond, _&&_, _||_, not, true≢false}
+use mathlib.Core.Bool.{Bool, true, false, cond, _&&_, _||_, not}
 use mathlib.Core.Option.{Option, none, some, Option·getD}
 use mathlib.Core.List.{List, [], _∷_}
 use Prim.Native.Nat.{ℕ, suc, _+_, _-_, _≤_, max}
@@ -9,12 +9,11 @@ use lib.ListN.{length}
 use lib.Dec.{leb}
 use borrow.Author.Tests.{leb-true, leb-false, le-leb, lt-leb}
 use Rattle.block_type.specs.Limits.{relocHeader, relocLimit, fixedLimit, up4, relocNeed, fixedNeed}
-use Rattle.calls.specs.Calls.{by-handle}
 use Rattle.calls.specs.Bays.{last, more, over, orElse, findS, maxS, sumS}
 use Rattle.kinds.specs.Kinds.{Item}
-use Rattle.calls.specs.State.{is, get, ownSum}
+use Rattle.calls.specs.State.{is, get}
 use Rattle.calls.specs.Table.{below, isNone, isEmpty, cause, first, beforeNoBay, order}
-use Rattle.ledger.specs.Ledger.{Bay, Layout, Ledger, sumOf, entriesOf, facts, stepWith, step}
+use Rattle.ledger.specs.Ledger.{Bay, Layout, Ledger, sumOf, stepWith, step}
 use Rattle.ledger.specs.Space.{Request, relocatable, fixed, resized, callOf, resizeNeed, needOf, fits, earlier}
 
 -- how many entries have the handle, in a bay and in all

@@ -1,7 +1,7 @@
 -- No step of the ledger but free-pointer takes a fixed block away, and none moves it or changes its size.
 use mathlib.Core.Path.{_≡_, refl, ap, ap₂, sym, _∙_, subst}
 use mathlib.Core.Bool.{Bool, true, false, cond}
-use mathlib.Core.List.{List, [], _∷_}
+use mathlib.Core.List.{List, _∷_}
 use Prim.Native.Nat.{ℕ, zero, suc, _+_, _-_}
 use lib.ListN.{length, take}
 use lib.Seq.{sets, length-sets}
@@ -12,7 +12,7 @@ use Rattle.calls.specs.Calls.{Target, by-handle, by-pointer, Call, allocate-rel
 use Rattle.calls.specs.Bays.{last, more, onLowest, mapS, onFixed, onLast, maxS}
 use Rattle.calls.specs.State.{Fixed, fsize, pointer, alterFixed, newFixed, cutHigh, joinOver, joinAt, dataOf, ownSum, sized}
 use Rattle.calls.specs.Table.{refusalOf}
-use Rattle.ledger.specs.Ledger.{Bay, Ledger, Layout, bay, sumOf, entriesOf, change, enter, onEntries, without, resizeIn, highest, strike, facts, work, stepWith, step}
+use Rattle.ledger.specs.Ledger.{Bay, Ledger, Layout, bay, sumOf, entriesOf, change, enter, onEntries, without, resizeIn, facts, work, stepWith, step}
 use Rattle.ledger.specs.Space.{Spot, spot, fixedSpots}
 use Rattle.ledger.specs.Still.{Has, first, later}
 

@@ -6,9 +6,9 @@ use Prim.Native.Nat.{ℕ, _+_, _-_, _≤_}
 use lib.ListN.{length, take, drop}
 use lib.Dec.{eqb}
 use borrow.Author.Tests.{eqb-true, not-true}
-use Rattle.block_type.specs.Limits.{fixedHeader}
-use Rattle.bigendian.specs.BigEndian.{fromBE, slice, Bytes}
-use Rattle.format.specs.WellFormed.{wellFormed, typeOf}
+use Rattle.block_type.specs.Limits.{fixedHeader, fixedCode}
+use Rattle.bigendian.specs.BigEndian.{Bytes}
+use Rattle.format.specs.WellFormed.{wellFormed, typeOf, lengthField, firstField}
 use Rattle.format.proofs.Bool.{and-right}
 use Rattle.structure.specs.Structure.{Block, start, decodeZone}
 use Rattle.structure.proofs.Table.{start-is}
@@ -40,7 +40,7 @@ data-by-handle z h n e = e ∙ ap length (handle-data h (start (decodeZone z)) (
 
 -- ---- the walk
 
-module _ (z : List ℕ) (i : IsZone z) (first : ℕ) (e : first ≡ fromBE (slice z 4 4)) where
+module _ (z : List ℕ) (i : IsZone z) (first : ℕ) (e : first ≡ firstField z) where
   first-is : first ≡ start (decodeZone z)
   first-is = e ∙ sym (start-is z (whole-of z i))
 
@@ -52,7 +52,7 @@ module _ (z : List ℕ) (i : IsZone z) (first : ℕ) (e : first ≡ fromBE (slic
   unfolding targetData
   data-start t = ap₂ (λ (a : ℕ) (bs : List Block). length (dataAmong t a bs)) first-is (blocks-are z first e)
 
-module _ (z : List ℕ) (p at n : ℕ) (s : Stepped z at n) (f : Bool) (ef : f ≡ (eqb (typeOf (drop at z)) 1 && eqb p (at + fixedHeader))) (q : ℕ) where
+module _ (z : List ℕ) (p at n : ℕ) (s : Stepped z at n) (f : Bool) (ef : f ≡ (eqb (typeOf (drop at z)) fixedCode && eqb p (at + fixedHeader))) (q : ℕ) where
   place-step : cond f (at + fixedHeader) (placeAmong (by-pointer p) (at + n) (blocksOf (drop (at + n) z))) ≡ placeAmong (by-pointer p) at (blocksOf (drop at z))
   place-step = sym (rw (s .blocks, pointer-place p at (blocksOf (drop (at + n) z)) _, s .kind, s .bytes, ← ef))
 
@@ -60,7 +60,7 @@ module _ (z : List ℕ) (p at n : ℕ) (s : Stepped z at n) (f : Bool) (ef : f �
   data-step = sym (rw (s .blocks, pointer-data p at (blocksOf (drop (at + n) z)) _, s .kind, s .bytes, ← ef))
 
   pub place-here : f ≡ true → placeAmong (by-pointer p) at (blocksOf (drop at z)) ≡ q → p ≡ q
-  place-here t inv = eqb-true p (at + fixedHeader) (and-right (eqb (typeOf (drop at z)) 1) _ (sym ef ∙ t)) ∙ (rw t at place-step) ∙ inv
+  place-here t inv = eqb-true p (at + fixedHeader) (and-right (eqb (typeOf (drop at z)) fixedCode) _ (sym ef ∙ t)) ∙ (rw t at place-step) ∙ inv
 
   pub data-here : f ≡ true → length (dataAmong (by-pointer p) at (blocksOf (drop at z))) ≡ q → n - fixedHeader ≡ q
   data-here t inv = (rw t at data-step) ∙ inv
@@ -89,7 +89,7 @@ module _ (s : List ℕ) (ok : Bool) (e : ok ≡ wellFormed s) (q : not ok ≡ fa
   wf : wellFormed s ≡ true
   wf = is-well s ok e q
 
-  module _ (l : ℕ) (el : l ≡ fromBE (slice s 0 4)) (t : Target) (at : ℕ) (ea : at ≡ targetPlace t (take l s)) where
+  module _ (l : ℕ) (el : l ≡ lengthField s) (t : Target) (at : ℕ) (ea : at ≡ targetPlace t (take l s)) where
     pub located-no : (k : ℕ) → Bytes s → at ≡ 0 → k ≡ absentNumber t → Located s t k 0 0
     located-no k y z n = absent y wf (sym (rw el at ea) ∙ z) n refl refl
 
@@ -113,5 +113,5 @@ module _ (z : List ℕ) (b : CodeTarget) (v n : ℕ) where
 
 -- ---- the test of one block
 
-pub pointer-test : (z : List ℕ) (at p k : ℕ) → k ≡ typeOf (drop at z) → (eqb k 1 && eqb p (at + fixedHeader)) ≡ (eqb (typeOf (drop at z)) 1 && eqb p (at + fixedHeader))
+pub pointer-test : (z : List ℕ) (at p k : ℕ) → k ≡ typeOf (drop at z) → (eqb k fixedCode && eqb p (at + fixedHeader)) ≡ (eqb (typeOf (drop at z)) fixedCode && eqb p (at + fixedHeader))
 pointer-test z at p k e = rw e

@@ -4,7 +4,7 @@ ghost use mathlib.Core.Bool.{_&&_};
 ghost use Prim.Native.Nat.{_+_, _<_, _≤_};
 ghost use lib.ListN.{length, drop};
 ghost use lib.Dec.{eqb};
-ghost use Rattle.block_type.specs.Limits.{fixedCode, fixedHeader};
+ghost use Rattle.block_type.specs.Limits.{fixedCode, fixedHeader, smallestBlock};
 ghost use Rattle.format.specs.WellFormed.{typeOf};
 ghost use Rattle.access.specs.Edit.{IsZone};
 ghost use Rattle.calls.specs.Calls.{by-handle, by-pointer};
@@ -36,7 +36,7 @@ fn by_handle(z: &[u8], h: u32) -> Span
 
 // Whether the block at `at` is fixed and has the pointer p.
 pub fn is_pointer(z: &[u8], at: usize, p: usize) -> bool
-    requires { ⌜ at + 4 ≤ length (now z) ⌝ }
+    requires { ⌜ at + smallestBlock ≤ length (now z) ⌝ }
     ensures { λ r. ⌜ r ≡ (eqb (typeOf (drop at (now (z .entry)))) fixedCode && eqb p (at + fixedHeader)) ⌝ }
 {
     (block_check::type_at(z, at) == BlockType::FIXED_CODE) & (p == at + BlockType::FIXED_HEADER)
@@ -48,7 +48,7 @@ fn by_pointer(z: &[u8], p: u32) -> Span
     ensures { λ r. ⌜ (r .at ≡ targetPlace (by-pointer p) (now (z .entry))) × (r .size ≡ length (targetData (by-pointer p) (now (z .entry)))) ⌝ }
 {
     let place = p as usize;
-    let mut at = bigendian::get4(z, 4) as usize;
+    let mut at = bigendian::get4(z, block_type::FIRST_AT) as usize;
     while at < z.len() {
         let n = row::step(z, at);
         if is_pointer(z, at, place) {
@@ -103,7 +103,7 @@ pub fn find(zone: &[u8], block: Target) -> Found
             size: 0,
         };
     }
-    let l = bigendian::get4(zone, 0) as usize;
+    let l = bigendian::get4(zone, block_type::LENGTH_AT) as usize;
     let s = span_of(&zone[..l], block);
     let at = s.at;
     let size = s.size;

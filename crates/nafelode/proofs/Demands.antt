@@ -5,14 +5,14 @@ use mathlib.Core.List.{List, [], _∷_, _++_, List·Permᴰ}
 use Prim.Native.Nat.{ℕ, zero, suc}
 use native.Mathlib.Omega.{arith}
 use lib.ListN.{length, drop, replicate}
-use lib.Dec.{eqb, eqb·suc-zero}
+use lib.Dec.{eqb·suc-zero}
 use Rattle.format.specs.WellFormed.{wellFormed, countOf}
 use Rattle.structure.specs.Structure.{encode, decode}
 use Rattle.bigendian.specs.BigEndian.{Bytes, slice}
 use Rattle.calls.specs.Calls.{Target, Call, check, view, Answer, Card, told, toldTwo, refused}
 use Rattle.calls.specs.Table.{first, order, badInitialize, initRefusal}
 use Rattle.zone.specs.Work.{work, fresh}
-use Rattle.zone.specs.Call.{result, outcome, inLine, zoneIn, numberOf, replacing, Result, callWith, call, initializeWith, initialize}
+use Rattle.zone.specs.Call.{result, outcome, inLine, zoneIn, numberOf, Result, callWith, call, initializeWith}
 use Rattle.zone.specs.Census.{strata, Counted, counted}
 use Rattle.zone.specs.View.{viewStart, viewLength}
 use Rattle.zone.specs.Promise.{Alike, Promise, InitPromise}

@@ -10,6 +10,7 @@ use lib.Dec.{eqb}
 use borrow.Author.Tests.{ne-eqb}
 use Rattle.format.specs.Occurs.{occurs}
 use Rattle.bigendian.specs.BigEndian.{Bytes, fromBE}
+use Rattle.block_type.specs.Limits.{masterSize}
 use Rattle.format.specs.WellFormed.{wellFormed, zoneOf, firstField, lengthField, masterAt, isMaster, splitBlocks}
 use Rattle.format.proofs.Walk.{drop-take}
 use Rattle.format.proofs.Live.{handles}
@@ -29,7 +30,7 @@ use Rattle.stretch_write.proofs.Hardware.{target-is}
 -- ---- the place
 
 -- a master is read alike with and without the bytes beyond the zone
-master-same : (s : List ℕ) (h : ℕ) → h + 4 ≤ length (zoneOf s) → masterAt (zoneOf s) h ≡ masterAt s h
+master-same : (s : List ℕ) (h : ℕ) → h + masterSize ≤ length (zoneOf s) → masterAt (zoneOf s) h ≡ masterAt s h
 master-same s h l =
     ap fromBE (rw (drop-take h (lengthField s) s, take-take 4 (lengthField s - h) (drop h s) (omega (arith, length-take (lengthField s) s))))
 

@@ -6,6 +6,7 @@ use Prim.Native.Nat.{ℕ, zero, suc, _+_, _-_, _≤_}
 use native.Mathlib.Omega.{arith}
 use Rattle.block_type.specs.Limits.{masterSize}
 use Rattle.bigendian.specs.BigEndian.{toBE, slice, overwrite}
+use Rattle.block_type.specs.Limits.{chainAt}
 use Rattle.kinds.specs.Kinds.{Item, masterOf, itemSize}
 use Rattle.bay.specs.Bay.{Cell, free, held, baySize, gap, Hole, fill}
 use Rattle.bay.specs.Bytes.{encodeCell}
@@ -76,12 +77,12 @@ module _ (s : Structure) (v : Valid s) (before after : List Block) (bay : List C
   fill-fit h ks linked need z l = room-fit h need (head-low s v h ks linked .1) z l
 
   module _ (e : Item) (ks : List ℕ) (linked : s .chain ≡ masterOf e ∷ ks) (ok : Sound1 (held e)) (fits : itemSize e ≤ x .size) where
-    pub fill-placed : settled (overwrite (encode s) 12 (toBE 2 (headOf ks))) at (held e ∷ gap (x .size - itemSize e) []) ≡ encode (record { chain = ks; blocks = before ++ (map cell (fill e x) ++ after) })
+    pub fill-placed : settled (overwrite (encode s) chainAt (toBE 2 (headOf ks))) at (held e ∷ gap (x .size - itemSize e) []) ≡ encode (record { chain = ks; blocks = before ++ (map cell (fill e x) ++ after) })
     fill-placed =
         let k = x .size - itemSize e in
         let b : pre ++ (map cell (held e ∷ gap k []) ++ post) ≡ before ++ (map cell (fill e x) ++ after) =
         ap (pre ++_) (sym (append-assoc (map cell (held e ∷ gap k [])) (map cell (x .after)) after) ∙ ap (_++ after) (sym (map-append cell (held e ∷ gap k []) (x .after)) ∙ ap (λ (cs : List Cell). map cell (held e ∷ cs)) (sym (apart k))))
         ∙ sym (regroup before after (x .before) (held e ∷ gap k (x .after))) in
-        ap (λ (o : ℕ). settled (overwrite (encode s) 12 (toBE 2 (headOf ks))) o (held e ∷ gap k [])) at-is
+        ap (λ (o : ℕ). settled (overwrite (encode s) chainAt (toBE 2 (headOf ks))) o (held e ∷ gap k [])) at-is
         ∙ placed s v pre post (x .size) e ks parts-are linked ok fits
         ∙ ap (λ (bs : List Block). encode (record { chain = ks; blocks = bs })) b

@@ -6,7 +6,7 @@ use native.Mathlib.Omega.{arith}
 use borrow.Author.Tests.{ne-eqb}
 use lib.ListN.{length}
 use Rattle.format.specs.Occurs.{occurs}
-use Rattle.block_type.specs.Limits.{zoneHeader, masterSize}
+use Rattle.block_type.specs.Limits.{zoneHeader, masterSize, chainAt}
 use Rattle.bigendian.specs.BigEndian.{toBE, overwrite}
 use Rattle.format.proofs.Count.{one, one-same}
 use Rattle.kinds.specs.Kinds.{Item, masterOf, itemSize}
@@ -54,7 +54,7 @@ module _ (s : Structure) (v : Valid s) (pre post : List Block) (n : ℕ) (e : It
   unfolding handlesOf
   number = rw (gap-none (n - itemSize e))
 
-  pub placed : settled (overwrite (encode s) 12 (toBE 2 (headOf ks))) (start s + sizes pre) new ≡ encode (record { chain = ks; blocks = pre ++ (map cell new ++ post) })
+  pub placed : settled (overwrite (encode s) chainAt (toBE 2 (headOf ks))) (start s + sizes pre) new ≡ encode (record { chain = ks; blocks = pre ++ (map cell new ++ post) })
   unfolding handlesOf occurs nextOf
   placed =
       settle-chain s v pre post old new ks parts so (omega (arith, bsize-gap (n - itemSize e) []))

@@ -80,9 +80,9 @@ pub fn cut_block(z: &mut [u8], at: usize, n: usize, need: usize, h: usize)
     bigendian::put2(
         z,
         at,
-        (BlockType::RELOCATABLE_CODE as usize * 16384 + need / 2) as u32,
+        (BlockType::RELOCATABLE_CODE as usize * BlockType::TYPE_UNIT + need / 2) as u32,
     );
-    bigendian::put2(z, at + 2, h as u32);
+    bigendian::put2(z, at + BlockType::HANDLE_AT, h as u32);
     if need < n {
         bigendian::put4(z, at + need, ((n - need) / 2) as u32);
     }

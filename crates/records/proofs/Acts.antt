@@ -10,7 +10,7 @@ use Rattle.bigendian.specs.BigEndian.{fromBE, slice}
 use Rattle.memory.specs.Zeros.{allZero}
 use Rattle.calls.specs.Calls.{Call, Answer, by-handle, read, write, told, shows, allocate-relocatable, allocate-fixed, free-handle, free-pointer, resize, compact, enlarge, shrink}
 use Rattle.zone.specs.Promise.{Promise, InitPromise}
-use Rattle.records.specs.Records.{Action, initialize, call, read-byte, nothing, actions, Line, skip, line, ran, act, withValue, withByte, actionOf, runRecord}
+use Rattle.records.specs.Records.{Action, initialize, call, read-byte, nothing, actions, Line, skip, line, ran, act, withValue, withByte, actionOf, runRecord, recordLength, aAt, bAt, dAt}
 use Rattle.records.specs.Shown.{lineOf}
 
 -- a call that is promised tells its number and its value
@@ -101,16 +101,16 @@ module _ (code a b d : ℕ) (s e : List ℕ) (l : Line) where
 -- ---- a record
 
 module _ (r s : List ℕ) (l : Line) where
-  pub record-other : (length r ≡ 16 → ⊥) → l ≡ skip → ran l s ≡ runRecord r s
+  pub record-other : (length r ≡ recordLength → ⊥) → l ≡ skip → ran l s ≡ runRecord r s
   unfolding actionOf act
-  record-other h p = rw (ne-eqb (length r) 16 h, p)
+  record-other h p = rw (ne-eqb (length r) recordLength h, p)
 
-  module _ (ok : Bool) (h : length r ≡ 16) (z : ok ≡ allZero (slice r 1 3)) where
+  module _ (ok : Bool) (h : length r ≡ recordLength) (z : ok ≡ allZero (slice r 1 3)) where
     pub record-marked : ok ≡ false → l ≡ skip → ran l s ≡ runRecord r s
     unfolding actionOf act
-    record-marked f p = rw (eq-eqb (length r) 16 h, ← z, f, p)
+    record-marked f p = rw (eq-eqb (length r) recordLength h, ← z, f, p)
 
-    pub record-runs : (e : List ℕ) (a b d : ℕ) → ok ≡ true → a ≡ fromBE (slice r 4 4) → b ≡ fromBE (slice r 8 4) → d ≡ fromBE (slice r 12 4)
+    pub record-runs : (e : List ℕ) (a b d : ℕ) → ok ≡ true → a ≡ fromBE (slice r aAt 4) → b ≡ fromBE (slice r bAt 4) → d ≡ fromBE (slice r dAt 4)
         → ran l e ≡ act (getD (actions a b d) (getD r 0 0) nothing) s → ran l e ≡ runRecord r s
     unfolding actionOf
-    record-runs e a b d t p q o x = rw (eq-eqb (length r) 16 h, ← z, t, ← p, ← q, ← o) x
+    record-runs e a b d t p q o x = rw (eq-eqb (length r) recordLength h, ← z, t, ← p, ← q, ← o) x

@@ -3,7 +3,7 @@ use mathlib.Core.Path.{_≡_, refl, ap, ap₂, sym, _∙_, subst}
 use mathlib.Core.Bool.{Bool, true, false, cond, _&&_}
 use mathlib.Core.Option.{Option, none, some}
 use mathlib.Core.List.{List, [], _∷_, _++_}
-use Prim.Native.Nat.{ℕ, zero, suc, _%_, _/_, _<_}
+use Prim.Native.Nat.{ℕ, zero, suc, _%_, _<_}
 use native.Mathlib.Omega.{arith}
 use lib.ListN.{length, getD, drop, replicate, length-replicate}
 use lib.Dec.{eqb}
@@ -20,8 +20,8 @@ use Rattle.zone.specs.Call.{inLine, zoneIn, result, callWith, initializeWith}
 use Rattle.zone.specs.Promise.{Alike}
 use Rattle.structure.specs.Structure.{encode}
 use Rattle.zone.proofs.Initial.{Accepted, accepted, fresh-stored}
-use Rattle.zone.proofs.Theorem.{Point, Onward, onward, first-point}
-use Rattle.records.specs.Records.{Action, initialize, call, read-byte, nothing, actions, actionOf, Ran, act, Line, skip, line, text, runRecord, printed, recordsOf, output, withValue, withByte, ran}
+use Rattle.zone.proofs.Theorem.{Point, onward, first-point}
+use Rattle.records.specs.Records.{Action, initialize, call, read-byte, nothing, actions, actionOf, Ran, act, Line, line, text, printed, recordsOf, output, withValue, withByte, ran, recordLength, aAt, bAt, dAt}
 use Rattle.records.specs.Book.{bufferLength, bookCall, bookAct, bookLines, ByTheBook}
 
 -- ---- the calls that a record can ask for: they are lent bytes, and refused with 1 where there is no zone
@@ -71,7 +71,7 @@ all-asks a b d =
 
 asks : (r : List ℕ) → Asks (actionOf r)
 unfolding actionOf
-asks r = go (eqb (length r) 16 && allZero (slice r 1 3)) (pick (all-asks (fromBE (slice r 4 4)) (fromBE (slice r 8 4)) (fromBE (slice r 12 4))) (getD r 0 0))
+asks r = go (eqb (length r) recordLength && allZero (slice r 1 3)) (pick (all-asks (fromBE (slice r aAt 4)) (fromBE (slice r bAt 4)) (fromBE (slice r dAt 4))) (getD r 0 0))
   where
     go : (t : Bool) {a : Action} → Asks a → Asks (cond t a nothing)
     go true k = k

@@ -8,6 +8,7 @@ use native.Mathlib.Nat.{pow-succ'}
 use lib.Dec.{ltb}
 use lib.ListN.{length, length-append}
 use borrow.Author.Tests.{lt-ltb, le-ltb, ltb-true, ltb-false}
+use Rattle.block_type.specs.Limits.{argumentRange}
 use Rattle.records.specs.Records.{digits, decimal}
 
 pub digits-one : (k n : ℕ) → n < 10 → digits (suc k) n ≡ (48 + n) ∷ []
@@ -31,7 +32,7 @@ digits-more (suc k) n l = go (ltb n 10) refl (digits-more k (n / 10))
         digits-step (suc (suc k)) n g ∙ ap (_++ ((48 + n % 10) ∷ [])) (more e) ∙ sym (digits-step (suc k) n g)
 
 -- all but the last digit of a number of 32 bits are the digits of its tenth
-pub decimal-step : (n : ℕ) → 10 ≤ n → n < 4294967296 → decimal n ≡ decimal (n / 10) ++ ((48 + n % 10) ∷ [])
+pub decimal-step : (n : ℕ) → 10 ≤ n → n < argumentRange → decimal n ≡ decimal (n / 10) ++ ((48 + n % 10) ∷ [])
 decimal-step n g l =
     let e : n / 10 < 10 ^ 9 = omega arith in
     digits-step 9 n g ∙ ap (_++ ((48 + n % 10) ∷ [])) (sym (digits-more 8 (n / 10) e))
@@ -85,5 +86,5 @@ value-digits (suc k) n l = go (ltb n 10) refl (value-digits k (n / 10))
         rw (digits-step (suc k) n (ltb-false n 10 h), value-snoc) (omega (arith, back e))
 
 -- the digits that are printed of a number of 32 bits are that number's
-pub decimal-reads : (n : ℕ) → n < 4294967296 → valueFrom 0 (decimal n) ≡ n
+pub decimal-reads : (n : ℕ) → n < argumentRange → valueFrom 0 (decimal n) ≡ n
 decimal-reads n l = value-digits 9 n (omega arith)

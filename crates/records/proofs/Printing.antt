@@ -8,6 +8,7 @@ use lib.ListN.{length, take, drop, set, length-append, length-set}
 use lib.Seq.{take-set-le, set-split, drop-at, length-take-le}
 use Rattle.bigendian.specs.BigEndian.{overwrite}
 use Rattle.memory.proofs.Writes.{write-none}
+use Rattle.block_type.specs.Limits.{argumentRange}
 use Rattle.initialize.proofs.Write.{write-more}
 use Rattle.records.specs.Records.{decimal, Line, skip, line, text}
 use Rattle.records.specs.Shown.{lineOf}
@@ -16,10 +17,10 @@ use Rattle.records.proofs.Decimal.{digits-one, digits-some, digits-most
 
 -- ---- how many digits
 
-decimal-length : (n : ℕ) → 10 ≤ n → n < 4294967296 → length (decimal n) ≡ length (decimal (n / 10)) + 1
+decimal-length : (n : ℕ) → 10 ≤ n → n < argumentRange → length (decimal n) ≡ length (decimal (n / 10)) + 1
 decimal-length n g l = rw (decimal-step n g l, length-append (decimal (n / 10)))
 
-pub count-step : (k rest n : ℕ) → 10 ≤ rest → rest < 4294967296 → k + length (decimal rest) ≡ length (decimal n) + 1
+pub count-step : (k rest n : ℕ) → 10 ≤ rest → rest < argumentRange → k + length (decimal rest) ≡ length (decimal n) + 1
     → k + 1 + length (decimal (rest / 10)) ≡ length (decimal n) + 1
 count-step k rest n g l e = omega (arith, decimal-length rest g l)
 
@@ -60,10 +61,10 @@ module _ (w w₀ : List ℕ) (at n i rest : ℕ) (e : i + 1 ≡ at + length (dec
   pub digit-place : i < length w
   digit-place = omega arith
 
-  pub digit-before : 10 ≤ rest → rest < 4294967296 → 1 ≤ i
+  pub digit-before : 10 ≤ rest → rest < argumentRange → 1 ≤ i
   digit-before g l = omega (arith, decimal-length rest g l, digits-some 9 (rest / 10))
 
-  module _ (x : ℕ) (g : 10 ≤ rest) (l : rest < 4294967296) where
+  module _ (x : ℕ) (g : 10 ≤ rest) (l : rest < argumentRange) where
     pub digit-next : i - 1 + 1 ≡ at + length (decimal (rest / 10))
     digit-next = omega (arith, decimal-length rest g l, digits-some 9 (rest / 10))
 

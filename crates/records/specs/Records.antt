@@ -38,12 +38,25 @@ actions a b d =
     ∷ call (shrink a)
     ∷ []
 
--- "16-byte records: byte 0 code, 1 to 3 zero, then a, b, d of 4 bytes, high byte first"; "Code above 10, or bytes 1 to 3 not zero: the
--- line `skip`"
+-- "16-byte records: byte 0 code, 1 to 3 zero, then a, b, d of 4 bytes, high byte first"
+
+abbrev pub recordLength : ℕ
+recordLength = 16
+
+abbrev pub aAt : ℕ
+aAt = 4
+
+abbrev pub bAt : ℕ
+bAt = 8
+
+abbrev pub dAt : ℕ
+dAt = 12
+
+-- "Code above 10, or bytes 1 to 3 not zero: the line `skip`"
 unfoldable pub actionOf : List ℕ → Action
 actionOf r =
-    cond (eqb (length r) 16 && allZero (slice r 1 3))
-    (getD (actions (fromBE (slice r 4 4)) (fromBE (slice r 8 4)) (fromBE (slice r 12 4))) (getD r 0 0) nothing)
+    cond (eqb (length r) recordLength && allZero (slice r 1 3))
+    (getD (actions (fromBE (slice r aAt 4)) (fromBE (slice r bAt 4)) (fromBE (slice r dAt 4))) (getD r 0 0) nothing)
     nothing
 
 -- ---- what it does
@@ -99,11 +112,11 @@ text (line n v) = decimal n ++ (32 ∷ []) ++ decimal v ++ (10 ∷ [])
 -- the first n records
 unfoldable pub firstRecords : ℕ → List ℕ → List (List ℕ)
 firstRecords zero s = []
-firstRecords (suc n) s = take 16 s ∷ firstRecords n (drop 16 s)
+firstRecords (suc n) s = take recordLength s ∷ firstRecords n (drop recordLength s)
 
 -- "a short last record is ignored"
 abbrev pub recordsOf : List ℕ → List (List ℕ)
-recordsOf s = firstRecords (length s / 16) s
+recordsOf s = firstRecords (length s / recordLength) s
 
 -- records one after the other, each on the bytes that the last one left: what is printed, and the bytes after them
 unfoldable pub printed : List (List ℕ) → List ℕ → List ℕ

@@ -11,6 +11,15 @@ use nafelode::Stretch;
 use nafelode::Target;
 use nafelode::Told;
 
+// "16-byte records: byte 0 code, 1 to 3 zero, then a, b, d of 4 bytes, high byte first"
+const RECORD_LENGTH: usize = 16;
+
+const A_AT: usize = 4;
+
+const B_AT: usize = 8;
+
+const D_AT: usize = 12;
+
 // The line of a record: `skip`, or the refusal number, 0 if done, and the value.
 pub struct Line {
     pub skip: bool,
@@ -107,13 +116,13 @@ fn run_code(zone: &mut [u8], code: u8, a: u32, b: u32, d: u32) -> Line
 pub fn run_record(zone: &mut [u8], bytes: &[u8]) -> Line
     ensures { λ r. ⌜ ran (lineOf (r .skip) (r .number) (r .value)) (now (zone .exit)) ≡ runRecord (now (bytes .entry)) (now (zone .entry)) ⌝ }
 {
-    if bytes.len() != 16 {
+    if bytes.len() != RECORD_LENGTH {
         return skipped();
     }
-    if memory::all_zero(bytes, 1, 4) {
-        let a = bigendian::get4(bytes, 4);
-        let b = bigendian::get4(bytes, 8);
-        let d = bigendian::get4(bytes, 12);
+    if memory::all_zero(bytes, 1, A_AT) {
+        let a = bigendian::get4(bytes, A_AT);
+        let b = bigendian::get4(bytes, B_AT);
+        let d = bigendian::get4(bytes, D_AT);
         return run_code(zone, bytes[0], a, b, d);
     }
     skipped()
@@ -212,8 +221,8 @@ pub fn run_chunk(zone: &mut [u8], input: &[u8], out: &mut [u8]) -> usize
 {
     let mut i = 0;
     let mut at = 0;
-    while 16 <= input.len() - i {
-        let end = i + 16;
+    while RECORD_LENGTH <= input.len() - i {
+        let end = i + RECORD_LENGTH;
         at = run_one(zone, &input[i..end], out, at);
         i = end;
     }

@@ -3,14 +3,14 @@ use mathlib.Core.Path.{_≡_, refl, sym, ap, _∙_}
 use mathlib.Core.Bool.{Bool, true, false, not, _&&_}
 use mathlib.Core.Option.{Option, some, Option·getD}
 use mathlib.Core.List.{List, [], _∷_}
-use Prim.Native.Nat.{ℕ, _+_, _-_, _*_, _/_, _%_, _<_, _≤_}
+use Prim.Native.Nat.{ℕ, _+_, _-_, _*_, _/_, _<_, _≤_}
 use native.Mathlib.Omega.{arith}
 use borrow.Author.Tests.{le-leb, lt-leb}
 use lib.ListN.{length}
 use lib.Dec.{leb}
 use Rattle.block_type.specs.Limits.{relocHeader, relocLimit, up4}
 use Rattle.format.specs.WellFormed.{firstField}
-use Rattle.structure.specs.Structure.{Structure, start, decodeZone}
+use Rattle.structure.specs.Structure.{Structure, decodeZone}
 use Rattle.access.specs.Edit.{IsZone, placeIn, dataIn, dataOf}
 use Rattle.kinds.specs.Kinds.{Item}
 use Rattle.calls.specs.Calls.{by-handle, resize}

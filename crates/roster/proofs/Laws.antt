@@ -11,11 +11,11 @@ use lib.ListN.{length, getD, take, drop, length-append}
 use lib.Seq.{drop-at}
 use mir.Val.{Fits}
 use mir.Syntax.{w8, w32}
-use Rattle.block_type.specs.Limits.{masterSize, zoneHeader}
-use Rattle.bigendian.specs.BigEndian.{fromBE, toBE, slice, overwrite, Bytes}
+use Rattle.block_type.specs.Limits.{masterSize, zoneHeader, argumentRange, firstBlock, mostMasters, mastersAt, recordSize, amountAt}
+use Rattle.bigendian.specs.BigEndian.{toBE, overwrite, Bytes}
 use Rattle.bigendian.proofs.Laws.{length-toBE, be-toBE}
 use Rattle.memory.proofs.Writes.{write-none}
-use Rattle.format.specs.WellFormed.{wellFormed, zoneOf, mastersField, countOf, offsets}
+use Rattle.format.specs.WellFormed.{wellFormed, zoneOf, mastersField, countOf, offsets, lengthField}
 use Rattle.structure.specs.Structure.{decode, decodeZone, start}
 use Rattle.structure.proofs.Table.{len-is}
 use Rattle.access.specs.Edit.{placeIn, dataIn, IsZone, is-zone}
@@ -36,11 +36,11 @@ use Rattle.roster.proofs.Order.{length-cards, bayCards, cards-are, all-
 
 -- ---- one record
 
-data-small : (z : List ℕ) (h : ℕ) → IsZone z → length (dataIn z h) < 4294967296
+data-small : (z : List ℕ) (h : ℕ) → IsZone z → length (dataIn z h) < argumentRange
 unfolding placeIn dataIn
 data-small z h i = go (placeIn z h) refl
   where
-    go : (p : ℕ) → placeIn z h ≡ p → length (dataIn z h) < 4294967296
+    go : (p : ℕ) → placeIn z h ≡ p → length (dataIn z h) < argumentRange
     go zero e = omega (arith, size-none z h 0 (sym e) refl)
     go (suc p) e =
         let d = decodeZone z in
@@ -50,14 +50,14 @@ data-small z h i = go (placeIn z h) refl
 pub size-word : (z : List ℕ) (h n : ℕ) → IsZone z → n ≡ length (dataIn z h) → Fits w32 n
 size-word z h n i e = record { fits = omega (arith, data-small z h i) }
 
-pub put-two : (s y₁ y₂ : List ℕ) (at h n : ℕ) → at + 8 ≤ length s → y₁ ≡ overwrite s at (toBE 4 h) → y₂ ≡ overwrite y₁ (at + 4) (toBE 4 n) → y₂ ≡ overwrite s at (toBE 4 h ++ toBE 4 n)
+pub put-two : (s y₁ y₂ : List ℕ) (at h n : ℕ) → at + recordSize ≤ length s → y₁ ≡ overwrite s at (toBE 4 h) → y₂ ≡ overwrite y₁ (at + amountAt) (toBE 4 n) → y₂ ≡ overwrite s at (toBE 4 h ++ toBE 4 n)
 put-two s y₁ y₂ at h n l e₁ e₂ =
     let a = length-toBE 4 h in
     let b = length-toBE 4 n in
-    let q : at + 4 ≡ at + length (toBE 4 h) = omega arith in
+    let q : at + amountAt ≡ at + length (toBE 4 h) = omega arith in
     e₂ ∙ (rw (e₁, q) (write-write s (toBE 4 h) (toBE 4 n) at (omega arith)))
 
-length-bytes : (cs : List Card) → length (cardBytes cs) ≡ 8 * length cs
+length-bytes : (cs : List Card) → length (cardBytes cs) ≡ recordSize * length cs
 length-bytes [] = refl
 length-bytes (c ∷ cs) =
     omega (
@@ -85,15 +85,15 @@ module _ (z : List ℕ) (h p : ℕ) (e : p ≡ placeIn z h) where
     same = λ hs l. rw (cards-dead q hs);
   }
 
-  pub enter-room : (at n : ℕ) → (p ≡ 0 → ⊥) → at + 8 * length (cardsOf z (h ∷ [])) ≤ n → at + 8 ≤ n
+  pub enter-room : (at n : ℕ) → (p ≡ 0 → ⊥) → at + recordSize * length (cardsOf z (h ∷ [])) ≤ n → at + recordSize ≤ n
   unfolding cardsOf
   enter-room at n q l = omega (arith, ap length (cards-live q []))
 
-  pub enter-one : (s y : List ℕ) (at n : ℕ) → (p ≡ 0 → ⊥) → n ≡ length (dataIn z h) → at + 8 * length (cardsOf z (h ∷ [])) ≤ length s
-      → y ≡ overwrite s at (toBE 4 h ++ toBE 4 n) → Entered z s at h y (at + 8)
+  pub enter-one : (s y : List ℕ) (at n : ℕ) → (p ≡ 0 → ⊥) → n ≡ length (dataIn z h) → at + recordSize * length (cardsOf z (h ∷ [])) ≤ length s
+      → y ≡ overwrite s at (toBE 4 h ++ toBE 4 n) → Entered z s at h y (at + recordSize)
   enter-one s y at n q en l ey =
       let x : List ℕ = toBE 4 h ++ toBE 4 n in
-      let lx : length x ≡ 8 = omega (arith, length-append (toBE 4 h) (toBE 4 n), length-toBE 4 h, length-toBE 4 n) in
+      let lx : length x ≡ recordSize = omega (arith, length-append (toBE 4 h) (toBE 4 n), length-toBE 4 h, length-toBE 4 n) in
       let r = enter-room at (length s) q l in
       record {
         long = len-write s x y at ey (omega arith);
@@ -102,7 +102,7 @@ module _ (z : List ℕ) (h p : ℕ) (e : p ≡ placeIn z h) where
             let b : List ℕ = cardBytes (cardsOf z hs) in
             let lb = length-bytes (cardsOf z hs) in
             let lc = ap length (cards-live q hs) in
-            let k : at + 8 ≡ at + length x = omega arith in
+            let k : at + recordSize ≡ at + length x = omega arith in
             (rw (ey, k) (write-write s x b at (omega arith)))
             ∙ ap (overwrite s at) (append-assoc (toBE 4 h) (toBE 4 n) b ∙ (rw (cards-live q hs, en)));
       }
@@ -123,14 +123,14 @@ cards-more z hs h = go (eqb (placeIn z h) 0)
     go false = omega arith
 
 module _ (z : List ℕ) (at h left n : ℕ) where
-  pub fill-first : 0 < left → at + 8 * length (cardsOf z (offsets h left)) ≤ n → at + 8 * length (cardsOf z (h ∷ [])) ≤ n
+  pub fill-first : 0 < left → at + recordSize * length (cardsOf z (offsets h left)) ≤ n → at + recordSize * length (cardsOf z (h ∷ [])) ≤ n
   fill-first l m = omega (arith, rw (offsets-next h left l) at m, cards-more z (offsets (h + masterSize) (left - 1)) h)
 
-module _ (z s y : List ℕ) (at h left r : ℕ) (t : Entered z s at h y r) (l : 0 < left) (m : at + 8 * length (cardsOf z (offsets h left)) ≤ length s) where
-  m′ : at + 8 * length (cardsOf z (h ∷ offsets (h + masterSize) (left - 1))) ≤ length s
+module _ (z s y : List ℕ) (at h left r : ℕ) (t : Entered z s at h y r) (l : 0 < left) (m : at + recordSize * length (cardsOf z (offsets h left)) ≤ length s) where
+  m′ : at + recordSize * length (cardsOf z (h ∷ offsets (h + masterSize) (left - 1))) ≤ length s
   m′ = rw (offsets-next h left l) at m
 
-  pub fill-room : r + 8 * length (cardsOf z (offsets (h + masterSize) (left - 1))) ≤ length y
+  pub fill-room : r + recordSize * length (cardsOf z (offsets (h + masterSize) (left - 1))) ≤ length y
   fill-room = omega (arith, m′, t .long, t .left (offsets (h + masterSize) (left - 1)))
 
   pub fill-step : (w : List ℕ) → overwrite s at (cardBytes (cardsOf z (offsets h left))) ≡ w → overwrite y r (cardBytes (cardsOf z (offsets (h + masterSize) (left - 1)))) ≡ w
@@ -141,19 +141,19 @@ unfolding offsets cardsOf
 fill-done z s at h zero w l inv = sym (write-none s at) ∙ inv
 fill-done z s at h (suc n) w l inv = let x : ⊥ = omega arith in absurd x
 
-module _ (z : List ℕ) (left : ℕ) (e : left ≡ fromBE (slice z 8 4)) where
+module _ (z : List ℕ) (left : ℕ) (e : left ≡ mastersField z) where
   pub start-bytes : (s : List ℕ) → overwrite s 0 (cardBytes (cardsOf z (offsets zoneHeader left))) ≡ overwrite s 0 (cardBytes (allCards z))
   unfolding allCards
   start-bytes s = rw e
 
-  pub start-room : (n : ℕ) → 8 * length (allCards z) ≤ n → 0 + 8 * length (cardsOf z (offsets zoneHeader left)) ≤ n
+  pub start-room : (n : ℕ) → recordSize * length (allCards z) ≤ n → 0 + recordSize * length (cardsOf z (offsets zoneHeader left)) ≤ n
   unfolding allCards
   start-room n l = rw e (omega arith)
 
-  pub start-masters : IsZone z → zoneHeader + masterSize * left ≤ 32768
+  pub start-masters : IsZone z → zoneHeader + masterSize * left ≤ firstBlock mostMasters
   start-masters i = omega (arith, whole-of z i .few)
 
-pub get-masters : (z : List ℕ) → IsZone z → 8 + 4 ≤ length z
+pub get-masters : (z : List ℕ) → IsZone z → mastersAt + 4 ≤ length z
 get-masters z i = omega (arith, whole-of z i .long)
 
 -- ---- the plan
@@ -164,23 +164,23 @@ baysOf s = group (start (decode s)) (decode s .blocks)
 
 module _ (s : List ℕ) (y : Bytes s) (h : wellFormed s ≡ true) where
   -- the answer where the second buffer is long enough, and where it is not
-  accepted : (entry : List ℕ) → 8 * countOf s ≤ length entry → (call (roster entry) s) .answer ≡ lists (countOf s) (bayCards (baysOf s)) (drop (8 * countOf s) entry)
-  accepted entry l = rw (h, ← count-live s y h, le-leb (8 * countOf s) (length entry) l)
+  accepted : (entry : List ℕ) → recordSize * countOf s ≤ length entry → (call (roster entry) s) .answer ≡ lists (countOf s) (bayCards (baysOf s)) (drop (recordSize * countOf s) entry)
+  accepted entry l = rw (h, ← count-live s y h, le-leb (recordSize * countOf s) (length entry) l)
 
-  too-short : (entry : List ℕ) → length entry < 8 * countOf s → (call (roster entry) s) .answer ≡ shows 10 entry
-  too-short entry l = rw (h, ← count-live s y h, lt-leb (8 * countOf s) (length entry) l)
+  too-short : (entry : List ℕ) → length entry < recordSize * countOf s → (call (roster entry) s) .answer ≡ shows 10 entry
+  too-short entry l = rw (h, ← count-live s y h, lt-leb (recordSize * countOf s) (length entry) l)
 
 pub plan-1 : (s : List ℕ) (have : ℕ) (ok : Bool) → ok ≡ wellFormed s → not ok ≡ true → Planned s have 1 0 0
 plan-1 s have ok e q = refused (λ x. omega arith) (λ entry l. rw (← e, not-true ok q))
 
 module _ (s : List ℕ) (have n : ℕ) (ok : Bool) (e : ok ≡ wellFormed s) (q : not ok ≡ false) (y : (i : ℕ) → Fits w8 (getD s i 0)) (en : n ≡ countOf s) where
-  pub plan-10 : have / 8 < n → Planned s have 10 0 0
+  pub plan-10 : have / recordSize < n → Planned s have 10 0 0
   plan-10 l = refused (λ x. omega arith) (λ entry k. sym (too-short s (λ j. y j .fits) (is-well s ok e q) entry (omega arith)))
 
   pub count-word : Fits w32 n
   count-word = record { fits = omega (arith, count-few s (λ j. y j .fits) (is-well s ok e q)) }
 
-  pub plan-0 : (l : ℕ) → n ≤ have / 8 → l ≡ fromBE (slice s 0 4) → Planned s have 0 n l
+  pub plan-0 : (l : ℕ) → n ≤ have / recordSize → l ≡ lengthField s → Planned s have 0 n l
   plan-0 l k el = ready refl (is-well s ok e q) (λ j. y j .fits) el en (omega arith)
 
 -- ---- the call
@@ -213,14 +213,14 @@ module _ (s : List ℕ) (have n k l : ℕ) where
   plan-zone (refused f g) z = absurd (f z)
   plan-zone (ready a h y el ek r) z = rw el (zone-is s y h)
 
-  pub plan-room : Planned s have n k l → n ≡ 0 → 8 * length (allCards (take l s)) ≤ have
+  pub plan-room : Planned s have n k l → n ≡ 0 → recordSize * length (allCards (take l s)) ≤ have
   plan-room (refused f g) z = absurd (f z)
   plan-room (ready a h y el ek r) z = rw el (omega (arith, how-many s y h))
 
 -- numbers of 4 bytes
 abbrev Small : List Card → Type 0
 Small [] = Unit {0}
-Small (c ∷ cs) = (c .handle < 4294967296) × (c .amount < 4294967296) × Small cs
+Small (c ∷ cs) = (c .handle < argumentRange) × (c .amount < argumentRange) × Small cs
 
 cards-back : (cs : List Card) (t : List ℕ) → Small cs → cardsIn (length cs) (cardBytes cs ++ t) ≡ cs
 unfolding toBE
@@ -230,7 +230,7 @@ cards-back (c ∷ cs) t m =
     (ap₂ (λ (h n : ℕ). record { handle = h; amount = n }) (be-toBE 4 (c .handle) (m .0)) (be-toBE 4 (c .amount) (m .1)))
     (cards-back cs t (m .2))
 
-cards-small : (z : List ℕ) → IsZone z → (k n : ℕ) → k + masterSize * n ≤ 4294967296 → Small (cardsOf z (offsets k n))
+cards-small : (z : List ℕ) → IsZone z → (k n : ℕ) → k + masterSize * n ≤ argumentRange → Small (cardsOf z (offsets k n))
 unfolding cardsOf offsets
 cards-small z i k zero l = tt
 cards-small z i k (suc n) l = go (eqb (placeIn z k) 0) (cards-small z i (k + masterSize) n (omega arith))
@@ -260,7 +260,7 @@ module _ (s entry : List ℕ) (n k l : ℕ) where
       record {
         number = sym (ap (λ (x : Answer). x .number) ans);
         value = ek ∙ sym (ap (λ (x : Answer). x .value) ans);
-        later = rw (ans, e′, ← ek) (drop-at (cardBytes cs) (drop (length (cardBytes cs)) entry) (8 * k) (omega arith) ∙ (rw (lb, lc)));
+        later = rw (ans, e′, ← ek) (drop-at (cardBytes cs) (drop (length (cardBytes cs)) entry) (recordSize * k) (omega arith) ∙ (rw (lb, lc)));
         records = rw (ans, back) (order s y h);
       }
 

@@ -37,10 +37,10 @@ allCards z = cardsOf z (offsets zoneHeader (mastersField z))
 -- the buffer y, with the next record at r, is the buffer s after the record of handle h at `at`, if h is live
 pub record Entered (z s : List ℕ) (at h : ℕ) (y : List ℕ) (r : ℕ) : Type 0 where
   pub long : length y ≡ length s
-  pub left : (hs : List ℕ) → r + 8 * length (cardsOf z hs) ≡ at + 8 * length (cardsOf z (h ∷ hs))
-  pub same : (hs : List ℕ) → at + 8 * length (cardsOf z (h ∷ hs)) ≤ length s → overwrite y r (cardBytes (cardsOf z hs)) ≡ overwrite s at (cardBytes (cardsOf z (h ∷ hs)))
+  pub left : (hs : List ℕ) → r + recordSize * length (cardsOf z hs) ≡ at + recordSize * length (cardsOf z (h ∷ hs))
+  pub same : (hs : List ℕ) → at + recordSize * length (cardsOf z (h ∷ hs)) ≤ length s → overwrite y r (cardBytes (cardsOf z hs)) ≡ overwrite s at (cardBytes (cardsOf z (h ∷ hs)))
 
 -- the refusal n for a second buffer of some length; or k records are to be written, and l is the zone's length
 pub data Planned (s : List ℕ) (have n k l : ℕ) : Type 0 where
   refused : (n ≡ 0 → ⊥) → ((entry : List ℕ) → length entry ≡ have → shows n entry ≡ (call (roster entry) s) .answer) → Planned s have n k l
-  ready : n ≡ 0 → wellFormed s ≡ true → Bytes s → l ≡ lengthField s → k ≡ countOf s → 8 * k ≤ have → Planned s have n k l
+  ready : n ≡ 0 → wellFormed s ≡ true → Bytes s → l ≡ lengthField s → k ≡ countOf s → recordSize * k ≤ have → Planned s have n k l

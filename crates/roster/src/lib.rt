@@ -4,6 +4,7 @@ ghost use mathlib.Core.List.{[], _∷_, _++_};
 ghost use Prim.Native.Nat.{_+_, _*_, _<_, _≤_};
 ghost use lib.ListN.{length};
 ghost use Rattle.bigendian.specs.BigEndian.{toBE, overwrite};
+ghost use Rattle.block_type.specs.Limits.{argumentRange, recordSize};
 ghost use Rattle.access.specs.Edit.{placeIn, dataIn, IsZone};
 ghost use Rattle.zone.specs.Roster.{cardBytes};
 ghost use Rattle.roster.specs.Listed.{cardsOf, allCards, Entered, Planned, Rostered};
@@ -16,7 +17,7 @@ pub struct Entry {
 }
 
 fn entry_of(z: &[u8], h: usize) -> Entry
-    requires { ⌜ (IsZone (now z)) × (h < 4294967296) ⌝ }
+    requires { ⌜ (IsZone (now z)) × (h < argumentRange) ⌝ }
     ensures { λ r. ⌜ (r .at ≡ placeIn (now (z .entry)) h) × (r .size ≡ length (dataIn (now (z .entry)) h)) ⌝ }
 {
     let at = access::place(z, h);
@@ -25,16 +26,16 @@ fn entry_of(z: &[u8], h: usize) -> Entry
 }
 
 fn put_record(out: &mut [u8], at: usize, h: u32, n: u32)
-    requires { ⌜ at + 8 ≤ length (now out) ⌝ }
+    requires { ⌜ at + recordSize ≤ length (now out) ⌝ }
     ensures { λ _. ⌜ now (out .exit) ≡ overwrite (now (out .entry)) at (toBE 4 h ++ toBE 4 n) ⌝ }
 {
     bigendian::put4(out, at, h);
-    bigendian::put4(out, at + 4, n);
+    bigendian::put4(out, at + block_type::AMOUNT_AT, n);
 }
 
 // The record of handle h goes to `at`, if h is live. Where the next record goes.
 fn enter(z: &[u8], out: &mut [u8], at: usize, h: usize) -> usize
-    requires { ⌜ (IsZone (now z)) × (h < 4294967296) × (at + 8 * length (cardsOf (now z) (h ∷ [])) ≤ length (now out)) ⌝ }
+    requires { ⌜ (IsZone (now z)) × (h < argumentRange) × (at + recordSize * length (cardsOf (now z) (h ∷ [])) ≤ length (now out)) ⌝ }
     ensures { λ r. ⌜ Entered (now (z .entry)) (now (out .entry)) at h (now (out .exit)) r ⌝ }
 {
     let e = entry_of(z, h);
@@ -43,20 +44,20 @@ fn enter(z: &[u8], out: &mut [u8], at: usize, h: usize) -> usize
         return at;
     }
     put_record(out, at, h as u32, e.size);
-    at + 8
+    at + block_type::RECORD_SIZE
 }
 
 // The records of all live handles, through the masters in ascending order.
 fn fill(z: &[u8], out: &mut [u8])
-    requires { ⌜ (IsZone (now z)) × (8 * length (allCards (now z)) ≤ length (now out)) ⌝ }
+    requires { ⌜ (IsZone (now z)) × (recordSize * length (allCards (now z)) ≤ length (now out)) ⌝ }
     ensures { λ _. ⌜ now (out .exit) ≡ overwrite (now (out .entry)) 0 (cardBytes (allCards (now (z .entry)))) ⌝ }
 {
-    let mut left = bigendian::get4(z, 8) as usize;
-    let mut h = 16;
+    let mut left = bigendian::get4(z, block_type::MASTERS_AT) as usize;
+    let mut h = block_type::ZONE_HEADER;
     let mut at = 0;
     while 0 < left {
         at = enter(z, out, at, h);
-        h += 4;
+        h += block_type::MASTER_SIZE;
         left -= 1;
     }
 }
@@ -81,7 +82,7 @@ fn prepare(zone: &[u8], have: usize) -> Plan
         };
     }
     let n = k.count;
-    if have / 8 < n {
+    if have / block_type::RECORD_SIZE < n {
         return Plan {
             number: 10,
             count: 0,
@@ -91,7 +92,7 @@ fn prepare(zone: &[u8], have: usize) -> Plan
     Plan {
         number: 0,
         count: n as u32,
-        len: bigendian::get4(zone, 0) as usize,
+        len: bigendian::get4(zone, block_type::LENGTH_AT) as usize,
     }
 }
 

@@ -5,7 +5,7 @@ use Prim.Native.Nat.{ℕ, _+_, _%_, _<_, _≤_}
 use native.Mathlib.Omega.{arith}
 use lib.ListN.{length, take, drop, length-append, length-drop, drop-of-length-le}
 use lib.Seq.{drop-drop, take-at, drop-at}
-use Rattle.block_type.specs.Limits.{relocHeader, smallestBlock}
+use Rattle.block_type.specs.Limits.{relocHeader, smallestBlock, relocCode}
 use Rattle.format.specs.WellFormed.{typeOf, sizeOf, handleOf}
 use Rattle.format.proofs.Walk.{blocks-cons, blocks-nil, kind-take, size-take, handle-take}
 use Rattle.structure.specs.Structure.{Block, fixed, size, sizes, encodeBlock, decodeBlock, join, cell, code}
@@ -125,7 +125,7 @@ sound-right [] b s = s
 sound-right (x ∷ a) b s = sound-right a b (s .1)
 
 -- a relocatable block, by its bytes
-pub reloc-at : (s : List ℕ) (p n : ℕ) → Stepped s p n → typeOf (drop p s) ≡ 2
+pub reloc-at : (s : List ℕ) (p n : ℕ) → Stepped s p n → typeOf (drop p s) ≡ relocCode
     → blockAt s p ≡ cell (held (item (handleOf (drop p s)) (drop relocHeader (take n (drop p s)))))
 unfolding decodeBlock
 reloc-at s p n st k = rw (st .size-is, kind-take n (drop p s) (st .low), k, handle-take n (drop p s) (st .low))

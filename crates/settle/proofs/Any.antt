@@ -11,7 +11,7 @@ use lib.ListN.{length}
 use Rattle.format.specs.Occurs.{occurs}
 use Rattle.format.specs.WellFormed.{offsets}
 use Rattle.bigendian.specs.BigEndian.{toBE, overwrite}
-use Rattle.block_type.specs.Limits.{zoneHeader}
+use Rattle.block_type.specs.Limits.{zoneHeader, chainAt}
 use Rattle.bay.specs.Bay.{Cell, baySize}
 use Rattle.bay.specs.Sound.{Sound}
 use Rattle.structure.specs.Structure.{Block, Structure, sizes, count, start, len, headOf, placeOf, nextOf, value, encode, cell}
@@ -81,9 +81,9 @@ module _ (s : Structure) (v : Valid s) (pre post : List Block) (cs cs′ : List 
 
   -- the chain's head is written first, and no master but those of the run changes
   pub settle-chain : ((k : ℕ) → 0 < occurs k (offsets zoneHeader (count s)) → occurs k (handlesOf mid′) ≡ 0 → (occurs k (handlesOf mid) ≡ 0) × (nextOf k ks ≡ nextOf k (s .chain)))
-      → settled (overwrite (encode s) 12 (toBE 2 (headOf ks))) a cs′ ≡ encode s′
+      → settled (overwrite (encode s) chainAt (toBE 2 (headOf ks))) a cs′ ≡ encode s′
   settle-chain o =
-      ap (λ (x : List ℕ). settled (overwrite x 12 (toBE 2 (headOf ks))) a cs′) (encode-img s)
+      ap (λ (x : List ℕ). settled (overwrite x chainAt (toBE 2 (headOf ks))) a cs′) (encode-img s)
       ∙ ap (λ (x : List ℕ). settled x a cs′) (img-chain (len s) (start s) (count s) (headOf (s .chain)) (headOf ks) (value s) (Row.bytesOf (s .blocks)))
       ∙ settle-any (value s) (λ k l q. let w = o k l q in value-same k (w .0) q (w .1))
 

@@ -8,7 +8,7 @@ use borrow.Author.Tests.{eq-eqb, ne-eqb}
 use lib.ListN.{length, getD, take, drop, replicate}
 use mir.Val.{Fits}
 use mir.Syntax.{w8, w32}
-use Rattle.bigendian.specs.BigEndian.{fromBE, slice}
+use Rattle.format.specs.WellFormed.{firstField}
 use Rattle.structure.specs.Structure.{Structure, fixed, sizes, start, len, decodeZone, encode}
 use Rattle.structure.proofs.Table.{encode-zone}
 use Rattle.structure.proofs.Sound.{valid-zone}
@@ -52,7 +52,7 @@ lesser-four k t e = omega arith
 
 -- ---- the plan
 
-module _ (z : List ℕ) (i : IsZone z) (first : ℕ) (ef : first ≡ fromBE (slice z 4 4)) (k n a e sum tail : ℕ) (f : Bool) (en : n ≡ min (k / 4 * 4) sum)
+module _ (z : List ℕ) (i : IsZone z) (first : ℕ) (ef : first ≡ firstField z) (k n a e sum tail : ℕ) (f : Bool) (en : n ≡ min (k / 4 * 4) sum)
     (q : bayN f a e sum tail ≡ highBay 0 first (baysAt z first)) where
   abbrev d : Structure
   d = decodeZone z

@@ -7,7 +7,7 @@ use lib.ListN.{length, replicate, length-replicate}
 use mir.Val.{Fits}
 use mir.Syntax.{w32}
 use Rattle.structure.proofs.Append.{sizes-append}
-use Rattle.block_type.specs.Limits.{longestZone}
+use Rattle.block_type.specs.Limits.{longestZone, lengthAt}
 use Rattle.bigendian.specs.BigEndian.{toBE, overwrite}
 use Rattle.kinds.specs.Kinds.{Item}
 use Rattle.bay.specs.Bay.{Cell, baySize, items, gap, packed, takeHigh}
@@ -115,12 +115,12 @@ module _ (z : List ℕ) (n a e sum tail : ℕ) (x : Site z n a e sum tail) where
       start-same s v pre (map cell cs) (map cell (ds ++ gap n [])) [] (s .chain) (run .parts) (sym (all-sizes (ds ++ gap n [])) ∙ size-is ∙ all-sizes cs) (all-sound (ds ++ gap n []) (kept .sound))
       (rw same-handles)
 
-  shorter : overwrite (beforeZeros (encode s) a ds n) 0 (toBE 4 (e - n)) ≡ encode (record { chain = s .chain; blocks = pre ++ (map cell ds ++ []) }) ++ zs
+  shorter : overwrite (beforeZeros (encode s) a ds n) lengthAt (toBE 4 (e - n)) ≡ encode (record { chain = s .chain; blocks = pre ++ (map cell ds ++ []) }) ++ zs
   unfolding join
   shorter =
       let there : e - n ≡ start s₁ + sizes (pre ++ map cell ds) = omega (arith, first, sizes-append pre (map cell ds), all-sizes ds, ends, run .numbers .start-is) in
       let long : n + length {A = ℕ} [] ≡ 0 + length zs = omega (arith, length-replicate {A = ℕ} n 0) in
-      ap (λ (x : List ℕ). overwrite x 0 (toBE 4 (e - n)))
+      ap (λ (x : List ℕ). overwrite x lengthAt (toBE 4 (e - n)))
       (zeros ∙ ap₂ (λ (x : List ℕ) (o : ℕ). overwrite x o zs) (sym (append-nil (encode s₁))) there)
       ∙ end-changed s₁ (pre ++ map cell ds) n 0 [] zs end-parts sound tt long (e - n)
       (omega (arith, there, lens s₁ (pre ++ map cell ds) n 0 [] zs end-parts sound tt long, ap sizes end-parts, sizes-append (pre ++ map cell ds) (rest n), rest-size n))
@@ -141,11 +141,11 @@ module _ (z : List ℕ) (n a e sum tail : ℕ) (x : Site z n a e sum tail) where
   ask-word = record { fits = omega (arith, ask-end) }
 
   module _ (y : List ℕ) (q : y ≡ beforeZeros z a (takeHigh n (bayCells z a e)) n) where
-    pub ask-put : 0 + 4 ≤ length y
+    pub ask-put : lengthAt + 4 ≤ length y
     ask-put = omega (arith, run-long z n a e sum tail run y q, ends, x .low)
 
-    pub strip-done : (y₂ : List ℕ) → y₂ ≡ overwrite y 0 (toBE 4 (e - n)) → y₂ ≡ encode (stripped n s) ++ replicate n 0
+    pub strip-done : (y₂ : List ℕ) → y₂ ≡ overwrite y lengthAt (toBE 4 (e - n)) → y₂ ≡ encode (stripped n s) ++ replicate n 0
     strip-done y₂ q₂ =
-        q₂ ∙ ap (λ (u : List ℕ). overwrite u 0 (toBE 4 (e - n))) (run-left z n a e sum tail run y q)
+        q₂ ∙ ap (λ (u : List ℕ). overwrite u lengthAt (toBE 4 (e - n))) (run-left z n a e sum tail run y q)
         ∙ shorter
         ∙ ap (λ (b : List Block). encode (record { chain = s .chain; blocks = b }) ++ zs) (sym (at-new (x .found .at)))

@@ -1,7 +1,7 @@
 // Shrink: bytes off the end of the zone, as many as its last bay has free.
 ghost use mathlib.Core.Path.{_≡_};
 ghost use mathlib.Core.List.{_++_};
-ghost use Prim.Native.Nat.{_+_, min};
+ghost use Prim.Native.Nat.{min};
 ghost use lib.ListN.{take, replicate};
 ghost use Rattle.structure.specs.Structure.{encode, decodeZone};
 ghost use Rattle.access.specs.Edit.{IsZone};
@@ -18,7 +18,7 @@ fn strip(z: &mut [u8], n: usize, a: usize, e: usize, sum: usize, tail: usize)
     ensures { λ _. ⌜ now (z .exit) ≡ encode (stripped n (decodeZone (now (z .entry)))) ++ replicate n 0 ⌝ }
 {
     bay_end::take_high(z, n, a, e, sum, tail);
-    bigendian::put4(z, 0, (e - n) as u32);
+    bigendian::put4(z, block_type::LENGTH_AT, (e - n) as u32);
 }
 
 fn lesser_of(a: usize, b: usize) -> usize
@@ -45,7 +45,7 @@ fn plan_in(z: &[u8], k: u32) -> Plan
     requires { ⌜ IsZone (now z) ⌝ }
     ensures { λ r. ⌜ PlannedIn (shrink k) (now (z .entry)) (r .number) (Ready (now (z .entry)) k r) ⌝ }
 {
-    let first = bigendian::get4(z, 4) as usize;
+    let first = bigendian::get4(z, block_type::FIRST_AT) as usize;
     let b = bays::find_high(z, first, 0);
     let start = b.start;
     let end = b.end;
@@ -80,7 +80,7 @@ fn plan_zone(zone: &[u8], k: u32) -> Plan
             tail: 0,
         };
     }
-    let l = bigendian::get4(zone, 0) as usize;
+    let l = bigendian::get4(zone, block_type::LENGTH_AT) as usize;
     let p = plan_in(&zone[..l], k);
     let number = p.number;
     let strip = p.strip;

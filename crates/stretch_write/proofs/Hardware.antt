@@ -10,7 +10,6 @@ use borrow.Author.Tests.{eqb-true}
 use Rattle.block_type.specs.Limits.{fixedHeader}
 use Rattle.format.specs.WellFormed.{zoneOf}
 use Rattle.structure.specs.Structure.{Block, fixed, size, start, decodeZone, cell}
-use Rattle.kinds.specs.Kinds.{item}
 use Rattle.bay.specs.Bay.{free, held}
 use Rattle.calls.specs.Calls.{by-pointer}
 use Rattle.zone.specs.Call.{Result}

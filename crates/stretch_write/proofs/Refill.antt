@@ -1,15 +1,14 @@
 -- Bytes written at the place of the named block's data are those of the structure with the data changed.
 use mathlib.Core.Path.{_≡_, refl, sym, ap, ap₂, _∙_}
-use mathlib.Core.Bool.{true, false≢true}
 use mathlib.Core.List.{List, [], _∷_, _++_, append-assoc, append-nil}
 use Prim.Native.Nat.{ℕ, _+_, _≤_}
 use native.Mathlib.Omega.{arith}
-use lib.ListN.{length, take, drop, length-append, length-take, take-append-drop}
+use lib.ListN.{length, take, length-append, length-take, take-append-drop}
 use lib.Seq.{sets, length-sets, sets-eq}
 use Rattle.bigendian.specs.BigEndian.{overwrite}
 use Rattle.bigendian.proofs.Overwrite.{write-right, write-left}
-use Rattle.kinds.specs.Kinds.{holding, itemSize, is}
-use Rattle.calls.specs.Calls.{Target, by-handle, by-pointer}
+use Rattle.kinds.specs.Kinds.{is}
+use Rattle.calls.specs.Calls.{Target}
 use Rattle.bay.specs.Bay.{free, held}
 use Rattle.structure.specs.Structure.{Block, fixed, cell, Structure, size, sizes, start, len, placeOf, encode, encodeBlock, join}
 use Rattle.structure.specs.Valid.{handlesOf, Valid}

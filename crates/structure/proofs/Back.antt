@@ -12,7 +12,7 @@ use lib.Seq.{drop-at}
 use Rattle.format.specs.Occurs.{occurs}
 use Rattle.bigendian.specs.BigEndian.{fromBE, toBE, slice}
 use Rattle.bigendian.proofs.Laws.{length-toBE, be-front}
-use Rattle.block_type.specs.Limits.{freeCode, fixedCode, fixedHeader, fixedLimit, longestZone, relocCode, relocHeader, relocLimit, typeUnit, zoneHeader, freeHeader, handleRange, masterSize, smallestBlock}
+use Rattle.block_type.specs.Limits.{freeCode, fixedCode, fixedHeader, fixedLimit, relocCode, relocHeader, typeUnit, zoneHeader, freeHeader, handleRange, masterSize, smallestBlock, handleAt, argumentRange}
 use Rattle.memory.specs.Zeros.{allZero}
 use Rattle.format.specs.WellFormed.{typeOf, sizeOf, handleOf, isFree, isReloc, isMaster, masterAt, relocs, offsets, chain}
 use Rattle.format.specs.OneWalk.{links, typeRule, freeRule, relocRule, blockOk, blocksOk}
@@ -42,7 +42,7 @@ pub record Enc (b : Block) : Type 0 where
   pub back : decodeBlock (encodeBlock b) ≡ b
   pub kind : typeOf (encodeBlock b) ≡ code b
 
-dec-fixed : (e d : List ℕ) → typeOf e ≡ 1 → drop fixedHeader e ≡ d → decodeBlock e ≡ fixed d
+dec-fixed : (e d : List ℕ) → typeOf e ≡ fixedCode → drop fixedHeader e ≡ d → decodeBlock e ≡ fixed d
 unfolding decodeBlock
 dec-fixed e d k s = rw (k, s)
 
@@ -80,7 +80,7 @@ enc-fixed d q u =
 
 handle-enc : (h : ℕ) (d : List ℕ) → h < handleRange → handleOf (encodeBlock (cell (held (item h d)))) ≡ h
 unfolding encodeBlock handleOf
-handle-enc h d u = rw (drop-at (toBE 2 (relocCode * typeUnit + (relocHeader + length d) / 2)) (toBE 2 h ++ d) 2 (length-toBE 2 (relocCode * typeUnit + (relocHeader + length d) / 2))) (be-front 2 h d (omega arith))
+handle-enc h d u = rw (drop-at (toBE 2 (relocCode * typeUnit + (relocHeader + length d) / 2)) (toBE 2 h ++ d) handleAt (length-toBE 2 (relocCode * typeUnit + (relocHeader + length d) / 2))) (be-front 2 h d (omega arith))
 
 -- ---- the test of a block, from facts
 
@@ -96,7 +96,7 @@ master-of first h m = rw (le-leb zoneHeader h (m .low), le-leb (h + masterSize) 
 
 free-good : (n : ℕ) (prev : Bool) → prev ≡ false → freeRule prev (encodeBlock (cell (free n))) ≡ true
 unfolding encodeBlock freeRule
-free-good n prev e = rw (e, drop-at (toBE 4 (n / 2)) (replicate (n - freeHeader) 0) 4 (length-toBE 4 (n / 2))) (all-zeros (n - freeHeader))
+free-good n prev e = rw (e, drop-at (toBE 4 (n / 2)) (replicate (n - freeHeader) 0) freeHeader (length-toBE 4 (n / 2))) (all-zeros (n - freeHeader))
 
 reloc-good : (z : List ℕ) (first at h : ℕ) → Master first h → masterAt z h ≡ at + relocHeader → relocRule z first at h ≡ true
 unfolding relocRule
@@ -192,13 +192,13 @@ chain-back z first (k ∷ ks) p =
 at-seam : (a t : List ℕ) (n v k : ℕ) → length a ≡ k → v < 256 ^ n → fromBE (slice (a ++ (toBE n v ++ t)) k n) ≡ v
 at-seam a t n v k e l = rw (drop-at a (toBE n v ++ t) k e) (be-front n v t l)
 
-pub length-words : (f : ℕ → ℕ) (hs : List ℕ) → length (words f hs) ≡ 4 * length hs
+pub length-words : (f : ℕ → ℕ) (hs : List ℕ) → length (words f hs) ≡ masterSize * length hs
 unfolding words
 length-words f [] = refl
 length-words f (h ∷ hs) = simp (length-append, length-toBE) (omega (arith, length-words f hs))
 
 -- a master's word
-pub words-at : (a t : List ℕ) (f : ℕ → ℕ) (k n h : ℕ) → length a ≡ k → k ≤ h → h < k + masterSize * n → h % 4 ≡ k % 4 → f h < 4294967296
+pub words-at : (a t : List ℕ) (f : ℕ → ℕ) (k n h : ℕ) → length a ≡ k → k ≤ h → h < k + masterSize * n → h % 4 ≡ k % 4 → f h < argumentRange
     → fromBE (slice (a ++ (words f (offsets k n) ++ t)) h 4) ≡ f h
 unfolding words offsets
 words-at a t f k zero h e l u q v = let x : ⊥ = omega arith in absurd x
@@ -208,5 +208,5 @@ words-at a t f k (suc n) h e l u q v =
   where
     go : (b : Bool) → eqb h k ≡ b → ((h ≡ k → ⊥) → fromBE (slice ((a ++ toBE 4 (f k)) ++ (words f (offsets (k + masterSize) n) ++ t)) h 4) ≡ f h)
         → fromBE (slice (a ++ (toBE 4 (f k) ++ (words f (offsets (k + masterSize) n) ++ t))) h 4) ≡ f h
-    go true y r = let hk = eqb-true h k y in rw hk (at-seam a (words f (offsets (k + masterSize) n) ++ t) 4 (f k) k e (subst (λ (x : ℕ). f x < 4294967296) hk v))
+    go true y r = let hk = eqb-true h k y in rw hk (at-seam a (words f (offsets (k + masterSize) n) ++ t) 4 (f k) k e (subst (λ (x : ℕ). f x < argumentRange) hk v))
     go false y r = rw (← append-assoc a (toBE 4 (f k)) (words f (offsets (k + masterSize) n) ++ t)) (r (eqb-false h k y))

@@ -8,7 +8,7 @@ use lib.Dec.{eqb}
 use borrow.Author.Tests.{eqb-true}
 use lib.ListN.{length, take, drop, replicate, length-append, length-take, length-drop, take-append-drop}
 use lib.Seq.{getD-drop, drop-drop, take-append-seam, drop-append-seam, length-take-le}
-use Rattle.block_type.specs.Limits.{fixedHeader, relocHeader, typeUnit, fixedCode, freeHeader, relocCode, smallestBlock}
+use Rattle.block_type.specs.Limits.{fixedHeader, relocHeader, typeUnit, fixedCode, freeHeader, relocCode, smallestBlock, freeCode, handleAt}
 use Rattle.bigendian.specs.BigEndian.{fromBE, toBE, Bytes}
 use Rattle.bigendian.proofs.Laws.{toBE-be, be2-at}
 use Rattle.memory.specs.Zeros.{allZero}
@@ -17,7 +17,7 @@ use Rattle.format.specs.WellFormed.{typeOf, sizeOf, handleOf, isFree, splitBloc
 use Rattle.format.specs.OneWalk.{typeRule, freeRule, relocRule, blockOk, blocksOk}
 use Rattle.format.proofs.Walk.{is-good, size-free, size-used, size-take, blocks-cons, blocks-nil}
 use Rattle.structure.specs.Structure.{fixed, encodeBlock, decodeBlock, byType, join, cell}
-use Rattle.kinds.specs.Kinds.{item, itemIn}
+use Rattle.kinds.specs.Kinds.{itemIn}
 use Rattle.bay.specs.Bay.{free, held}
 
 -- ---- joining blocks
@@ -48,7 +48,7 @@ blocks-join z first prev at (b ∷ bs) g =
     let gb = is-good z first prev at b (and-left _ (blocksOk z first (isFree b) (at + length b) bs) g) in
     let r = b ++ join bs in
     let tk = take-append-seam b (join bs) in
-    let l4 : 4 ≤ length b = omega (arith, gb .low, gb .whole) in
+    let l4 : smallestBlock ≤ length b = omega (arith, gb .low, gb .whole) in
     let sz : sizeOf r ≡ length b = sym (size-take (length b) r l4) ∙ ap sizeOf tk ∙ gb .whole in
     let c = blocks-cons r (omega (arith, length-append b (join bs))) (omega arith) in
     c ∙ (rw (sz, tk, drop-append-seam b (join bs), blocks-join z first (isFree b) (at + length b) bs (and-right (blockOk z first prev at b) _ g)))
@@ -80,32 +80,32 @@ all-zero-is (zero ∷ xs) h = ap (λ (t : List ℕ). 0 ∷ t) (all-zero-is xs h)
 all-zero-is (suc x ∷ xs) h = let e = eqb-true (suc x) 0 (zero-left (eqb (suc x) 0) (allZero xs) h) in let q : ⊥ = omega arith in absurd q
 
 -- the first two bytes are the type and the size
-head-word : (b : List ℕ) (k : ℕ) → typeOf b ≡ k → 2 ≤ length b → Bytes b → fromBE (take 2 b) ≡ k * typeUnit + fromBE (take 2 b) % typeUnit
+head-word : (b : List ℕ) (k : ℕ) → typeOf b ≡ k → handleAt ≤ length b → Bytes b → fromBE (take 2 b) ≡ k * typeUnit + fromBE (take 2 b) % typeUnit
 unfolding typeOf
 head-word b k e l y = omega (arith, be2-at b 0 l, y 0, y 1)
 
-enc-free : (b : List ℕ) → typeOf b ≡ 0 → smallestBlock ≤ sizeOf b → sizeOf b ≡ length b → allZero (drop 4 b) ≡ true → Bytes b → encodeBlock (cell (free (sizeOf b))) ≡ b
+enc-free : (b : List ℕ) → typeOf b ≡ freeCode → smallestBlock ≤ sizeOf b → sizeOf b ≡ length b → allZero (drop freeHeader b) ≡ true → Bytes b → encodeBlock (cell (free (sizeOf b))) ≡ b
 unfolding encodeBlock
 enc-free b e l w zs y =
     let e₁ : sizeOf b / 2 ≡ fromBE (take 4 b) = omega (arith, size-free b e) in
-    let e₂ : replicate (sizeOf b - freeHeader) 0 ≡ drop 4 b = rw (w, ← length-drop 4 b) (sym (all-zero-is (drop 4 b) zs)) in
-    rw (e₁, part-bytes 4 b y (omega arith), e₂) (take-append-drop 4 b)
+    let e₂ : replicate (sizeOf b - freeHeader) 0 ≡ drop freeHeader b = rw (w, ← length-drop freeHeader b) (sym (all-zero-is (drop freeHeader b) zs)) in
+    rw (e₁, part-bytes 4 b y (omega arith), e₂) (take-append-drop freeHeader b)
 
-enc-fixed : (b : List ℕ) → typeOf b ≡ 1 → smallestBlock ≤ sizeOf b → sizeOf b ≡ length b → Bytes b → encodeBlock (fixed (drop fixedHeader b)) ≡ b
+enc-fixed : (b : List ℕ) → typeOf b ≡ fixedCode → smallestBlock ≤ sizeOf b → sizeOf b ≡ length b → Bytes b → encodeBlock (fixed (drop fixedHeader b)) ≡ b
 unfolding encodeBlock
 enc-fixed b e l w y =
-    let e₁ : fixedCode * typeUnit + (fixedHeader + length (drop 2 b)) / 2 ≡ fromBE (take 2 b) = omega (arith, size-used b 0 e, head-word b 1 e (omega arith) y, length-drop 2 b) in
-    rw (e₁, part-bytes 2 b y (omega arith)) (take-append-drop 2 b)
+    let e₁ : fixedCode * typeUnit + (fixedHeader + length (drop fixedHeader b)) / 2 ≡ fromBE (take 2 b) = omega (arith, size-used b 0 e, head-word b fixedCode e (omega arith) y, length-drop fixedHeader b) in
+    rw (e₁, part-bytes 2 b y (omega arith)) (take-append-drop fixedHeader b)
 
-enc-reloc : (b : List ℕ) → typeOf b ≡ 2 → smallestBlock ≤ sizeOf b → sizeOf b ≡ length b → Bytes b → encodeBlock (cell (held (itemIn b))) ≡ b
+enc-reloc : (b : List ℕ) → typeOf b ≡ relocCode → smallestBlock ≤ sizeOf b → sizeOf b ≡ length b → Bytes b → encodeBlock (cell (held (itemIn b))) ≡ b
 unfolding encodeBlock handleOf
 enc-reloc b e l w y =
-    let e₁ : relocCode * typeUnit + (relocHeader + length (drop 4 b)) / 2 ≡ fromBE (take 2 b) = omega (arith, size-used b 1 e, head-word b 2 e (omega arith) y, length-drop 4 b) in
-    rw (e₁, part-bytes 2 b y (omega arith), part-bytes 2 (drop 2 b) (bytes-drop 2 b y) (omega (arith, length-drop 2 b)))
-    (tail (drop-drop 2 2 b))
+    let e₁ : relocCode * typeUnit + (relocHeader + length (drop relocHeader b)) / 2 ≡ fromBE (take 2 b) = omega (arith, size-used b 1 e, head-word b relocCode e (omega arith) y, length-drop relocHeader b) in
+    rw (e₁, part-bytes 2 b y (omega arith), part-bytes 2 (drop handleAt b) (bytes-drop handleAt b y) (omega (arith, length-drop handleAt b)))
+    (tail (drop-drop 2 handleAt b))
   where
-    tail : drop 2 (drop 2 b) ≡ drop 4 b → take 2 b ++ (take 2 (drop 2 b) ++ drop 4 b) ≡ b
-    tail q = rw (← q, take-append-drop 2 (drop 2 b)) (take-append-drop 2 b)
+    tail : drop 2 (drop handleAt b) ≡ drop relocHeader b → take 2 b ++ (take 2 (drop handleAt b) ++ drop relocHeader b) ≡ b
+    tail q = rw (← q, take-append-drop 2 (drop handleAt b)) (take-append-drop handleAt b)
 
 pub enc-dec : (z : List ℕ) (first : ℕ) (prev : Bool) (at : ℕ) (b : List ℕ) → blockOk z first prev at b ≡ true → Bytes b → encodeBlock (decodeBlock b) ≡ b
 unfolding decodeBlock typeRule freeRule

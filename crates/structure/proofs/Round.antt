@@ -9,12 +9,12 @@ use borrow.Author.Tests.{eqb-true, eqb-false, eq-eqb, ne-eqb, le-leb}
 use lib.ListN.{length, getD, drop, length-append}
 use lib.Seq.{take-at, drop-at, drop-drop}
 use Rattle.format.specs.Occurs.{occurs}
-use Rattle.block_type.specs.Limits.{fixedHeader, longestZone, masterSize, mostMasters, relocHeader, zoneHeader, handleRange}
+use Rattle.block_type.specs.Limits.{fixedHeader, longestZone, masterSize, mostMasters, relocHeader, zoneHeader, handleRange, argumentRange, firstBlock, zerosAt}
 use Rattle.bigendian.specs.BigEndian.{toBE}
 use Rattle.bigendian.proofs.Laws.{be-toBE, length-toBE}
 use Rattle.format.specs.WellFormed.{headerOk, lengthField, firstField, mastersField, chainField, splitBlocks, masterAt, relocs, zoneOf, wellFormed, offsets}
 use Rattle.format.proofs.OneWalk.{one-walk}
-use Rattle.format.specs.OneWalk.{links, bodyOk}
+use Rattle.format.specs.OneWalk.{bodyOk}
 use Rattle.format.proofs.Masters.{Master}
 use Rattle.format.proofs.Count.{All, one-same, one-other, occurs-offset, length-offsets}
 use Rattle.structure.specs.Structure.{Block, fixed, Structure, encodeBlock, sizes, count, start, len, headOf, placeOf, nextOf, value, words, join, header, encode, decodeZone, decode, cell, handlesOf}
@@ -30,12 +30,12 @@ pub record Head (e : List ℕ) (l f m c : ℕ) (t : List ℕ) : Type 0 where
   pub is-first : firstField e ≡ f
   pub is-masters : mastersField e ≡ m
   pub is-chain : chainField e ≡ c
-  pub zero14 : getD e 14 0 ≡ 0
-  pub zero15 : getD e 15 0 ≡ 0
+  pub first-zero : getD e zerosAt 0 ≡ 0
+  pub second-zero : getD e (zerosAt + 1) 0 ≡ 0
   pub rest : drop zoneHeader e ≡ t
   pub long : length e ≡ zoneHeader + length t
 
-pub head-of : (l f m c : ℕ) (t : List ℕ) → l < 4294967296 → f < 4294967296 → m < 4294967296 → c < handleRange
+pub head-of : (l f m c : ℕ) (t : List ℕ) → l < argumentRange → f < argumentRange → m < argumentRange → c < handleRange
     → Head ((toBE 4 l ++ (toBE 4 f ++ (toBE 4 m ++ (toBE 2 c ++ 0 ∷ 0 ∷ [])))) ++ t) l f m c t
 unfolding toBE
 head-of l f m c t hl hf hm hc = record {
@@ -43,8 +43,8 @@ head-of l f m c t hl hf hm hc = record {
   is-first = be-toBE 4 f hf;
   is-masters = be-toBE 4 m hm;
   is-chain = be-toBE 2 c hc;
-  zero14 = refl;
-  zero15 = refl;
+  first-zero = refl;
+  second-zero = refl;
   rest = refl;
   long = omega arith;
 }
@@ -54,8 +54,8 @@ unfolding headerOk
 header-of e l f m c t h q r u few st w =
     rw (
       le-leb zoneHeader (length e) (omega arith),
-      h .zero14,
-      h .zero15,
+      h .first-zero,
+      h .second-zero,
       h .is-len,
       h .is-first,
       h .is-masters,
@@ -143,20 +143,20 @@ module _ (s : Structure) (v : Valid s) where
   is-offset : (h : ℕ) → 0 < occurs h (handlesOf (s .blocks)) + occurs h (s .chain) → Master (start s) h
   is-offset h l = let r = offset-is h zoneHeader (count s) (omega (arith, v .owned h)) in record { low = r .0; fits = r .1; four = r .2 }
 
-  links-le : All (λ (k : ℕ). k ≤ 32768) (s .chain)
+  links-le : All (λ (k : ℕ). k ≤ firstBlock mostMasters) (s .chain)
   links-le = all-of _ (s .chain) (λ h l. let r = is-offset h (omega arith) in omega (arith, r .fits, v .few))
 
-  value-le : (h : ℕ) → value s h < 4294967296
-  value-le h = omega (arith, place-le h (start s) (s .blocks), next-le 32768 h (s .chain) links-le, v .short)
+  value-le : (h : ℕ) → value s h < argumentRange
+  value-le h = omega (arith, place-le h (start s) (s .blocks), next-le (firstBlock mostMasters) h (s .chain) links-le, v .short)
 
   pub heads : (t : List ℕ) → Head (encode s ++ t) (len s) (start s) (count s) (headOf (s .chain)) ((words (value s) (offsets zoneHeader (count s)) ++ join (map encodeBlock (s .blocks))) ++ t)
   unfolding encode header
   heads t = rw (append-assoc (toBE 4 (len s) ++ (toBE 4 (start s) ++ (toBE 4 (count s) ++ (toBE 2 (headOf (s .chain)) ++ 0 ∷ 0 ∷ [])))) _ t)
-      (head-of (len s) (start s) (count s) (headOf (s .chain)) _ (omega (arith, v .short)) (omega (arith, v .short)) (omega (arith, v .few)) (omega (arith, head-le 32768 (s .chain) links-le)))
+      (head-of (len s) (start s) (count s) (headOf (s .chain)) _ (omega (arith, v .short)) (omega (arith, v .short)) (omega (arith, v .few)) (omega (arith, head-le (firstBlock mostMasters) (s .chain) links-le)))
 
   pub heads-self : Head (encode s) (len s) (start s) (count s) (headOf (s .chain)) (words (value s) (offsets zoneHeader (count s)) ++ join (map encodeBlock (s .blocks)))
   unfolding encode header
-  heads-self = head-of (len s) (start s) (count s) (headOf (s .chain)) _ (omega (arith, v .short)) (omega (arith, v .short)) (omega (arith, v .few)) (omega (arith, head-le 32768 (s .chain) links-le))
+  heads-self = head-of (len s) (start s) (count s) (headOf (s .chain)) _ (omega (arith, v .short)) (omega (arith, v .short)) (omega (arith, v .few)) (omega (arith, head-le (firstBlock mostMasters) (s .chain) links-le))
 
   length-header : length (header s) ≡ zoneHeader
   unfolding header
@@ -186,16 +186,16 @@ module _ (s : Structure) (v : Valid s) where
   table : List ℕ
   table = words (value s) (offsets zoneHeader (count s))
 
-  length-table : length table ≡ 4 * count s
+  length-table : length table ≡ masterSize * count s
   unfolding table
-  length-table = length-words (value s) (offsets zoneHeader (count s)) ∙ ap (λ (n : ℕ). 4 * n) (length-offsets zoneHeader (count s))
+  length-table = length-words (value s) (offsets zoneHeader (count s)) ∙ ap (λ (n : ℕ). masterSize * n) (length-offsets zoneHeader (count s))
 
   pub rest-is : drop (start s) e ≡ join (map encodeBlock (s .blocks))
   unfolding encode table
   rest-is =
-      sym (drop-drop (4 * count s) 16 e)
-      ∙ ap (drop (4 * count s)) (drop-at (header s) _ 16 length-header)
-      ∙ drop-at table (join (map encodeBlock (s .blocks))) (4 * count s) length-table
+      sym (drop-drop (masterSize * count s) zoneHeader e)
+      ∙ ap (drop (masterSize * count s)) (drop-at (header s) _ zoneHeader length-header)
+      ∙ drop-at table (join (map encodeBlock (s .blocks))) (masterSize * count s) length-table
 
   pub length-is : length e ≡ len s
   unfolding encode table

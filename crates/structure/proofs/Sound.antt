@@ -8,7 +8,7 @@ use lib.Dec.{eqb}
 use borrow.Author.Tests.{not-true}
 use lib.ListN.{length, drop, length-append, length-drop}
 use Rattle.format.specs.Occurs.{occurs}
-use Rattle.block_type.specs.Limits.{longestZone, zoneHeader, fixedHeader, relocHeader}
+use Rattle.block_type.specs.Limits.{longestZone, zoneHeader, fixedHeader, relocHeader, relocCode, freeCode}
 use Rattle.bigendian.specs.BigEndian.{Bytes}
 use Rattle.format.proofs.Bool.{and-left, and-right}
 use Rattle.format.specs.WellFormed.{firstField, mastersField, chainField, typeOf, sizeOf, handleOf, isFree, isReloc, splitBlocks, relocs, wellFormed, zoneOf, offsets, chain}
@@ -18,7 +18,7 @@ use Rattle.format.proofs.Masters.{Master}
 use Rattle.format.proofs.Count.{occurs-offset, all-at}
 use Rattle.format.proofs.Live.{handles, owned, handles-high, chain-low}
 use Rattle.structure.specs.Structure.{Block, fixed, decodeBlock, byType, join, decodeZone, decode, cell}
-use Rattle.kinds.specs.Kinds.{item, itemIn}
+use Rattle.kinds.specs.Kinds.{itemIn}
 use Rattle.bay.specs.Bay.{free, held}
 use Rattle.structure.proofs.Codec.{bytes-drop, bytes-left, bytes-right, join-blocks}
 use Rattle.structure.proofs.Table.{Whole, whole, by, count-is, len-is}
@@ -30,7 +30,7 @@ module _ (z : List ℕ) (first : ℕ) where
       → handlesOf (decodeBlock b ∷ bs) ≡ cond (isReloc b) (handleOf b ∷ handlesOf bs) (handlesOf bs)
   unfolding decodeBlock handlesOf isReloc
   handle-dec prev at b bs g =
-      by z first prev at b g (λ k. handlesOf (byType k (cell (free (sizeOf b))) (fixed (drop fixedHeader b)) (cell (held (itemIn b))) ∷ bs) ≡ cond (eqb k 2) (handleOf b ∷ handlesOf bs) (handlesOf bs))
+      by z first prev at b g (λ k. handlesOf (byType k (cell (free (sizeOf b))) (fixed (drop fixedHeader b)) (cell (held (itemIn b))) ∷ bs) ≡ cond (eqb k relocCode) (handleOf b ∷ handlesOf bs) (handlesOf bs))
       (λ e. refl) (λ e. refl) (λ e. refl)
 
   pub handles-decs : (prev : Bool) (at : ℕ) (bs : List (List ℕ)) → blocksOk z first prev at bs ≡ true → handlesOf (map decodeBlock bs) ≡ handles bs
@@ -51,7 +51,7 @@ module _ (z : List ℕ) (first : ℕ) where
       (tiled-decs (isFree b) (at + length b) bs (and-right (blockOk z first prev at b) _ g) (bytes-right b (join bs) y) (omega arith))
     where
       go : (k : ℕ) → typeOf b ≡ k → Good z first prev at b → typeRule k (freeRule prev b) (relocRule z first at (handleOf b)) ≡ true → Bytes b → length b ≤ longestZone
-          → Tiled (eqb k 0) (map decodeBlock bs) → Tiled prev (byType k (cell (free (sizeOf b))) (fixed (drop fixedHeader b)) (cell (held (itemIn b))) ∷ map decodeBlock bs)
+          → Tiled (eqb k freeCode) (map decodeBlock bs) → Tiled prev (byType k (cell (free (sizeOf b))) (fixed (drop fixedHeader b)) (cell (held (itemIn b))) ∷ map decodeBlock bs)
       go zero e gb r y u t = (not-true prev (and-left (not prev) _ r), gb .low, gb .four, omega (arith, gb .whole), t)
       go (suc zero) e gb r y u t = (omega (arith, gb .low, gb .four, gb .whole, length-drop fixedHeader b), omega (arith, gb .four, gb .whole, length-drop fixedHeader b, size-used b 0 e), bytes-drop fixedHeader b y, t)
       go (suc (suc zero)) e gb r y u t = (omega (arith, gb .low, gb .four, gb .whole, length-drop relocHeader b), omega (arith, gb .four, gb .whole, length-drop relocHeader b, size-used b 1 e), bytes-drop relocHeader b y, t)

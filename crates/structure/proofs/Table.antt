@@ -10,7 +10,7 @@ use borrow.Author.Tests.{eqb-true, eqb-false, ne-eqb}
 use lib.ListN.{length, getD, drop, length-append, length-take, length-drop, take-append-drop}
 use lib.Seq.{getD-take, drop-drop, drop-cons}
 use Rattle.format.specs.Occurs.{occurs}
-use Rattle.block_type.specs.Limits.{longestZone, masterSize, mostMasters, zoneHeader, fixedHeader, relocHeader}
+use Rattle.block_type.specs.Limits.{longestZone, masterSize, mostMasters, zoneHeader, fixedHeader, relocHeader, freeCode, fixedCode, relocCode, lengthAt, firstAt, mastersAt, chainAt, zerosAt}
 use Rattle.bigendian.specs.BigEndian.{fromBE, toBE, slice, Bytes}
 use Rattle.format.proofs.Bool.{and-left, and-right}
 use Rattle.format.specs.WellFormed.{headerOk, lengthField, firstField, mastersField, chainField, typeOf, sizeOf, handleOf, isFree, isReloc, splitBlocks, isMaster, masterAt, relocs, zoneOf, wellFormed, offsets, chain}
@@ -22,7 +22,7 @@ use Rattle.format.proofs.Header.{header-facts}
 use Rattle.format.proofs.Count.{one, All, one-same, one-other}
 use Rattle.format.proofs.Live.{handles, total, is-held, Parts, body-parts, owned, length-chain}
 use Rattle.structure.specs.Structure.{Block, fixed, Structure, size, encodeBlock, decodeBlock, byType, sizes, count, start, len, headOf, placeOf, nextOf, value, words, join, header, encode, decodeZone, decode, cell, handlesOf}
-use Rattle.kinds.specs.Kinds.{item, itemIn}
+use Rattle.kinds.specs.Kinds.{itemIn}
 use Rattle.bay.specs.Bay.{free, held}
 use Rattle.structure.proofs.Codec.{part-bytes, bytes-drop, bytes-take, tiles-bytes, join-blocks}
 
@@ -54,7 +54,7 @@ all-offsets P first k (suc n) f l q u =
 
 module _ (z : List ℕ) (first : ℕ) (prev : Bool) (at : ℕ) (b : List ℕ) (g : blockOk z first prev at b ≡ true) where
   -- by type
-  pub by : (P : ℕ → Type 0) → (typeOf b ≡ 0 → P 0) → (typeOf b ≡ 1 → P 1) → (typeOf b ≡ 2 → P 2) → P (typeOf b)
+  pub by : (P : ℕ → Type 0) → (typeOf b ≡ freeCode → P freeCode) → (typeOf b ≡ fixedCode → P fixedCode) → (typeOf b ≡ relocCode → P relocCode) → P (typeOf b)
   unfolding typeRule
   by P a₀ a₁ a₂ = go (typeOf b) refl (is-good z first prev at b g .rule)
     where
@@ -81,7 +81,7 @@ module _ (z : List ℕ) (first : ℕ) (prev : Bool) (at : ℕ) (b : List ℕ) (g
   unfolding decodeBlock placeOf isReloc
   place-dec h o bs =
       by (λ k. placeOf h o (byType k (cell (free (sizeOf b))) (fixed (drop fixedHeader b)) (cell (held (itemIn b))) ∷ bs)
-      ≡ cond (eqb k 2 && eqb h (handleOf b)) (o + relocHeader) (placeOf h (o + size (byType k (cell (free (sizeOf b))) (fixed (drop fixedHeader b)) (cell (held (itemIn b))))) bs))
+      ≡ cond (eqb k relocCode && eqb h (handleOf b)) (o + relocHeader) (placeOf h (o + size (byType k (cell (free (sizeOf b))) (fixed (drop fixedHeader b)) (cell (held (itemIn b))))) bs))
       (λ e. refl) (λ e. refl) (λ e. refl)
 
 module _ (z : List ℕ) (first : ℕ) where
@@ -158,13 +158,13 @@ total-join [] = refl
 total-join (b ∷ bs) = omega (arith, length-append b (join bs), total-join bs)
 
 -- the header's bytes, field by field
-glue : (z : List ℕ) → Bytes z → zoneHeader ≤ length z → getD z 14 0 ≡ 0 → getD z 15 0 ≡ 0 → (l f m c : ℕ) (t : List ℕ)
+glue : (z : List ℕ) → Bytes z → zoneHeader ≤ length z → getD z zerosAt 0 ≡ 0 → getD z (zerosAt + 1) 0 ≡ 0 → (l f m c : ℕ) (t : List ℕ)
     → l ≡ lengthField z → f ≡ firstField z → m ≡ mastersField z → c ≡ chainField z → t ≡ drop zoneHeader z
     → (toBE 4 l ++ (toBE 4 f ++ (toBE 4 m ++ (toBE 2 c ++ 0 ∷ 0 ∷ [])))) ++ t ≡ z
 glue z y n z₁ z₂ l f m c t e₁ e₂ e₃ e₄ e =
     rw (e₁, e₂, e₃, e₄) (simp append-assoc
-    (peel 4 0 z _ y (omega arith) (peel 4 4 z _ y (omega arith) (peel 4 8 z _ y (omega arith) (peel 2 12 z _ y (omega arith)
-    (sym (drop-cons z 14 0 (omega arith) ∙ ap₂ (λ (x : ℕ) (xs : List ℕ). x ∷ xs) z₁ (drop-cons z 15 0 (omega arith) ∙ ap₂ (λ (x : ℕ) (xs : List ℕ). x ∷ xs) z₂ (sym e)))))))))
+    (peel 4 lengthAt z _ y (omega arith) (peel 4 firstAt z _ y (omega arith) (peel 4 mastersAt z _ y (omega arith) (peel 2 chainAt z _ y (omega arith)
+    (sym (drop-cons z zerosAt 0 (omega arith) ∙ ap₂ (λ (x : ℕ) (xs : List ℕ). x ∷ xs) z₁ (drop-cons z (zerosAt + 1) 0 (omega arith) ∙ ap₂ (λ (x : ℕ) (xs : List ℕ). x ∷ xs) z₂ (sym e)))))))))
 
 -- ---- the whole zone
 
@@ -173,8 +173,8 @@ pub record Whole (z : List ℕ) : Type 0 where
   pub bytes : Bytes z
   pub long : zoneHeader ≤ length z
   pub all : lengthField z ≡ length z
-  pub zero14 : getD z 14 0 ≡ 0
-  pub zero15 : getD z 15 0 ≡ 0
+  pub first-zero : getD z zerosAt 0 ≡ 0
+  pub second-zero : getD z (zerosAt + 1) 0 ≡ 0
   pub begin : firstField z ≡ zoneHeader + masterSize * mastersField z
   pub within : firstField z ≤ length z
   pub few : mastersField z ≤ mostMasters
@@ -228,7 +228,7 @@ module _ (z : List ℕ) (w : Whole z) where
   -- the bytes of a zone are those of its structure
   pub encode-zone : encode (decodeZone z) ≡ z
   unfolding encode header
-  encode-zone = glue z (w .bytes) (w .long) (w .zero14) (w .zero15) (len st) (start st) (count st) (headOf (st .chain)) _ len-is start-is count-is head-is rest-is
+  encode-zone = glue z (w .bytes) (w .long) (w .first-zero) (w .second-zero) (len st) (start st) (count st) (headOf (st .chain)) _ len-is start-is count-is head-is rest-is
 
 -- ---- from the buffer to the zone
 
@@ -239,16 +239,16 @@ whole s y w =
     let b = and-right (headerOk s) _ h in
     let l16 : zoneHeader ≤ lengthField s = omega arith in
     let n : length (zoneOf s) ≡ lengthField s = omega (arith, length-take (lengthField s) s) in
-    let e₀ : lengthField (zoneOf s) ≡ lengthField s = ap fromBE (slice-take s (lengthField s) 0 4 (omega arith)) in
-    let e₁ : firstField (zoneOf s) ≡ firstField s = ap fromBE (slice-take s (lengthField s) 4 4 (omega arith)) in
-    let e₂ : mastersField (zoneOf s) ≡ mastersField s = ap fromBE (slice-take s (lengthField s) 8 4 (omega arith)) in
-    let e₃ : chainField (zoneOf s) ≡ chainField s = ap fromBE (slice-take s (lengthField s) 12 2 (omega arith)) in
+    let e₀ : lengthField (zoneOf s) ≡ lengthField s = ap fromBE (slice-take s (lengthField s) lengthAt 4 (omega arith)) in
+    let e₁ : firstField (zoneOf s) ≡ firstField s = ap fromBE (slice-take s (lengthField s) firstAt 4 (omega arith)) in
+    let e₂ : mastersField (zoneOf s) ≡ mastersField s = ap fromBE (slice-take s (lengthField s) mastersAt 4 (omega arith)) in
+    let e₃ : chainField (zoneOf s) ≡ chainField s = ap fromBE (slice-take s (lengthField s) chainAt 2 (omega arith)) in
     record {
       bytes = bytes-take (lengthField s) s y;
       long = omega arith;
       all = omega arith;
-      zero14 = getD-take (lengthField s) s 14 0 (omega arith) ∙ f .zero14;
-      zero15 = getD-take (lengthField s) s 15 0 (omega arith) ∙ f .zero15;
+      first-zero = getD-take (lengthField s) s zerosAt 0 (omega arith) ∙ f .first-zero;
+      second-zero = getD-take (lengthField s) s (zerosAt + 1) 0 (omega arith) ∙ f .second-zero;
       begin = omega arith;
       within = omega arith;
       few = omega arith;

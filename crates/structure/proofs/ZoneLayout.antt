@@ -1,12 +1,12 @@
 -- A zone's bytes as a layout whose parts change one at a time: what a call writes between two structures.
 use mathlib.Core.Path.{_≡_, refl, sym, ap, ap₂, _∙_}
 use mathlib.Core.List.{List, [], _∷_, _++_, map, append-assoc}
-use Prim.Native.Nat.{ℕ, zero, suc, _+_, _*_, _-_, _<_}
+use Prim.Native.Nat.{ℕ, zero, suc, _+_, _*_, _<_}
 use native.Mathlib.Omega.{arith}
 use lib.ListN.{length, set, length-append}
 use lib.Seq.{take-at, drop-at, drop-append-add}
 use Rattle.format.specs.WellFormed.{offsets}
-use Rattle.block_type.specs.Limits.{masterSize, zoneHeader}
+use Rattle.block_type.specs.Limits.{masterSize, zoneHeader, chainAt}
 use Rattle.bigendian.specs.BigEndian.{toBE, overwrite}
 use Rattle.bigendian.proofs.Laws.{length-toBE}
 use Rattle.bigendian.proofs.Overwrite.{write-right}
@@ -39,7 +39,7 @@ write-mid a x x′ r p e l =
     let e₁ : p + length x′ ≡ length a + length x = omega arith in
     rw (take-at a (x ++ r) p e, e₁, drop-append-add a (x ++ r) (length x), drop-at x r (length x) refl) (append-assoc a x′ r)
 
-length-words : (vs : List ℕ) → length (wordsL vs) ≡ 4 * length vs
+length-words : (vs : List ℕ) → length (wordsL vs) ≡ masterSize * length vs
 unfolding wordsL
 length-words [] = refl
 length-words (v ∷ vs) = simp (length-append, length-toBE) (omega (arith, length-words vs))
@@ -51,43 +51,43 @@ whole-front : (l f m c : ℕ) (t : List ℕ) → toBE 4 l ++ (toBE 4 f ++ (toBE 
 whole-front l f m c t = simp append-assoc
 
 -- the chain's head
-pub lay-chain : (l f m c c′ : ℕ) (vs r : List ℕ) → overwrite (lay l f m c vs r) 12 (toBE 2 c′) ≡ lay l f m c′ vs r
+pub lay-chain : (l f m c c′ : ℕ) (vs r : List ℕ) → overwrite (lay l f m c vs r) chainAt (toBE 2 c′) ≡ lay l f m c′ vs r
 unfolding lay
 lay-chain l f m c c′ vs r =
     let a = toBE 4 l ++ (toBE 4 f ++ toBE 4 m) in
-    let q : length a ≡ 12 = simp (length-append, length-toBE) in
-    let w = write-mid a (toBE 2 c) (toBE 2 c′) (0 ∷ 0 ∷ (wordsL vs ++ r)) 12 q (length-toBE 2 c ∙ sym (length-toBE 2 c′)) in
-    ap (λ (y : List ℕ). overwrite y 12 (toBE 2 c′)) (front l f m _) ∙ w ∙ sym (front l f m _)
+    let q : length a ≡ chainAt = simp (length-append, length-toBE) in
+    let w = write-mid a (toBE 2 c) (toBE 2 c′) (0 ∷ 0 ∷ (wordsL vs ++ r)) chainAt q (length-toBE 2 c ∙ sym (length-toBE 2 c′)) in
+    ap (λ (y : List ℕ). overwrite y chainAt (toBE 2 c′)) (front l f m _) ∙ w ∙ sym (front l f m _)
 
 -- one master
-words-set : (vs r : List ℕ) (i v : ℕ) → i < length vs → overwrite (wordsL vs ++ r) (4 * i) (toBE 4 v) ≡ wordsL (set vs i v) ++ r
+words-set : (vs r : List ℕ) (i v : ℕ) → i < length vs → overwrite (wordsL vs ++ r) (masterSize * i) (toBE 4 v) ≡ wordsL (set vs i v) ++ r
 unfolding wordsL
 words-set [] r i v h = let x : ⊥ = omega arith in absurd x
 words-set (y ∷ vs) r zero v h = rw (append-assoc (toBE 4 y) (wordsL vs) r, append-assoc (toBE 4 v) (wordsL vs) r) (write-mid [] (toBE 4 y) (toBE 4 v) (wordsL vs ++ r) 0 refl (length-toBE 4 y ∙ sym (length-toBE 4 v)))
 words-set (y ∷ vs) r (suc i) v h =
-    let q : 4 * suc i ≡ length (toBE 4 y) + 4 * i = omega (arith, length-toBE 4 y) in
-    rw (append-assoc (toBE 4 y) (wordsL vs) r, q, write-right (toBE 4 y) (wordsL vs ++ r) (toBE 4 v) (4 * i), words-set vs r i v (omega arith), append-assoc (toBE 4 y) (wordsL (set vs i v)) r)
+    let q : masterSize * suc i ≡ length (toBE 4 y) + masterSize * i = omega (arith, length-toBE 4 y) in
+    rw (append-assoc (toBE 4 y) (wordsL vs) r, q, write-right (toBE 4 y) (wordsL vs ++ r) (toBE 4 v) (masterSize * i), words-set vs r i v (omega arith), append-assoc (toBE 4 y) (wordsL (set vs i v)) r)
 
 -- an overwrite behind the header's 16 bytes
 behind : (l f m c p : ℕ) (t x t′ : List ℕ) → overwrite t p x ≡ t′
-    → overwrite (toBE 4 l ++ (toBE 4 f ++ (toBE 4 m ++ (toBE 2 c ++ (0 ∷ 0 ∷ t))))) (16 + p) x ≡ toBE 4 l ++ (toBE 4 f ++ (toBE 4 m ++ (toBE 2 c ++ (0 ∷ 0 ∷ t′))))
+    → overwrite (toBE 4 l ++ (toBE 4 f ++ (toBE 4 m ++ (toBE 2 c ++ (0 ∷ 0 ∷ t))))) (zoneHeader + p) x ≡ toBE 4 l ++ (toBE 4 f ++ (toBE 4 m ++ (toBE 2 c ++ (0 ∷ 0 ∷ t′))))
 behind l f m c p t x t′ e =
     let a = toBE 4 l ++ (toBE 4 f ++ (toBE 4 m ++ (toBE 2 c ++ (0 ∷ 0 ∷ [])))) in
-    let q : 16 + p ≡ length a + p = ap (λ (n : ℕ). n + p) (sym (simp (length-append, length-toBE))) in
+    let q : zoneHeader + p ≡ length a + p = ap (λ (n : ℕ). n + p) (sym (simp (length-append, length-toBE))) in
     let w = write-right a t x p in
-    let w′ : overwrite (a ++ t) (16 + p) x ≡ a ++ t′ = rw q (w ∙ ap (λ (y : List ℕ). a ++ y) e) in
-    ap (λ (y : List ℕ). overwrite y (16 + p) x) (whole-front l f m c t) ∙ w′ ∙ sym (whole-front l f m c t′)
+    let w′ : overwrite (a ++ t) (zoneHeader + p) x ≡ a ++ t′ = rw q (w ∙ ap (λ (y : List ℕ). a ++ y) e) in
+    ap (λ (y : List ℕ). overwrite y (zoneHeader + p) x) (whole-front l f m c t) ∙ w′ ∙ sym (whole-front l f m c t′)
 
 pub lay-master : (l f m c i v : ℕ) (vs r : List ℕ) → i < length vs → overwrite (lay l f m c vs r) (zoneHeader + masterSize * i) (toBE 4 v) ≡ lay l f m c (set vs i v) r
 unfolding lay
-lay-master l f m c i v vs r h = behind l f m c (4 * i) (wordsL vs ++ r) (toBE 4 v) (wordsL (set vs i v) ++ r) (words-set vs r i v h)
+lay-master l f m c i v vs r h = behind l f m c (masterSize * i) (wordsL vs ++ r) (toBE 4 v) (wordsL (set vs i v) ++ r) (words-set vs r i v h)
 
 -- the blocks' bytes
 pub lay-rest : (l f m c p : ℕ) (vs r x : List ℕ) → overwrite (lay l f m c vs r) (zoneHeader + (masterSize * length vs + p)) x ≡ lay l f m c vs (overwrite r p x)
 unfolding lay
 lay-rest l f m c p vs r x =
-    let q : 4 * length vs + p ≡ length (wordsL vs) + p = omega (arith, length-words vs) in
-    behind l f m c (4 * length vs + p) (wordsL vs ++ r) x (wordsL vs ++ overwrite r p x) (rw q (write-right (wordsL vs) r x p))
+    let q : masterSize * length vs + p ≡ length (wordsL vs) + p = omega (arith, length-words vs) in
+    behind l f m c (masterSize * length vs + p) (wordsL vs ++ r) x (wordsL vs ++ overwrite r p x) (rw q (write-right (wordsL vs) r x p))
 
 pub lay-same : {l l′ f f′ m m′ c c′ : ℕ} {vs vs′ r r′ : List ℕ} → l ≡ l′ → f ≡ f′ → m ≡ m′ → c ≡ c′ → vs ≡ vs′ → r ≡ r′ → lay l f m c vs r ≡ lay l′ f′ m′ c′ vs′ r′
 lay-same a b c d e f = rw (a, b, c, d, e, f)
@@ -98,10 +98,10 @@ unfolding offsets
 values-set f f′ h k zero i e l s = let x : ⊥ = omega arith in absurd x
 values-set f f′ h k (suc n) zero e l s =
     let q : k ≡ h = omega arith in
-    ap₂ (λ (x : ℕ) (xs : List ℕ). x ∷ xs) (ap f′ q) (above f f′ h (k + 4) n (omega arith) s)
+    ap₂ (λ (x : ℕ) (xs : List ℕ). x ∷ xs) (ap f′ q) (above f f′ h (k + masterSize) n (omega arith) s)
   where
     above : (f f′ : ℕ → ℕ) (h k n : ℕ) → h < k → ((g : ℕ) → (g ≡ h → ⊥) → f′ g ≡ f g) → map f′ (offsets k n) ≡ map f (offsets k n)
     above f f′ h k zero l s = refl
-    above f f′ h k (suc n) l s = ap₂ (λ (x : ℕ) (xs : List ℕ). x ∷ xs) (s k (λ x. omega arith)) (above f f′ h (k + 4) n (omega arith) s)
+    above f f′ h k (suc n) l s = ap₂ (λ (x : ℕ) (xs : List ℕ). x ∷ xs) (s k (λ x. omega arith)) (above f f′ h (k + masterSize) n (omega arith) s)
 values-set f f′ h k (suc n) (suc i) e l s =
-    ap₂ (λ (x : ℕ) (xs : List ℕ). x ∷ xs) (s k (λ x. omega arith)) (values-set f f′ h (k + 4) n i (omega arith) (omega arith) s)
+    ap₂ (λ (x : ℕ) (xs : List ℕ). x ∷ xs) (s k (λ x. omega arith)) (values-set f f′ h (k + masterSize) n i (omega arith) (omega arith) s)

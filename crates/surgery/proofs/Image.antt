@@ -11,7 +11,7 @@ use borrow.Author.Tests.{eqb-true, eq-eqb, ne-eqb}
 use lib.ListN.{length, set, length-map}
 use Rattle.format.specs.Occurs.{occurs}
 use Rattle.format.specs.WellFormed.{offsets}
-use Rattle.block_type.specs.Limits.{fixedHeader, masterSize, zoneHeader}
+use Rattle.block_type.specs.Limits.{fixedHeader, masterSize, zoneHeader, chainAt}
 use Rattle.bigendian.specs.BigEndian.{toBE, overwrite}
 use Rattle.format.proofs.Count.{one, one-same, length-offsets}
 use Rattle.structure.specs.Structure.{Block, fixed, Structure, size, count, start, len, headOf, placeOf, value, encode, cell}
@@ -33,7 +33,7 @@ encode-img s = encode-lay s
 abbrev pub upd : (ℕ → ℕ) → ℕ → ℕ → ℕ → ℕ
 upd g h v k = cond (eqb k h) v (g k)
 
-pub img-chain : (l f m c c′ : ℕ) (g : ℕ → ℕ) (r : List ℕ) → overwrite (img l f m c g r) 12 (toBE 2 c′) ≡ img l f m c′ g r
+pub img-chain : (l f m c c′ : ℕ) (g : ℕ → ℕ) (r : List ℕ) → overwrite (img l f m c g r) chainAt (toBE 2 c′) ≡ img l f m c′ g r
 img-chain l f m c c′ g r = lay-chain l f m c c′ (map g (offsets zoneHeader m)) r
 
 pub img-master : (l f m c h v : ℕ) (g : ℕ → ℕ) (r : List ℕ) → 0 < occurs h (offsets zoneHeader m) → overwrite (img l f m c g r) h (toBE 4 v) ≡ img l f m c (upd g h v) r

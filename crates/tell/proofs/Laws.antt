@@ -7,8 +7,7 @@ use borrow.Author.Tests.{not-true}
 use lib.ListN.{getD, take}
 use mir.Val.{Fits}
 use mir.Syntax.{w8}
-use Rattle.bigendian.specs.BigEndian.{fromBE, slice}
-use Rattle.format.specs.WellFormed.{wellFormed, firstField, zoneOf}
+use Rattle.format.specs.WellFormed.{wellFormed, firstField, zoneOf, lengthField}
 use Rattle.structure.specs.Structure.{decode}
 use Rattle.calls.specs.Bays.{Bays, sumS, maxS}
 use Rattle.calls.specs.State.{Fixed}
@@ -28,7 +27,7 @@ sums-zone z first n total most e s = rw (← e) s
 pub sums-1 : (s : List ℕ) (ok : Bool) → ok ≡ wellFormed s → not ok ≡ true → toldTwo 1 0 0 ≡ (call sums s) .answer
 sums-1 s ok e q = rw (← e, not-true ok q)
 
-pub sums-0 : (s : List ℕ) (ok : Bool) (l n total most : ℕ) → ok ≡ wellFormed s → not ok ≡ false → l ≡ fromBE (slice s 0 4) → ((i : ℕ) → Fits w8 (getD s i 0)) → SumsIn (take l s) n total most
+pub sums-0 : (s : List ℕ) (ok : Bool) (l n total most : ℕ) → ok ≡ wellFormed s → not ok ≡ false → l ≡ lengthField s → ((i : ℕ) → Fits w8 (getD s i 0)) → SumsIn (take l s) n total most
     → toldTwo n total most ≡ (call sums s) .answer
 unfolding decode
 sums-0 s ok l n total most e q el y (sums-from a b c) =
@@ -41,7 +40,7 @@ sums-0 s ok l n total most e q el y (sums-from a b c) =
 pub length-1 : (s : List ℕ) (ok : Bool) → ok ≡ wellFormed s → not ok ≡ true → told 1 0 ≡ (call length-of s) .answer
 length-1 s ok e q = rw (← e, not-true ok q)
 
-pub length-0 : (s : List ℕ) (ok : Bool) (l : ℕ) → ok ≡ wellFormed s → not ok ≡ false → l ≡ fromBE (slice s 0 4) → ((i : ℕ) → Fits w8 (getD s i 0))
+pub length-0 : (s : List ℕ) (ok : Bool) (l : ℕ) → ok ≡ wellFormed s → not ok ≡ false → l ≡ lengthField s → ((i : ℕ) → Fits w8 (getD s i 0))
     → told 0 l ≡ (call length-of s) .answer
 length-0 s ok l e q el y =
     let h : wellFormed s ≡ true = is-well s ok e q in

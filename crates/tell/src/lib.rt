@@ -52,7 +52,7 @@ fn sum_in(z: &[u8]) -> Sums
     requires { ⌜ IsZone (now z) ⌝ }
     ensures { λ r. ⌜ SumsIn (now (z .entry)) (r .number) (r .total) (r .largest) ⌝ }
 {
-    let first = bigendian::get4(z, 4) as usize;
+    let first = bigendian::get4(z, block_type::FIRST_AT) as usize;
     sums_from(z, first)
 }
 
@@ -69,7 +69,7 @@ pub fn sum(zone: &[u8]) -> Sums
             largest: 0,
         };
     }
-    let l = bigendian::get4(zone, 0) as usize;
+    let l = bigendian::get4(zone, block_type::LENGTH_AT) as usize;
     sum_in(&zone[..l])
 }
 
@@ -87,7 +87,7 @@ pub fn length(zone: &[u8]) -> Told
     }
     Told {
         number: 0,
-        value: bigendian::get4(zone, 0),
+        value: bigendian::get4(zone, block_type::LENGTH_AT),
     }
 }
 

@@ -11,8 +11,8 @@ use mir.Syntax.{w8}
 use Rattle.block_type.specs.Limits.{longestZone}
 use Rattle.access.specs.Edit.{IsZone}
 use Rattle.access.proofs.Zone.{whole-of}
-use Rattle.bigendian.specs.BigEndian.{fromBE, slice, Bytes}
-use Rattle.format.specs.WellFormed.{typeOf, wellFormed, firstField, zoneOf}
+use Rattle.bigendian.specs.BigEndian.{Bytes}
+use Rattle.format.specs.WellFormed.{typeOf, wellFormed, firstField, zoneOf, lengthField}
 use Rattle.structure.specs.Structure.{Block, fixed, cell, decode, start, code}
 use Rattle.bay.specs.Bay.{free, held}
 use Rattle.structure.proofs.Table.{whole, start-is}
@@ -59,7 +59,7 @@ find-ends z first at k o n i f = omega (arith, f .ends, whole-of z i .all, whole
 pub start-1 : (s : List ℕ) (ok : Bool) → ok ≡ wellFormed s → not ok ≡ true → _≡_ {A = ℕ} 0 (walkStart s)
 start-1 s ok e q = rw (← e, not-true ok q)
 
-pub start-0 : (s : List ℕ) (ok : Bool) (v : ℕ) → ok ≡ wellFormed s → not ok ≡ false → v ≡ fromBE (slice s 4 4) → v ≡ walkStart s
+pub start-0 : (s : List ℕ) (ok : Bool) (v : ℕ) → ok ≡ wellFormed s → not ok ≡ false → v ≡ firstField s → v ≡ walkStart s
 start-0 s ok v e q ev = rw (is-well s ok e q) ev
 
 -- ---- the step
@@ -74,7 +74,7 @@ found-is s at k o n y h (found f) =
     let w = whole s y h in
     f .is ∙ ap₂ (describe at) (sym (start-is (zoneOf s) w)) (blocks-are (zoneOf s) (firstField (zoneOf s)) refl)
 
-pub go-0 : (s : List ℕ) (at : ℕ) (ok : Bool) (l k o n : ℕ) → ok ≡ wellFormed s → not ok ≡ false → l ≡ fromBE (slice s 0 4) → ((i : ℕ) → Fits w8 (getD s i 0))
+pub go-0 : (s : List ℕ) (at : ℕ) (ok : Bool) (l k o n : ℕ) → ok ≡ wellFormed s → not ok ≡ false → l ≡ lengthField s → ((i : ℕ) → Fits w8 (getD s i 0))
     → Found (take l s) at k o n → walked 0 k o n (at + n) ≡ walkStep s at
 go-0 s at ok l k o n e q el y f =
     let h : wellFormed s ≡ true = is-well s ok e q in

@@ -59,7 +59,7 @@ fn find(z: &[u8], at: usize) -> Described
     requires { ⌜ IsZone (now z) ⌝ }
     ensures { λ r. ⌜ (Found (now (z .entry)) at (r .kind) (r .offset) (r .size)) × (at + r .size ≤ max at longestZone) ⌝ }
 {
-    let first = bigendian::get4(z, 4) as usize;
+    let first = bigendian::get4(z, block_type::FIRST_AT) as usize;
     describe(z, first, at)
 }
 
@@ -74,7 +74,7 @@ impl Walker {
             return Walker { at: 0 };
         }
         Walker {
-            at: bigendian::get4(zone, 4) as usize,
+            at: bigendian::get4(zone, block_type::FIRST_AT) as usize,
         }
     }
 
@@ -98,7 +98,7 @@ impl Walker {
                 },
             };
         }
-        let l = bigendian::get4(zone, 0) as usize;
+        let l = bigendian::get4(zone, block_type::LENGTH_AT) as usize;
         let block = find(&zone[..l], at);
         Moved {
             next: Walker {

@@ -1,6 +1,6 @@
 -- What each call keeps: the zone fits its buffer and the limits, and the buffer keeps its length.
 use mathlib.Core.Path.{_≡_}
-use Prim.Native.Nat.{ℕ, _-_, _≤_}
+use Prim.Native.Nat.{ℕ, _≤_}
 use native.Mathlib.Omega.{arith}
 use lib.ListN.{drop}
 use Rattle.bay.proofs.Each.{each-weaken}

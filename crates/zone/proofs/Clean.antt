@@ -3,9 +3,9 @@ use mathlib.Core.Path.{_≡_, subst}
 use mathlib.Core.Bool.{Bool, true, false, cond}
 use mathlib.Core.Option.{Option}
 use mathlib.Core.List.{List, [], _∷_, _++_, map, List·Permᴰ, List·Permᴰ·nil, List·Permᴰ·cons, List·Permᴰ·swap, List·Permᴰ·trans, Permᴰ·symm}
-use Prim.Native.Nat.{ℕ, zero, suc, _+_, _-_, _%_, _≤_, _<_}
+use Prim.Native.Nat.{ℕ, zero, suc, _+_, _-_, _%_, _≤_}
 use native.Mathlib.Omega.{arith}
-use lib.ListN.{length, set, take, drop, replicate, length-replicate}
+use lib.ListN.{length, take, drop, replicate, length-replicate}
 use lib.Dec.{leb, eqb}
 use borrow.Author.Tests.{leb-true}
 use Rattle.bigendian.specs.BigEndian.{Bytes}
@@ -23,8 +23,7 @@ use Rattle.zone.proofs.Own.{own-shaped}
 use Rattle.block_type.specs.Limits.{relocLimit, fixedLimit, fixedHeader, up4}
 use Rattle.zone.specs.Search.{lookup, own}
 use Rattle.bay.proofs.Sound.{Block}
-use Rattle.zone.proofs.Walk.{Closed, any, Feeds, bytes-take, bytes-sets}
-use lib.Seq.{sets}
+use Rattle.zone.proofs.Walk.{Closed, any, Feeds, bytes-take}
 use Rattle.zone.specs.Work.{Zone}
 
 -- ---- of every bay and every fixed block

@@ -15,7 +15,6 @@ use Rattle.bigendian.specs.BigEndian.{toBE}
 use Rattle.structure.specs.Structure as Shape
 use Rattle.structure.specs.Structure.{Block, fixed, count, len, encodeBlock, placeOf, headOf, value, words, join, encode}
 use Rattle.calls.specs.Bays.{Bays, last, more, orElse}
-use Rattle.bay.specs.Bay as Bay
 use Rattle.bay.specs.Counted as Counted
 use Rattle.bay.specs.Counted.{live}
 use Rattle.kinds.specs.Kinds.{itemSize}

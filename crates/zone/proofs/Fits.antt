@@ -2,13 +2,12 @@
 -- Each change of a bay that a call makes keeps it.
 use mathlib.Core.Path.{_≡_, refl, ap, ap₂, _∙_, sym}
 use mathlib.Core.Bool.{Bool, true, false, cond}
-use mathlib.Core.Option.{Option, none, some}
 use mathlib.Core.List.{List, [], _∷_, _++_, map, List·Permᴰ, List·Permᴰ·nil, List·Permᴰ·cons, List·Permᴰ·trans, Permᴰ·append-left, Permᴰ·append-right, Permᴰ·append-nil}
-use Prim.Native.Nat.{ℕ, suc, _+_, _-_, _%_, _≤_}
+use Prim.Native.Nat.{ℕ, suc, _+_, _%_, _≤_}
 use native.Mathlib.Omega.{arith}
 use lib.ListN.{length}
 use Rattle.kinds.specs.Kinds.{Item, itemSize}
-use Rattle.calls.specs.State.{is, total, alter, get, sized, Fixed, fsize}
+use Rattle.calls.specs.State.{is, alter, get, sized, Fixed, fsize}
 use Rattle.ledger.specs.Ledger.{Bay, bay, sumOf, onEntries, without, less}
 use Rattle.ledger.proofs.Space.{countIn}
 use Rattle.bay.specs.Bay.{Cell, baySize, baySum, items, gap, joinBays, compactBay, put, takeHigh, release, edit, reshape}

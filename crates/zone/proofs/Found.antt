@@ -15,7 +15,7 @@ use Rattle.kinds.specs.Kinds.{Item, itemSize}
 use Rattle.calls.specs.State.{is, total, get, Fixed, fsize, pointer, newFixed, cutHigh, joinOver, joinAt, ownSum}
 use Rattle.calls.specs.Table.{below, isNone}
 use Rattle.zone.specs.PickBays.{onLow, onHigh, glue, onJoin}
-use Rattle.bay.specs.Bay.{Cell, baySum, items, gap, joinBays, put, takeHigh, release, reshape, resized}
+use Rattle.bay.specs.Bay.{Cell, baySum, items, put, release, reshape, resized}
 use Rattle.bay.specs.Counted.{remove, count, roomFor, live}
 use Rattle.zone.specs.Work as Work
 use Rattle.zone.specs.Work.{has}

@@ -7,7 +7,7 @@ use lib.ListN.{length}
 use Rattle.block_type.specs.Limits.{fixedHeader, relocHeader}
 use Rattle.structure.specs.Structure.{Block, fixed, cell}
 use Rattle.calls.specs.Bays.{Bays, last, more}
-use Rattle.kinds.specs.Kinds.{itemSize, item}
+use Rattle.kinds.specs.Kinds.{itemSize}
 use Rattle.calls.specs.State.{Fixed}
 use Rattle.bay.specs.Bay.{Cell, free, held, baySize}
 use Rattle.zone.proofs.Places.{Tiled, tile-last, tile-more}

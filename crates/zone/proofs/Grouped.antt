@@ -1,8 +1,8 @@
 -- From a line of blocks to bays: what holds of a valid structure, grouped.
 use mathlib.Core.Path.{_≡_, refl, ap, sym, _∙_}
 use mathlib.Core.Bool.{Bool, true, false, false≢true}
-use mathlib.Core.List.{List, [], _∷_, Permᴰ·refl}
-use Prim.Native.Nat.{ℕ, _+_, _-_, _≤_}
+use mathlib.Core.List.{List, [], _∷_}
+use Prim.Native.Nat.{ℕ, _+_, _≤_}
 use native.Mathlib.Omega.{arith}
 use lib.ListN.{length}
 use Rattle.format.specs.Occurs.{occurs}
@@ -13,7 +13,7 @@ use Rattle.calls.specs.Bays.{Bays, last, more}
 use Rattle.zone.specs.PickBays.{AllS}
 use Rattle.kinds.specs.Kinds.{Item, itemSize}
 use Rattle.calls.specs.State.{Fixed}
-use Rattle.bay.specs.Bay.{Cell, free, held, baySize, items}
+use Rattle.bay.specs.Bay.{Cell, free, held}
 use Rattle.bay.proofs.Sound as Sound
 use Rattle.bay.proofs.Sound.{Sound, s-nil, s-end, s-free, s-held}
 use Rattle.bigendian.specs.BigEndian.{Bytes}

@@ -3,15 +3,15 @@ use mathlib.Core.Path.{_≡_, refl, ap, sym, _∙_}
 use mathlib.Core.Bool.{Bool, true, false, cond}
 use mathlib.Core.Option.{Option, none, some}
 use mathlib.Core.List.{List, [], _∷_, _++_, map, append-nil}
-use Prim.Native.Nat.{ℕ, zero, suc, _+_, _-_, _≤_, _<_}
+use Prim.Native.Nat.{ℕ, zero, suc, _+_, _≤_, _<_}
 use native.Mathlib.Omega.{arith}
 use lib.Dec.{eqb}
 use borrow.Author.Tests.{leb-true, eqb-true, eqb-false, ne-eqb}
 use Rattle.block_type.specs.Limits.{zoneHeader, masterSize}
-use Rattle.calls.specs.Bays.{Bays, last, more, mapS, sumS, lastS}
+use Rattle.calls.specs.Bays.{Bays, last, more, mapS, lastS}
 use Rattle.zone.specs.PickBays.{onLow, AllS}
 use Rattle.kinds.specs.Kinds.{Item, itemSize}
-use Rattle.calls.specs.State.{is, alter, get, sized, alterFixed, Fixed, fsize, State, newItem, handlesFrom}
+use Rattle.calls.specs.State.{is, alter, get, sized, alterFixed, Fixed, fsize, newItem, handlesFrom}
 use Rattle.bay.specs.Bay.{Cell, baySum, items, gap, joinBays, compactBay, takeHigh, release, edit, reshape, resized}
 use Rattle.bay.specs.Counted.{remove, count, live}
 use Rattle.bay.proofs.Each.{Each, nothing, just, each-cond, each-weaken, each-and, each-orElse}

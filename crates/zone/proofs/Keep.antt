@@ -2,7 +2,7 @@
 use mathlib.Core.Path.{_≡_, refl, ap, sym, _∙_}
 use mathlib.Core.Bool.{Bool, true, false, cond}
 use mathlib.Core.List.{List, [], _∷_, _++_}
-use Prim.Native.Nat.{ℕ, zero, suc, _+_, _-_, _*_, _≤_, _<_}
+use Prim.Native.Nat.{ℕ, zero, suc, _+_, _*_, _≤_, _<_}
 use native.Mathlib.Omega.{arith}
 use native.Mathlib.Nat.{add-zero}
 use lib.ListN.{length, length-append}
@@ -12,11 +12,10 @@ use Rattle.format.specs.WellFormed.{offsets}
 use Rattle.block_type.specs.Limits.{mostMasters, longestZone, masterSize, zoneHeader}
 use Rattle.format.proofs.Count.{All, sumOver, sum-occurs, one-same, length-offsets, occurs-append}
 use Rattle.structure.proofs.Round.{offset-le}
-use Rattle.structure.specs.Structure.{Block, fixed, sizes, count, start, len, cell, handlesOf}
+use Rattle.structure.specs.Structure.{Block, fixed, sizes, count, start, len, handlesOf}
 use Rattle.structure.specs.Valid.{Tiled, Valid}
 use Rattle.calls.specs.Bays.{Bays, last, more}
 use Rattle.zone.specs.PickBays.{AllS}
-use Rattle.bay.specs.Bay as Bay
 use Rattle.bay.specs.Counted as Counted
 use Rattle.bay.specs.Counted.{live}
 use Rattle.bay.specs.Bay.{Cell, free, held, baySize, items}

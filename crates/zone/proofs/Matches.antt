@@ -1,16 +1,16 @@
 -- A zone and a ledger that are one, and what the table asks of them: the same facts.
-use mathlib.Core.Path.{_≡_, refl, ap, ap₂, sym, _∙_}
-use mathlib.Core.Bool.{Bool, true, cond}
+use mathlib.Core.Path.{_≡_, refl, ap, ap₂, sym}
+use mathlib.Core.Bool.{true, cond}
 use mathlib.Core.Option.{Option, Option·getD}
 use mathlib.Core.List.{List, map, List·Permᴰ}
-use Prim.Native.Nat.{ℕ, _+_, _≤_, max}
+use Prim.Native.Nat.{ℕ, _≤_}
 use native.Mathlib.Omega.{arith}
 use lib.ListN.{length}
 use lib.Dec.{eqb}
-use Rattle.calls.specs.Calls.{Target, by-handle, by-pointer, Card}
-use Rattle.calls.specs.Bays.{Bays, last, more, over, orElse, findS, findF, sumS, maxS, concatS}
+use Rattle.calls.specs.Calls.{Target, by-handle, by-pointer}
+use Rattle.calls.specs.Bays.{Bays, over, orElse, findS, findF, sumS, maxS, concatS}
 use Rattle.kinds.specs.Kinds.{Item}
-use Rattle.calls.specs.State.{get, card, Fixed, pointer, State, content, ownSum, liveCount}
+use Rattle.calls.specs.State.{get, card, Fixed, pointer, content, ownSum}
 use Rattle.ledger.specs.Ledger.{Bay, Ledger, entriesOf, sumOf}
 use Rattle.ledger.specs.Ledger as Book
 use Rattle.ledger.proofs.Space.{liveIn}

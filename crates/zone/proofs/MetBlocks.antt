@@ -7,7 +7,7 @@ use native.Mathlib.Omega.{arith}
 use native.Mathlib.Nat.{add-zero, zero-add, add-assoc}
 use lib.ListN.{length, drop, length-drop}
 use lib.Dec.{eqb}
-use Rattle.block_type.specs.Limits.{freeCode, fixedCode, relocCode, relocHeader, masterSize, zoneHeader, fixedHeader}
+use Rattle.block_type.specs.Limits.{freeCode, fixedCode, relocCode, relocHeader, masterSize, zoneHeader, fixedHeader, firstAt}
 use Rattle.bigendian.specs.BigEndian.{fromBE}
 use Rattle.format.specs.WellFormed.{headerOk, lengthField, firstField, mastersField, chainField, typeOf, sizeOf, handleOf, isFree, splitBlocks, zoneOf}
 use Rattle.format.specs.OneWalk.{blockOk, blocksOk, bodyOk}
@@ -23,7 +23,7 @@ use Rattle.calls.specs.Calls.{Card}
 use Rattle.ledger.specs.Space.{Spot, spot}
 use Rattle.calls.specs.Bays.{Bays, last, more, concatS}
 use Rattle.bay.specs.Bay.{Cell, free, held, items, baySize, baySum}
-use Rattle.kinds.specs.Kinds.{itemSize, item, itemIn}
+use Rattle.kinds.specs.Kinds.{itemSize, itemIn}
 use Rattle.calls.specs.State.{Fixed, fsize, card}
 use Rattle.zone.specs.Group.{flatBay, flatten}
 use Rattle.zone.specs.Work.{Zone}
@@ -113,7 +113,7 @@ module _ (z : List ℕ) (first : ℕ) where
   unfolding decodeBlock
   card-dec prev at b bs g =
       by z first prev at b g (λ k. cond (eqb k relocCode) (record { handle = handleOf b; amount = sizeOf b - relocHeader } ∷ cardsB bs) (cardsB bs) ≡ cardsB (byType k (cell (free (sizeOf b))) (fixed (drop fixedHeader b)) (cell (held (itemIn b))) ∷ bs))
-      (λ e. refl) (λ e. refl) (λ e. ap (λ (n : ℕ). record { handle = handleOf b; amount = n } ∷ cardsB bs) (ap (_- relocHeader) (is-good z first prev at b g .whole) ∙ sym (length-drop 4 b)))
+      (λ e. refl) (λ e. refl) (λ e. ap (λ (n : ℕ). record { handle = handleOf b; amount = n } ∷ cardsB bs) (ap (_- relocHeader) (is-good z first prev at b g .whole) ∙ sym (length-drop relocHeader b)))
 
   cards-decs : (prev : Bool) (at : ℕ) (bs : List (List ℕ)) → blocksOk z first prev at bs ≡ true → relocMet bs ≡ cardsB (map decodeBlock bs)
   unfolding blocksOk relocMet
@@ -159,8 +159,8 @@ cards-strip (more b x s) = cards-bay b (fixed (x .bytes) ∷ flatten s) ∙ ap (
 -- ---- the buffer
 
 -- bkFst is read alike with and without the bytes beyond the zone
-first-zone : (bs : List ℕ) → 8 ≤ lengthField bs → firstField (zoneOf bs) ≡ firstField bs
-first-zone bs l = ap fromBE (slice-take bs (lengthField bs) 4 4 l)
+first-zone : (bs : List ℕ) → firstAt + 4 ≤ lengthField bs → firstField (zoneOf bs) ≡ firstField bs
+first-zone bs l = ap fromBE (slice-take bs (lengthField bs) firstAt 4 l)
 
 module _ (bs : List ℕ) (z : Zone) (w : Whole z) (s : Stored bs z) where
   stored-walk : (headerOk bs && bodyOk (zoneOf bs) (firstField bs) (mastersField bs) (chainField bs)) ≡ true

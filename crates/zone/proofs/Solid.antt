@@ -1,15 +1,14 @@
 -- Every bay's blocks have the sizes of blocks, and no two free ones are neighbours; every fixed block has a block's size. Kept by each call.
-use mathlib.Core.Path.{_≡_}
 use mathlib.Core.List.{List, []}
-use Prim.Native.Nat.{ℕ, _+_, _-_, _*_, _/_, _%_, min}
+use Prim.Native.Nat.{ℕ, _-_}
 use native.Mathlib.Omega.{arith}
-use lib.ListN.{length, length-replicate}
+use lib.ListN.{length-replicate}
 use borrow.Author.Tests.{leb-true}
 use Rattle.block_type.specs.Limits.{fixedHeader, up4}
-use Rattle.calls.specs.Bays.{Bays, lastS}
+use Rattle.calls.specs.Bays.{Bays}
 use Rattle.kinds.specs.Kinds.{Item, itemSize}
 use Rattle.calls.specs.State.{Fixed, fsize, newItem, newFixed, alterFixed}
-use Rattle.bay.specs.Bay.{Cell, baySum, gap, compactBay, put, takeHigh, release, edit, resized, reshape}
+use Rattle.bay.specs.Bay.{Cell, baySum, compactBay, put, takeHigh, release, edit, resized, reshape}
 use Rattle.zone.specs.Work.{Zone}
 use Rattle.zone.specs.Search.{lookup, own, placeLow}
 use Rattle.bay.proofs.Each.{Each, each-orElse, each-weaken}

@@ -2,7 +2,7 @@
 use mathlib.Core.Path.{_≡_, refl, ap, ap₂, sym, _∙_}
 use mathlib.Core.Option.{Option, Option·getD}
 use mathlib.Core.List.{List, [], _∷_, _++_, append-assoc, append-nil}
-use Prim.Native.Nat.{ℕ, zero, suc, _+_, _-_, _*_, _/_, _<_}
+use Prim.Native.Nat.{ℕ, zero, suc, _+_, _*_, _/_, _<_}
 use native.Mathlib.Omega.{arith}
 use native.Mathlib.Nat.{add-assoc}
 use lib.ListN.{length, length-append, length-replicate, take, drop}
@@ -15,7 +15,7 @@ use Rattle.kinds.specs.Kinds.{Item, itemSize}
 use Rattle.calls.specs.State.{is, get, Fixed, fsize, pointer, handlesFrom}
 use Rattle.bay.specs.Bay.{Cell, held, baySize, items}
 use Rattle.bay.proofs.Sound.{Block, Sound, s-nil, s-end, s-free, s-held}
-use Rattle.block_type.specs.Limits.{fixedHeader, firstBlock, masterSize, relocCode, typeUnit, zoneHeader}
+use Rattle.block_type.specs.Limits.{fixedHeader, firstBlock, masterSize, relocCode, typeUnit, zoneHeader, relocHeader}
 use Rattle.zone.specs.Work.{Zone}
 use Rattle.zone.proofs.Places.{Tiled, tile-last, tile-more, Placed}
 use Rattle.zone.proofs.Bytes.{big, freeBytes, itemBytes, cellBytes, fixedHead, fixedBytes, blockBytes, whereIn, whereS, nextOf, masterOf, masterBytes, headerBytes, zoneBytes}
@@ -68,7 +68,7 @@ pub weaken-both : {A B : Type 0} {R Q : A → B → Type 0} {a : Option A} {b : 
 weaken-both h absent = absent
 weaken-both h (present {a = x} {b = y} r) = present (h x y r)
 
-data-stand : (e : Item) → Stands (itemBytes e) 4 (e .bytes)
+data-stand : (e : Item) → Stands (itemBytes e) relocHeader (e .bytes)
 data-stand e = record { front = big 2 (relocCode * typeUnit + itemSize e / 2) ++ big 2 (e .handle); rest = []; split = simp append-nil; place = refl }
 
 pub in-cells : (h p : ℕ) {cs : List Cell} → Sound cs → Both (At (cellBytes cs) p) (get h (items cs)) (whereIn h p cs)
@@ -77,7 +77,7 @@ in-cells h p (s-end b) = absent
 in-cells h p (s-free {n = n} b s) = weaken-both (λ x y a. shift (freeBytes n) n (length-free n b) a) (in-cells h (p + n) s)
 in-cells h p (s-held {e = e} {cs = cs} b s) =
     cond-both (is h e) (is h e) refl
-    (λ t. present (record { off = 4; found = refl; stands = stands-before (cellBytes cs) (data-stand e) }))
+    (λ t. present (record { off = relocHeader; found = refl; stands = stands-before (cellBytes cs) (data-stand e) }))
     (weaken-both (λ x y a. shift (itemBytes e) (itemSize e) (omega arith) a) (in-cells h (p + itemSize e) s))
 
 pub in-blocks : (h p : ℕ) (s : Bays (List Cell) Fixed) → AllS Sound s → Both (At (blockBytes s) p) (findS (λ (b : List Cell). get h (items b)) s) (whereS h p s)
@@ -86,7 +86,7 @@ in-blocks h p (more b x s) d =
     orElse-both (weaken-both (λ e q a. more-after (fixedBytes x ++ blockBytes s) a) (in-cells h p (d .0)))
     (weaken-both (λ e q a. shift (cellBytes b) (baySize b) (length-cells (d .0)) (shift (fixedBytes x) (fsize x) (omega arith) a)) (in-blocks h (p + baySize b + fsize x) s (d .1)))
 
-length-masters : (m : ℕ) (z : Zone) (hs : List ℕ) → length (masterBytes m z hs) ≡ 4 * length hs
+length-masters : (m : ℕ) (z : Zone) (hs : List ℕ) → length (masterBytes m z hs) ≡ masterSize * length hs
 length-masters m z [] = refl
 length-masters m z (h ∷ hs) = omega (arith, length-masters m z hs)
 
@@ -95,7 +95,7 @@ length-handles h zero = refl
 length-handles h (suc n) = ap suc (length-handles (h + masterSize) n)
 
 pub in-zone : {v : List ℕ} {at : ℕ} (m : ℕ) (z : Zone) → Stands (blockBytes (z .bays)) at v → Stands (zoneBytes m z) (firstBlock m + at) v
-in-zone m z s = rw (add-assoc zoneHeader (4 * m) _) (stands-after (headerBytes m z) zoneHeader refl (stands-after (masterBytes m z (handlesFrom zoneHeader m)) (4 * m) (omega (arith, length-masters m z (handlesFrom zoneHeader m), length-handles zoneHeader m)) s))
+in-zone m z s = rw (add-assoc zoneHeader (masterSize * m) _) (stands-after (headerBytes m z) zoneHeader refl (stands-after (masterBytes m z (handlesFrom zoneHeader m)) (masterSize * m) (omega (arith, length-masters m z (handlesFrom zoneHeader m), length-handles zoneHeader m)) s))
 
 both-each : {A B : Type 0} {R : A → B → Type 0} {a : Option A} {b : Option B} (P : A → B → Type 0) (d : B) → ((x : A) (y : B) → R x y → P x y) → Both R a b → Each (λ (x : A). P x (Option·getD b d)) a
 both-each P d f absent = nothing
@@ -110,10 +110,10 @@ handle-stands m h z d =
 pub master-stands : (m : ℕ) (z : Zone) (i : ℕ) → i < m → Stands (zoneBytes m z) (zoneHeader + masterSize * i) (big 4 (masterOf m z (zoneHeader + masterSize * i)))
 master-stands m z i l = stands-after (headerBytes m z) zoneHeader refl (stands-before (blockBytes (z .bays)) (nth zoneHeader m i (zoneHeader + masterSize * i) l refl))
   where
-    nth : (h n i k : ℕ) → i < n → h + masterSize * i ≡ k → Stands (masterBytes m z (handlesFrom h n)) (4 * i) (big 4 (masterOf m z k))
+    nth : (h n i k : ℕ) → i < n → h + masterSize * i ≡ k → Stands (masterBytes m z (handlesFrom h n)) (masterSize * i) (big 4 (masterOf m z k))
     nth h zero i k l e = absurd (omega arith)
     nth h (suc n) zero k l e = let q : k ≡ h = omega arith in rw q (stands-here (big 4 (masterOf m z h)) (masterBytes m z (handlesFrom (h + masterSize) n)))
-    nth h (suc n) (suc i) k l e = let q : 4 * suc i ≡ 4 + 4 * i = omega arith in rw q (stands-after (big 4 (masterOf m z h)) 4 refl (nth (h + masterSize) n i k (omega arith) (omega arith)))
+    nth h (suc n) (suc i) k l e = let q : masterSize * suc i ≡ masterSize + masterSize * i = omega arith in rw q (stands-after (big 4 (masterOf m z h)) masterSize refl (nth (h + masterSize) n i k (omega arith) (omega arith)))
 
 -- what holds of each fixed block
 abbrev pub AllF : (Fixed → Type 0) → Bays (List Cell) Fixed → Type 0

@@ -4,7 +4,7 @@ use mathlib.Core.Bool.{Bool, true}
 use mathlib.Core.Option.{Option}
 use Prim.Native.Nat.{ℕ, _+_, _≤_}
 use native.Mathlib.Omega.{arith}
-use Rattle.calls.specs.Bays.{Bays, last, more, orElse, mapS, onFixed, onLast, findS, sumS, lastS}
+use Rattle.calls.specs.Bays.{Bays, last, more, mapS, onFixed, onLast, findS, sumS, lastS}
 use Rattle.zone.specs.PickBays.{onLow, onHigh, glue, onJoin, AllS}
 use Rattle.bay.proofs.Each.{Each, nothing, just, each-over, each-cond, each-orElse, each-weaken}
 

@@ -1,18 +1,17 @@
 -- THE LIST THEOREM: calls that keep their promises, one after the other from an accepted initialization, answer as the ledger does.
 use mathlib.Core.Path.{_≡_, refl, ap, ap₂, sym, _∙_, subst}
-use mathlib.Core.Bool.{Bool, true, false, cond}
-use mathlib.Core.Option.{Option, none, some}
+use mathlib.Core.Bool.{true}
+use mathlib.Core.Option.{Option}
 use mathlib.Core.List.{List, [], _∷_, _++_, List·Permᴰ·trans, Permᴰ·refl}
 use Prim.Native.Nat.{ℕ, zero, suc, _-_, _≤_}
 use native.Mathlib.Omega.{arith}
 use lib.ListN.{length, drop}
-use lib.Dec.{eqb, eqb·suc-zero}
+use lib.Dec.{eqb·suc-zero}
 use Rattle.bigendian.specs.BigEndian.{Bytes}
 use Rattle.block_type.specs.Limits.{firstBlock}
 use Rattle.structure.specs.Structure.{encode}
-use Rattle.calls.specs.Calls.{Call, Answer, beside, secondOf, refused, told}
-use Rattle.calls.specs.Bays.{Bays, last, more}
-use Rattle.kinds.specs.Kinds.{Item}
+use Rattle.calls.specs.Calls.{Call, Answer, beside, secondOf, refused}
+use Rattle.calls.specs.Bays.{Bays}
 use Rattle.calls.specs.State.{Fixed, fsize, Out}
 use Rattle.calls.specs.Table.{refusalOf, first, order, badInitialize}
 use Rattle.calls.proofs.Never.{never-one, told-one}
@@ -27,7 +26,7 @@ use Rattle.bay.specs.Counted.{live}
 use Rattle.zone.specs.Work as Work
 use Rattle.zone.specs.Work.{Zone, work, fresh}
 use Rattle.zone.specs.Call.{inLine, Result, call, initializeWith}
-use Rattle.zone.specs.Promise.{Alike, Promise, InitPromise}
+use Rattle.zone.specs.Promise.{Alike, Promise}
 use Rattle.bay.proofs.Each.{Each, nothing, just}
 use Rattle.zone.proofs.BaysLaws.{like-last, like-more}
 use Rattle.zone.proofs.Keep.{Whole}
@@ -37,9 +36,9 @@ use Rattle.zone.proofs.InBuffer.{live-read, fixed-read, length-read}
 use Rattle.zone.proofs.Numbers.{work-number}
 use Rattle.zone.proofs.Initial.{Accepted, accepted, fresh-whole, fresh-stored}
 use Rattle.zone.specs.Claim.{History, stop, then, AllAlike, none-left, one-more, Never, never-nil, never-cons, Where, nowhere, here, Stands, Claim, TheList}
-use Rattle.zone.proofs.Fits.{Equal, same-sum, fresh-fits}
+use Rattle.zone.proofs.Fits.{same-sum, fresh-fits}
 use Rattle.zone.proofs.Matches.{Paired, Matches, matches, facts-same, handle-same, fixed-same, cards-same, live-same}
-use Rattle.zone.proofs.Works.{Same, work-same}
+use Rattle.zone.proofs.Works.{work-same}
 use Rattle.zone.proofs.MetBlocks.{spotsS, sumsS, fixed-walk, free-walk, reloc-walk}
 
 -- ---- a point of the list: the buffer holds a zone, and the zone is one with the ledger

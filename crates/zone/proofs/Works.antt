@@ -1,39 +1,38 @@
 -- A call that nothing refuses does the same work on a zone and on the ledger that is one with it: alike answers, and again one.
-use mathlib.Core.Path.{_≡_, refl, ap, ap₂, sym, _∙_, subst}
+use mathlib.Core.Path.{_≡_, refl, ap, ap₂, _∙_}
 use mathlib.Core.Bool.{Bool, true, false, cond, _&&_, not, true≢false}
 use mathlib.Core.Option.{Option, none, some, Option·getD}
-use mathlib.Core.List.{List, [], _∷_, _++_, map, Permᴰ·refl}
+use mathlib.Core.List.{List, [], _++_, map, Permᴰ·refl}
 use Prim.Native.Nat.{ℕ, zero, suc, _+_, _-_, _*_, _/_, _%_, _≤_, min}
 use native.Mathlib.Omega.{arith}
 use lib.ListN.{length, take, drop, length-replicate}
 use lib.Seq.{sets, length-sets}
 use lib.Dec.{leb, eqb, eqb·suc-zero}
-use borrow.Author.Tests.{leb-true, leb-false, eqb-true, lt-leb, not-false}
-use Rattle.block_type.specs.Limits.{relocHeader, fixedHeader, up4, relocNeed, fixedNeed, recordSize, longestZone}
-use Rattle.calls.specs.Calls.{Target, by-handle, by-pointer, Call, allocate-relocatable, allocate-fixed, free-handle, free-pointer, read, write, size, compact, sums, enlarge, shrink, view, roster, check, length-of, resize, Answer, told, toldTwo, shows, lists}
+use borrow.Author.Tests.{leb-true, eqb-true, not-false}
+use Rattle.block_type.specs.Limits.{relocHeader, up4, relocNeed, fixedNeed, recordSize, longestZone}
+use Rattle.calls.specs.Calls.{Target, by-handle, by-pointer, Call, allocate-relocatable, allocate-fixed, free-handle, free-pointer, read, write, size, compact, sums, enlarge, shrink, view, roster, check, length-of, resize, Answer, told, toldTwo, shows}
 use Rattle.calls.specs.Bays.{Bays, last, more, over, orElse, onLowest, mapS, onLast, findS, findF, lastS, maxS}
 use Rattle.kinds.specs.Kinds.{Item, itemSize}
-use Rattle.calls.specs.State.{get, is, newItem, sized, alter, Fixed, fsize, pointer, newFixed, alterFixed, State, Out, dataOf, ownSum, top, rest}
-use Rattle.calls.specs.Table.{below, isNone, isEmpty, refusalOf, causes, holdsIn, order}
+use Rattle.calls.specs.State.{get, newItem, sized, alter, Fixed, fsize, pointer, newFixed, alterFixed, Out, dataOf, ownSum, top}
+use Rattle.calls.specs.Table.{below, isNone, refusalOf, causes, holdsIn, order}
 use Rattle.calls.proofs.First.{among, clear, or-left}
 use Rattle.ledger.specs.Ledger as Book
 use Rattle.ledger.specs.Ledger.{Bay, Ledger, bay, sumOf, entriesOf, onEntries, without, less}
 use Rattle.bay.specs.Bay.{Cell, baySum, items, gap, joinBays, put, takeHigh, release, compactBay, edit, reshape}
 use Rattle.bay.specs.Counted.{count, live, roomFor}
-use Rattle.zone.specs.PickBays.{onLow}
 use Rattle.zone.specs.Search.{own}
 use Rattle.zone.specs.Work as Work
 use Rattle.zone.specs.Work.{Zone, has}
 use Rattle.zone.specs.Promise.{Alike}
 use Rattle.zone.proofs.Walk.{or-parts}
-use Rattle.zone.proofs.BaysLaws.{Both, absent, present, Like, like-last, like-more, onLow-like, onHigh-like, onJoin-like, mapS-like, onFixed-like, onLast-like, lastS-like}
+use Rattle.zone.proofs.BaysLaws.{Both, present, like-last, like-more, onLow-like, onHigh-like, onJoin-like, mapS-like, onFixed-like, onLast-like, lastS-like}
 use Rattle.bay.proofs.Sound.{Block, sum-by4}
 use Rattle.zone.proofs.Places.{alter-fsize}
 use Rattle.bay.proofs.Resize.{length-sized, resized-block}
 use Rattle.zone.proofs.Solid.{new-block, new-sized}
 use Rattle.zone.proofs.Found.{Found, lost, got, low-found, high-found, join-found, count-get, often, max-same, Named, unnamed, named, block-named}
 use Rattle.zone.proofs.Fits.{Fits, Equal, same-sum, put-fits, release-fits, edit-fits, reshape-fits, absent-fits, high-fits, compact-fits, grow-fits, fresh-fits, join-fits}
-use Rattle.zone.proofs.Matches.{Paired, Matches, matches, fixed-same, largest-same, total-same, count-same, cards-same, content-same, handle-same, own-sum-same}
+use Rattle.zone.proofs.Matches.{Paired, Matches, matches, largest-same, total-same, count-same, cards-same, content-same, own-sum-same}
 
 -- ---- where two searches find what the table lets through
 

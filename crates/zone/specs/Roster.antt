@@ -3,7 +3,7 @@ use mathlib.Core.List.{List, [], _∷_, _++_}
 use Prim.Native.Nat.{ℕ, zero, suc, _*_}
 use lib.ListN.{drop}
 use Rattle.bigendian.specs.BigEndian.{fromBE, toBE, slice}
-use Rattle.block_type.specs.Limits.{recordSize}
+use Rattle.block_type.specs.Limits.{recordSize, amountAt}
 use Rattle.calls.specs.Calls.{Card, Answer}
 
 -- the bytes of records
@@ -14,7 +14,7 @@ cardBytes (c ∷ cs) = toBE 4 (c .handle) ++ (toBE 4 (c .amount) ++ cardBytes cs
 -- the n records at the start of a second buffer
 abbrev pub cardsIn : ℕ → List ℕ → List Card
 cardsIn zero bs = []
-cardsIn (suc n) bs = record { handle = fromBE (slice bs 0 4); amount = fromBE (slice bs 4 4) } ∷ cardsIn n (drop recordSize bs)
+cardsIn (suc n) bs = record { handle = fromBE (slice bs 0 4); amount = fromBE (slice bs amountAt 4) } ∷ cardsIn n (drop recordSize bs)
 
 -- the answer that a refusal number, a value and the second buffer after the call stand for
 abbrev pub rosterAnswer : ℕ → ℕ → List ℕ → Answer

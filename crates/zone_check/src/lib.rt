@@ -3,7 +3,7 @@ ghost use mathlib.Core.Path.{_≡_};
 ghost use mathlib.Core.Bool.{true, false};
 ghost use Prim.Native.Nat.{_+_, _-_, _*_, _%_, _<_, _≤_};
 ghost use lib.ListN.{length, drop};
-ghost use Rattle.block_type.specs.Limits.{longestZone};
+ghost use Rattle.block_type.specs.Limits.{longestZone, argumentRange};
 ghost use Rattle.format.specs.WellFormed.{headerOk, splitBlocks, relocs, wellFormed, countOf};
 ghost use Rattle.format.specs.OneWalk.{links, blocksOk};
 ghost use Rattle.format.specs.Steps.{Fields};
@@ -39,7 +39,7 @@ fn blocks_ok(z: &[u8], first: usize) -> Tally
 
 // Whether n masters are visited from h on, and the last holds 0.
 fn chain_ok(z: &[u8], first: usize, n: usize, head: usize) -> bool
-    requires { ⌜ (first ≤ length (now z)) × (head < 4294967296) ⌝ }
+    requires { ⌜ (first ≤ length (now z)) × (head < argumentRange) ⌝ }
     ensures { λ r. ⌜ r ≡ links (now (z .entry)) first n head ⌝ }
 {
     let mut h = head;
@@ -57,19 +57,19 @@ fn chain_ok(z: &[u8], first: usize, n: usize, head: usize) -> bool
 pub fn header_ok(s: &[u8]) -> bool
     ensures { λ r. ⌜ r ≡ headerOk (now (s .entry)) ⌝ }
 {
-    if s.len() < 16 {
+    if s.len() < block_type::ZONE_HEADER {
         return false;
     }
-    let l = bigendian::get4(s, 0) as usize;
-    let first = bigendian::get4(s, 4) as usize;
-    let m = bigendian::get4(s, 8) as usize;
-    (s[14] == 0)
-        & (s[15] == 0)
+    let l = bigendian::get4(s, block_type::LENGTH_AT) as usize;
+    let first = bigendian::get4(s, block_type::FIRST_AT) as usize;
+    let m = bigendian::get4(s, block_type::MASTERS_AT) as usize;
+    (s[block_type::ZEROS_AT] == 0)
+        & (s[block_type::SECOND_ZERO_AT] == 0)
         & (l % 4 == 0)
         & (l <= s.len())
-        & (l <= 1048576)
-        & (m <= 8188)
-        & (first == 16 + 4 * m)
+        & (l <= block_type::LONGEST_ZONE)
+        & (m <= block_type::MOST_MASTERS)
+        & (first == block_type::ZONE_HEADER + block_type::MASTER_SIZE * m)
         & (first <= l)
 }
 
@@ -83,13 +83,13 @@ pub struct Header {
 // The header's fields, with what the test of the header says of them.
 pub fn fields(s: &[u8]) -> Header
     requires { ⌜ headerOk (now s) ≡ true ⌝ }
-    ensures { λ r. ⌜ (Fields (now (s .entry)) (r .len) (r .first) (r .masters) (r .chain)) × (r .chain < 4294967296) ⌝ }
+    ensures { λ r. ⌜ (Fields (now (s .entry)) (r .len) (r .first) (r .masters) (r .chain)) × (r .chain < argumentRange) ⌝ }
 {
     Header {
-        len: bigendian::get4(s, 0) as usize,
-        first: bigendian::get4(s, 4) as usize,
-        masters: bigendian::get4(s, 8) as usize,
-        chain: bigendian::get2(s, 12) as usize,
+        len: bigendian::get4(s, block_type::LENGTH_AT) as usize,
+        first: bigendian::get4(s, block_type::FIRST_AT) as usize,
+        masters: bigendian::get4(s, block_type::MASTERS_AT) as usize,
+        chain: bigendian::get2(s, block_type::CHAIN_AT) as usize,
     }
 }
 
@@ -100,7 +100,7 @@ pub struct Checked {
 
 // The test of what follows the header, of a zone z with no bytes beyond.
 fn body(z: &[u8], first: usize, m: usize, head: usize) -> Checked
-    requires { ⌜ (first ≤ length (now z)) × (first % 4 ≡ 0) × (length (now z) % 4 ≡ 0) × (length (now z) ≤ longestZone) × (head < 4294967296) ⌝ }
+    requires { ⌜ (first ≤ length (now z)) × (first % 4 ≡ 0) × (length (now z) % 4 ≡ 0) × (length (now z) ≤ longestZone) × (head < argumentRange) ⌝ }
     ensures { λ r. ⌜ Body (now (z .entry)) first m head (r .ok) (r .count) ⌝ }
 {
     let t = blocks_ok(z, first);

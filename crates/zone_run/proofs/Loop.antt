@@ -11,7 +11,7 @@ use mir.Syntax.{w64}
 use mir.Val.{Fits}
 use borrow.Author.Tests.{leb-true, ltb-true}
 use Rattle.format.proofs.Bool.{and-left, and-right}
-use Rattle.records.specs.Records.{output, afterInput}
+use Rattle.records.specs.Records.{output, afterInput, recordLength}
 use Rattle.records.specs.Shown.{Run}
 use Rattle.records.proofs.Split.{after-none}
 use Rattle.records.proofs.Chunks.{output-append, after-append}
@@ -21,7 +21,7 @@ pub seen-none : (buffer : List ℕ) → buffer ≡ freshBuffer → Seen 0 buffer
 seen-none buffer e = record { input = []; size = refl; leaves = e ∙ sym (after-none [] freshBuffer (omega arith)) }
 
 -- full chunks are whole records
-whole : (full : ℕ) (input : List ℕ) → length input ≡ full * chunkSize → length input % 16 ≡ 0
+whole : (full : ℕ) (input : List ℕ) → length input ≡ full * chunkSize → length input % recordLength ≡ 0
 whole full input e = omega arith
 
 pub continues : (full r : ℕ) (chunk entry exit out : List ℕ) → Seen (full * chunkSize) entry → Run chunk entry exit out r

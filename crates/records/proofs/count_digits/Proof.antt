@@ -3,6 +3,7 @@ use mathlib.Core.Path.{_≡_}
 use Prim.Native.Nat.{_+_, _≤_, _<_}
 use native.Mathlib.Omega.{arith}
 use lib.ListN.{length}
+use Rattle.block_type.specs.Limits.{argumentRange}
 use Rattle.records.specs.Records.{decimal}
 use Rattle.records.proofs.Decimal.{digits-most}
 use Rattle.records.proofs.Printing.{count-step, count-done}
@@ -10,7 +11,7 @@ use Rattle.records.proofs.count_digits.Statement.{statement}
 use Rattle.records.proofs.count_digits.Tie as tie
 
 abbrev Inv-loop : tie.InvT-loop
-Inv-loop n count₀ rest₀ count rest = (count + length (decimal rest) ≡ length (decimal n) + 1) × (rest < 4294967296) × (length (decimal n) ≤ 10)
+Inv-loop n count₀ rest₀ count rest = (count + length (decimal rest) ≡ length (decimal n) + 1) × (rest < argumentRange) × (length (decimal n) ≤ 10)
 
 abbrev μ-loop : tie.MeasureT-loop
 μ-loop n count₀ rest₀ count rest = rest

@@ -5,6 +5,7 @@ use borrow.Author.Needs.{needs}
 use native.Mathlib.Omega.{arith}
 use lib.ListN.{length}
 use Rattle.bigendian.specs.BigEndian.{overwrite}
+use Rattle.block_type.specs.Limits.{argumentRange}
 use Rattle.records.specs.Records.{decimal}
 use Rattle.records.proofs.Printing.{end-some, digit-start, digit-place, digit-before, digit-next, digit-room, digit-step, digits-done, set-same}
 use Rattle.records.proofs.put_decimal.Statement.{statement}
@@ -14,7 +15,7 @@ abbrev Inv-loop : tie.InvT-loop
 Inv-loop out₀ at n end i₀ rest₀ out i rest =
     (i + 1 ≡ at + length (decimal rest))
     × (at + length (decimal rest) ≤ length out)
-    × (rest < 4294967296)
+    × (rest < argumentRange)
     × (overwrite out at (decimal rest) ≡ overwrite out₀ at (decimal n))
     × (length out ≡ length out₀)
 

@@ -1,9 +1,9 @@
 use mathlib.Core.Path.{_≡_, refl}
-use Prim.Native.Nat.{_+_, _*_, _-_, _≤_}
+use Prim.Native.Nat.{_+_, _*_, _≤_}
 use native.Mathlib.Omega.{arith}
 use borrow.Author.Needs.{needs}
 use lib.ListN.{length}
-use Rattle.block_type.specs.Limits.{masterSize}
+use Rattle.block_type.specs.Limits.{masterSize, firstBlock, mostMasters, recordSize}
 use Rattle.bigendian.specs.BigEndian.{overwrite}
 use Rattle.format.specs.WellFormed.{offsets}
 use Rattle.zone.specs.Roster.{cardBytes}
@@ -13,7 +13,7 @@ use Rattle.roster.proofs.fill.Statement.{statement}
 use Rattle.roster.proofs.fill.Tie as tie
 
 abbrev Inv-loop : tie.InvT-loop
-Inv-loop z out₀ left₀ h₀ at₀ out left h at = (h + masterSize * left ≤ 32768) × (length out ≡ length out₀) × (at + 8 * length (cardsOf z (offsets h left)) ≤ length out) × (overwrite out at (cardBytes (cardsOf z (offsets h left))) ≡ overwrite out₀ 0 (cardBytes (allCards z)))
+Inv-loop z out₀ left₀ h₀ at₀ out left h at = (h + masterSize * left ≤ firstBlock mostMasters) × (length out ≡ length out₀) × (at + recordSize * length (cardsOf z (offsets h left)) ≤ length out) × (overwrite out at (cardBytes (cardsOf z (offsets h left))) ≡ overwrite out₀ 0 (cardBytes (allCards z)))
 
 abbrev μ-loop : tie.MeasureT-loop
 μ-loop z out₀ left₀ h₀ at₀ out left h at = left

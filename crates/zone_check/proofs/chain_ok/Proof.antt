@@ -1,15 +1,16 @@
 use borrow.Author.Tests.{not-true, not-false}
 use mathlib.Core.Path.{_≡_}
-use Prim.Native.Nat.{_-_, _<_}
+use Prim.Native.Nat.{_<_}
 use borrow.Author.Needs.{needs}
 use native.Mathlib.Omega.{arith}
+use Rattle.block_type.specs.Limits.{argumentRange}
 use Rattle.format.specs.OneWalk.{links}
 use Rattle.block_check.proofs.Leaves.{master-fits, links-step, links-no, links-done}
 use Rattle.zone_check.proofs.chain_ok.Statement.{statement}
 use Rattle.zone_check.proofs.chain_ok.Tie as tie
 
 abbrev Inv-loop : tie.InvT-loop
-Inv-loop z first n head h₀ left₀ h left = (h < 4294967296) × (links z first left h ≡ links z first n head)
+Inv-loop z first n head h₀ left₀ h left = (h < argumentRange) × (links z first left h ≡ links z first n head)
 
 abbrev μ-loop : tie.MeasureT-loop
 μ-loop z first n head h₀ left₀ h left = left

@@ -1,0 +1,193 @@
+#!/usr/bin/env python3
+"""Tests that header lengths, limits, type codes and the places of fields stand by name: no definition, no contract, no proof and no code has one of
+document 01's numbers as digits, but crates/block_type, where they are defined, and what MEANINGS and ALLOWED list with a reason.
+
+Every number of the text whose value is one of NUMBERS is looked at, so a new one is a fault until it is named, or listed here. What is listed and allows
+nothing (any more) is a fault too.
+"""
+import pathlib
+import re
+import sys
+
+import sources
+
+ROOT = pathlib.Path(__file__).resolve().parent.parent
+DEFINITIONS = "crates/block_type/"
+
+# each number of document 01, with the names that it has in crates/block_type/specs/Limits.antt
+NUMBERS = {
+    2: "fixedHeader, handleAt or relocCode",
+    4: "freeHeader, relocHeader, smallestBlock, masterSize, firstAt or amountAt",
+    8: "mastersAt or recordSize",
+    12: "chainAt",
+    14: "zerosAt",
+    15: "zerosAt + 1",
+    16: "zoneHeader",
+    64: "typeByteUnit",
+    8188: "mostMasters",
+    16384: "typeUnit",
+    32760: "relocLimit",
+    32762: "fixedLimit",
+    32764: "largestBlock",
+    32768: "relocCode * typeUnit or firstBlock mostMasters",
+    65536: "handleRange",
+    1048576: "longestZone",
+    4294967296: "argumentRange",
+}
+
+# an argument: a name, or what stands in parentheses
+ATOM = r"(?:[^\s()]+|\((?:[^()]|\((?:[^()]|\((?:[^()]|\((?:[^()]|\([^()]*\))*\))*\))*\))*\))"
+
+# smaller numbers that have a name where they stand in such a form: the form, whose group is the number, and the name
+FORMS = [
+    (rf"\b(?:typeOf|kindB) {ATOM} (?:≡|=) ([01])\b", "freeCode or fixedCode"),
+    (rf"\beqb \((?:typeOf|kindB) {ATOM}\) ([01])\b", "freeCode or fixedCode"),
+    (rf"\bk ≡ typeOf {ATOM} → .*\beqb k ([01])\b", "freeCode or fixedCode"),
+    (rf"\bslice {ATOM} (0) 4\b", "lengthAt"),
+    (r"(?:\boverwrite [^\s()]+|\)) (0) \(toBE 4\b", "lengthAt"),
+    (r"\b(?:get4|put4)\(\w+, (0)\b", "block_type::LENGTH_AT"),
+]
+
+# what such a number means wherever it stands in such a form: the form (its group, if it has one), and why it needs no name
+MEANINGS = [
+    (r"(?<![\w-])(?:length-|be-)?toBE [24]\b", "the width of a number that is written, in bytes"),
+    (r"(?<![\w-])(?:big|big-is) [24]\b", "the same, in a second definition of the bytes"),
+    (r"(?<![\w-])(?:take|take-take|part-bytes|be-front|peel) [24]\b", "the width of a number that stands in front, in bytes"),
+    (rf"\bslice {ATOM} {ATOM} ([24])\b", "the width of a number that is read, in bytes"),
+    (rf"\bslice-take {ATOM} {ATOM} {ATOM} ([24])\b", "the width of a number that is read, in bytes"),
+    (r"\b(?:length|first|masters|chain|handle)At \+ ([24])\b", "the end of a field: its place and its width"),
+    (r"% 4\b", "a multiple of 4"),
+    (r"/ 4 \* 4\b", "rounding to a multiple of 4"),
+    (r"/ 2\b", "bytes to words"),
+    (r"\* 2\b", "words to bytes"),
+    (r"(?<![\w.])2 \^", "a power of 2"),
+    (r"(?<![\w-])(?:cause|told|refused|holdsIn|number(?: ≡|:| =)|stretchNumber [\w ]+ ≡) ([248])\b", "a refusal number"),
+    (r"\bno_plan\([248]\)", "a refusal number"),
+]
+
+# where such a number means something else: the file (or what its name begins with), the form (its group, if it has one), and why
+CALLS = r"(?<![\w-])(?:allocate-(?:relocatable|fixed)|free-handle|enlarge|by-handle) \d+\b"
+WALKED = "the walk by hand: how many facts are passed over, or where one stands among them"
+ALLOWED = [
+    # widths, and bytes within a number
+    ("crates/bigendian/", r"\bat \+ [24] ≤", "the width of the number that is read or written"),
+    ("crates/bigendian/", r"\bat \+ 2\b(?= ?[)\]])", "the third byte of a number"),
+    ("crates/bigendian/", r"[*/] 65536\b", "what the second of four bytes counts"),
+    ("crates/kinds/proofs/KindLaws.antt", r"\bdrop-drop 2\b|\(drop 2\)|\(e \.bytes\) 2\b", "the handle's width"),
+    ("crates/structure/proofs/Codec.antt", r"(?:drop-drop|take-append-drop|\bdrop) 2\b(?= \(?(?:drop )?handleAt)", "the handle's width"),
+    ("crates/structure/proofs/Back.antt", rf"\bat-seam {ATOM} {ATOM} (4)\b", "the width of a master's number"),
+    ("crates/zone/specs/Roster.antt", r"handle = fromBE \(slice bs 0 4", "the handle is the first number of a record"),
+    # the census
+    ("crates/census/src/lib.rt", r"^ +(?:2|4|8|16|64|16384|32768|65536),$", "the table of lower limits, powers of 2"),
+    ("crates/census/proofs/lower/Proof.antt", r"^limits = .*", "the same table"),
+    # refusal numbers
+    ("crates/calls/specs/Table.antt", r"(?<![\w.])[248] ∷", "the order of the refusal numbers"),
+    ("crates/stretch/specs/Stretch.antt", r"\(cond \(leb n have\) 0 10\) (8)\b", "a refusal number"),
+    ("crates/stretch/proofs/Laws.antt", r"\bIsPart .* have (8)\b", "a refusal number"),
+    ("crates/allocate_relocatable/proofs/Outcome.antt", r"\bcleared a 4\b", "a refusal number"),
+    ("crates/zone/proofs/Initial.antt", r"\bclear \(badInitialize .*\) (2)\b", "a refusal number"),
+    ("crates/zone/proofs/Walk.antt", r"\bpassed \(allocate-relocatable c\) z e (4)\b", "a refusal number"),
+    ("crates/records/", r"\bline 2 0\b", "a refusal number, in a line that zone-run prints"),
+    # zone-run
+    ("crates/records/specs/Records.antt", r"^(?:recordLength|aAt|bAt|dAt) = \d+$", "the names of zone-run's records"),
+    ("crates/records/src/lib.rt", r"^const (?:RECORD_LENGTH|A_AT|B_AT|D_AT): usize = (\d+);$", "the same names in code"),
+    ("crates/records/specs/Book.antt", r"^bufferLength = 65536$", "the name of zone-run's buffer length"),
+    ("crates/zone_run/specs/Loop.antt", r"^chunkSize = 65536$", "the name of how much zone-run reads at a time"),
+    ("crates/zone_run/specs/Loop.antt", r"\b2 \^ 64\b", "what 64 bits hold"),
+    ("crates/zone_run/src/main.rt", r"^const (?:ZONE|CHUNK): usize = (65536);$", "the same names in code"),
+    ("crates/records/src/lib.rt", r"^ +[248] => ", "a record's code"),
+    ("crates/records/proofs/Acts.antt", r"\b(?:code ≡|beyond|asks) [248]\b", "a record's code"),
+    ("crates/records/", r"\(length \(decimal \w+\) \+ (2)\)", "the space and the end of a line"),
+    ("crates/records/proofs/Decimal.antt", r"\bdigits-more 8\b", "how many digits are left"),
+    ("crates/records/proofs/Example.antt", r"^example = .*", "document 01's example of zone-run"),
+    # a walker that is lent
+    ("crates/walker_run/src/main.rt", r"\bturns = (16384)usize\b", "more steps than a zone of 65,536 bytes has blocks"),
+    ("crates/walker_run/proofs/walk/Proof.antt", r"\bturns ≤ 16384\b", "the same"),
+    ("crates/walker/proofs/Walker/advance/Proof.antt", r"! \d+\b|! \([\d ∷]+\[\]\)", WALKED),
+    ("crates/walker/proofs/Walker/advance/Proof.antt", r"\bgoes-[\w-]+ 𝓤 H A W 2\b", "how many lifetimes the function has"),
+    ("crates/walker_run/proofs/step/Proof.antt", r"! \d+\b|! \([\d ∷]+\[\]\)", WALKED),
+    ("crates/walker_run/proofs/step/Proof.antt", r"\b2 \^ 64\b", "what 64 bits hold"),
+    # examples that are computed: their bytes, arguments and answers are the rig sheet's own, and the customer's
+    ("crates/zone/specs/RigSheet.antt", r"^fresh = .*", "the rig sheet: a zone of 64 bytes with 4 masters"),
+    ("crates/zone/specs/RigSheet.antt", r"\bcalls = [^;]*;", "the rig sheet: what is asked"),
+    ("crates/zone/specs/RigSheet.antt", r"\btold = [^;]*;", "the rig sheet: what is answered"),
+    ("crates/zone/specs/RigSheet.antt", r"\bpieces = .*|^ +(?:∷ )?piece .*", "the rig sheet: the bytes after it"),
+    ("crates/zone/specs/ReelB.antt", CALLS, "the customer's list: an argument"),
+    ("crates/zone/specs/ReelB.antt", r"\b(?:read|write|view) \([\w-]+ \d+\) \d+ \d+\b", "the customer's list: an offset and a count"),
+    ("crates/zone/specs/ReelB.antt", r"\breplicate 4 9\b", "the customer's list: a second buffer"),
+    ("crates/zone/specs/ReelB.antt", r"(?<![\w.])[248] ∷", "the customer's list: bytes and refusal numbers"),
+    ("crates/zone/proofs/Shown.antt", r"\b96 4\b", "the customer's list: a zone of 96 bytes with 4 masters"),
+    ("crates/zone/proofs/Shown.antt", r"≡ 64\b", "the customer's list: where the recipe's data are then"),
+]
+
+# crates that are being replaced: to be taken out of here with them
+LEFT_OUT = set(
+    "resize_in_place own_bay resize_layout resize_move resize_choice resize_relocate walk find_bay release compact_bay grow_bay bay_spots bay_changes"
+    " resize reshape relocate".split()
+)
+
+# an antt name may hold digits and marks; a number stands alone, or with a type's name in code
+NUMBER = re.compile(r"(?:(?<![^\s(){}\[\],;!])|(?<=\.\.)|(?<=\.\.=))(0x[\da-fA-F_]+|\d[\d_]*)(?:u8|u32|u64|usize)?(?![^\s(){}\[\],;.])")
+
+
+def text_of(root, name):
+    """A file without comments and imports, at the same lines."""
+    text = sources.read(root, name)
+    if name.endswith(".antt"):
+        text = sources.uncommented(text)
+    else:
+        text = re.sub(r"//.*", "", sources.masked(text))
+    return re.sub(r"^[ \t]*(?:(?:ghost|pub|unfoldable) )*use .*", "", text, flags=re.M)
+
+
+def files(root):
+    """All definitions, proofs and code but the definitions of the numbers."""
+    paths = [*root.glob("crates/*/specs/**/*.antt"), *root.glob("crates/*/proofs/**/*.antt"), *root.glob("crates/*/src/**/*.rt")]
+    names = sorted(path.relative_to(root).as_posix() for path in paths)
+    return [name for name in names if not name.startswith(DEFINITIONS) and name.split("/")[1] not in LEFT_OUT]
+
+
+def found(line):
+    """The numbers of a line that have a name: where each stands, its text and the name."""
+    for number in NUMBER.finditer(line):
+        value = int(number[1].replace("_", ""), 16 if number[1].startswith("0x") else 10)
+        if value in NUMBERS:
+            yield *number.span(1), number[0], NUMBERS[value]
+    for form, named in FORMS:
+        for match in re.finditer(form, line):
+            yield *match.span(1), match[0], named
+
+
+def covers(form, line, start, end):
+    """Whether a form matches a part of a line that holds a place; of a form with a group, that part is the group's."""
+    spans = [match.span(match.re.groups) for match in re.finditer(form, line)]
+    return any(low <= start and end <= high for low, high in spans)
+
+
+def faults_of(root, name, meanings, allowed, used):
+    """The numbers of a file that are to be named. The entries that allow one are put to those that are used."""
+    faults, entries = [], [entry for entry in allowed if name.startswith(entry[0])]
+    for at, line in enumerate(text_of(root, name).split("\n"), 1):
+        for start, end, text, named in found(line):
+            by = [entry for entry in meanings if covers(entry[0], line, start, end)]
+            by = by or [entry for entry in entries if covers(entry[1], line, start, end)]
+            used.update(by)
+            if not by:
+                faults.append(f"{name}:{at}: {text} is to be named: {named}")
+    return faults
+
+
+def faults(root, meanings=tuple(MEANINGS), allowed=tuple(ALLOWED)):
+    used = set()
+    faults = [fault for name in files(root) for fault in faults_of(root, name, meanings, allowed, used)]
+    return faults + [f"tools/numbers.py: allows nothing: {' : '.join(entry)}" for entry in [*meanings, *allowed] if entry not in used]
+
+
+def main():
+    lines = faults(ROOT)
+    print("\n".join(lines) if lines else "every number of document 01 stands by name")
+    return 1 if lines else 0
+
+
+if __name__ == "__main__":
+    sys.exit(main())
