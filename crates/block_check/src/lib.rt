@@ -1,13 +1,23 @@
 // One block of a zone: its type, its size, and whether it obeys the rules.
 use block_type::BlockType;
 ghost use mathlib.Core.Path.{_≡_};
-ghost use mathlib.Core.Bool.{cond};
-ghost use Prim.Native.Nat.{_+_, _<_, _≤_};
+ghost use mathlib.Core.Bool.{Bool, cond};
+ghost use Prim.Native.Nat.{_+_, _*_, _/_, _%_, _<_, _≤_};
 ghost use lib.ListN.{length, take, drop};
-ghost use Rattle.block_type.specs.Limits.{longestZone, smallestBlock, argumentRange};
+ghost use Rattle.block_type.specs.Limits.{longestZone, relocCode, masterSize, typeUnit, handleRange, smallestBlock, argumentRange};
 ghost use Rattle.format.specs.WellFormed.{typeOf, sizeOf, handleOf, isFree, isReloc, isMaster};
 ghost use Rattle.format.specs.OneWalk.{typeRule, freeRule, relocRule};
-ghost use Rattle.format.specs.Steps.{GoodSize};
+ghost use Rattle.format.specs.Steps.{GoodSize, Turn};
+ghost use Rattle.block_check.specs.Word.{IsWord, held, GoodBlock};
+
+// A block's word is the number in its first four bytes: of a relocatable block the type, its size in 2-byte words, the handle.
+const TYPE_UNIT: u32 = BlockType::TYPE_UNIT as u32;
+
+const TYPE_WORD: u32 = TYPE_UNIT * BlockType::HANDLE_RANGE;
+
+const RELOCATABLE_WORD: u32 = BlockType::RELOCATABLE_CODE as u32 * TYPE_WORD;
+
+const RELOCATABLE_END: u32 = RELOCATABLE_WORD + TYPE_WORD;
 
 pub fn is_master(first: usize, h: usize) -> bool
     requires { ⌜ h < argumentRange ⌝ }
@@ -102,4 +112,83 @@ pub fn good_size(z: &[u8], first: usize, prev: bool, at: usize) -> usize
         return n;
     }
     0
+}
+
+// The number in the four bytes at `at`; 0 where the zone ends there.
+pub fn word_at(z: &[u8], at: usize) -> u32
+    requires { ⌜ (at % 4 ≡ 0) × (length (now z) % 4 ≡ 0) ⌝ }
+    ensures { λ r. ⌜ (0 < r → IsWord (now (z .entry)) at r) ⌝ }
+{
+    if at < z.len() {
+        return bigendian::get4(z, at);
+    }
+    0
+}
+
+// The size and the handle of the relocatable block at `at`, from its word w.
+fn word_size(z: &[u8], at: usize, w: u32) -> usize
+    requires { ⌜ (IsWord (now z) at w) × (typeOf (drop at (now z)) ≡ relocCode) ⌝ }
+    ensures { λ r. ⌜ (r ≡ sizeOf (drop at (now (z .entry)))) × (r ≡ w / handleRange % typeUnit * 2) ⌝ }
+{
+    (w / BlockType::HANDLE_RANGE % TYPE_UNIT) as usize * 2
+}
+
+fn word_handle(z: &[u8], at: usize, w: u32) -> usize
+    requires { ⌜ IsWord (now z) at w ⌝ }
+    ensures { λ r. ⌜ (r ≡ handleOf (drop at (now (z .entry)))) × (r ≡ w % handleRange) ⌝ }
+{
+    (w % BlockType::HANDLE_RANGE) as usize
+}
+
+// Whether the master at h holds the data offset of a relocatable block at `at`, and the block's n bytes are there.
+fn is_held(z: &[u8], at: usize, n: usize, h: usize) -> bool
+    requires { ⌜ (h + masterSize ≤ length (now z)) × (at ≤ length (now z)) × (length (now z) ≤ longestZone) ⌝ }
+    ensures { λ r. ⌜ r ≡ held (now (z .entry)) at n h ⌝ }
+{
+    (bigendian::get4(z, h) as usize == at + BlockType::RELOCATABLE_HEADER) & (n <= z.len() - at)
+}
+
+// The size of the relocatable block at `at`, whose word is w, where it obeys the rules. A 0 says nothing: so a test that fails has nothing to set.
+// That size and handle are multiples of 4 is asked of the word: together that is one mask.
+fn reloc_size(z: &[u8], first: usize, at: usize, w: u32) -> usize
+    requires { ⌜ (at + 4 ≤ length (now z)) × (first ≤ length (now z)) × (first % 4 ≡ 0) × (length (now z) ≤ longestZone) × (IsWord (now z) at w) × (typeOf (drop at (now z)) ≡ relocCode) ⌝ }
+    ensures { λ r. ⌜ (0 < r → (prev : Bool) → Turn (now (z .entry)) first prev at r) ⌝ }
+{
+    let n = word_size(z, at, w);
+    let h = word_handle(z, at, w);
+    if (w % 4 == 0) & (w / BlockType::HANDLE_RANGE % 2 == 0) & (block_type::ZONE_HEADER <= h) & (h < first) {
+        if is_held(z, at, n, h) {
+            return n;
+        }
+    }
+    0
+}
+
+pub struct Block {
+    pub size: usize,
+    pub free: bool,
+    pub one: usize,
+}
+
+// The block at `at`: its size where it obeys the rules, else 0; whether it is free; 1 where it is relocatable, else 0.
+// w is its word, or 0. A good relocatable block is known by its word; any other is judged by its bytes.
+pub fn good_block(z: &[u8], first: usize, prev: bool, at: usize, w: u32) -> Block
+    requires { ⌜ (at + 4 ≤ length (now z)) × (first ≤ length (now z)) × (first % 4 ≡ 0) × (length (now z) ≤ longestZone) × (0 < w → IsWord (now z) at w) ⌝ }
+    ensures { λ r. ⌜ GoodBlock (now (z .entry)) first prev at (r .size) (r .free) (r .one) ⌝ }
+{
+    if (RELOCATABLE_WORD <= w) & (w < RELOCATABLE_END) {
+        let n = reloc_size(z, first, at, w);
+        if 0 < n {
+            return Block {
+                size: n,
+                free: false,
+                one: 1,
+            };
+        }
+    }
+    Block {
+        size: good_size(z, first, prev, at),
+        free: is_free(z, at),
+        one: reloc_one(z, at),
+    }
 }

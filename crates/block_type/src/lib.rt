@@ -2,7 +2,7 @@
 // Each is tied to the definition's number by a function that returns it.
 ghost use mathlib.Core.Path.{_≡_};
 ghost use Prim.Native.Nat.{_+_};
-ghost use Rattle.block_type.specs.Limits.{freeCode, fixedCode, relocCode, freeHeader, fixedHeader, relocHeader, handleAt, typeByteUnit, typeUnit, smallestBlock, fixedLimit, relocLimit};
+ghost use Rattle.block_type.specs.Limits.{freeCode, fixedCode, relocCode, freeHeader, fixedHeader, relocHeader, handleAt, handleRange, typeByteUnit, typeUnit, smallestBlock, fixedLimit, relocLimit};
 ghost use Rattle.block_type.specs.Limits.{zoneHeader, masterSize, longestZone, mostMasters, lengthAt, firstAt, mastersAt, chainAt, zerosAt, recordSize, amountAt};
 
 pub enum BlockType {
@@ -26,6 +26,9 @@ impl BlockType {
 
     // "Relocatable: the same 14 bits, then the handle (2 bytes)"
     pub const HANDLE_AT: usize = 2;
+
+    // "the handle (2 bytes)": handles are below
+    pub const HANDLE_RANGE: u32 = 65536;
 
     // "A block's first two bits are its type": what stands above 6 bits of its first byte
     pub const TYPE_BYTE_UNIT: u8 = 64;
@@ -80,6 +83,12 @@ impl BlockType {
         ensures { λ r. ⌜ r ≡ handleAt ⌝ }
     {
         BlockType::HANDLE_AT
+    }
+
+    pub fn handle_range() -> u32
+        ensures { λ r. ⌜ r ≡ handleRange ⌝ }
+    {
+        BlockType::HANDLE_RANGE
     }
 
     pub fn type_byte_unit() -> u8

@@ -29,31 +29,31 @@ fn largest(s: &[u8], from: usize, to: usize) -> u8
     most
 }
 
-// The largest of the 512 bytes from `from` on: a loop of a known length, which is compiled without a branch.
-fn largest_of_512(s: &[u8], from: usize) -> u8
-    requires { ⌜ from + 512 ≤ length (now s) ⌝ }
-    ensures { λ r. ⌜ eqb r 0 ≡ allZero (slice (now (s .entry)) from 512) ⌝ }
+// The largest of the 1024 bytes from `from` on: a loop of a known length, which is compiled without a branch.
+fn largest_of_1024(s: &[u8], from: usize) -> u8
+    requires { ⌜ from + 1024 ≤ length (now s) ⌝ }
+    ensures { λ r. ⌜ eqb r 0 ≡ allZero (slice (now (s .entry)) from 1024) ⌝ }
 {
     let mut most = 0;
     let mut i = 0;
-    while i < 512 {
+    while i < 1024 {
         most = larger(most, s[from + i]);
         i += 1;
     }
     most
 }
 
-// Whether every byte from `from` up to `to` is 0: whether the largest of each 512 is, and of the rest.
+// Whether every byte from `from` up to `to` is 0: whether the largest of each 1024 is, and of the rest.
 pub fn all_zero(s: &[u8], from: usize, to: usize) -> bool
     requires { ⌜ (from ≤ to) × (to ≤ length (now s)) ⌝ }
     ensures { λ r. ⌜ r ≡ allZero (slice (now (s .entry)) from (to - from)) ⌝ }
 {
     let mut at = from;
-    while 512 <= to - at {
-        if largest_of_512(s, at) != 0 {
+    while 1024 <= to - at {
+        if largest_of_1024(s, at) != 0 {
             return false;
         }
-        at += 512;
+        at += 1024;
     }
     largest(s, at, to) == 0
 }

@@ -15,6 +15,7 @@ pub struct Tally {
 }
 
 // Goes from block to block: whether all obey the rules, and how many are relocatable.
+// A block's word is read at the end of the turn before, and is 0 in the first: so it stays one load, whatever is asked of it.
 fn blocks_ok(z: &[u8], first: usize) -> Tally
     requires { ⌜ (first ≤ length (now z)) × (first % 4 ≡ 0) × (length (now z) % 4 ≡ 0) × (length (now z) ≤ longestZone) ⌝ }
     ensures { λ r. ⌜ (r .ok ≡ blocksOk (now (z .entry)) first false first (splitBlocks (drop first (now (z .entry))))) × (r .ok ≡ true → r .count ≡ relocs (splitBlocks (drop first (now (z .entry))))) ⌝ }
@@ -22,17 +23,20 @@ fn blocks_ok(z: &[u8], first: usize) -> Tally
     let mut at = first;
     let mut prev = false;
     let mut count = 0;
+    let mut word = 0;
     while at < z.len() {
-        let n = block_check::good_size(z, first, prev, at);
+        let b = block_check::good_block(z, first, prev, at, word);
+        let n = b.size;
         if n == 0 {
             return Tally {
                 ok: false,
                 count: 0,
             };
         }
-        prev = block_check::is_free(z, at);
-        count += block_check::reloc_one(z, at);
+        prev = b.free;
+        count += b.one;
         at += n;
+        word = block_check::word_at(z, at);
     }
     Tally { ok: true, count }
 }

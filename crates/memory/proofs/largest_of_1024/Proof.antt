@@ -8,14 +8,14 @@ use lib.Dec.{eqb}
 use Rattle.bigendian.specs.BigEndian.{slice}
 use Rattle.memory.specs.Zeros.{allZero}
 use Rattle.memory.proofs.Writes.{zero-step-from, zero-done}
-use Rattle.memory.proofs.largest_of_512.Statement.{statement}
-use Rattle.memory.proofs.largest_of_512.Tie as tie
+use Rattle.memory.proofs.largest_of_1024.Statement.{statement}
+use Rattle.memory.proofs.largest_of_1024.Tie as tie
 
 abbrev Inv-loop : tie.InvT-loop
-Inv-loop s from most₀ i₀ most i = (i ≤ 512) × (eqb most 0 && allZero (slice s (from + i) (512 - i)) ≡ allZero (slice s from 512))
+Inv-loop s from most₀ i₀ most i = (i ≤ 1024) × (eqb most 0 && allZero (slice s (from + i) (1024 - i)) ≡ allZero (slice s from 1024))
 
 abbrev μ-loop : tie.MeasureT-loop
-μ-loop s from most₀ i₀ most i = 512 - i
+μ-loop s from most₀ i₀ most i = 1024 - i
 
 loop-holds : tie.Need-loop-holds Inv-loop μ-loop
 loop-holds c = (omega arith, rw add-zero)
@@ -26,8 +26,8 @@ loop-again c = (omega arith, search zero-step-from)
 returns : tie.Need-returns Inv-loop μ-loop
 returns c = search zero-done
 
-pub largest-of-512-spec : {M : Type 1} → statement M
-largest-of-512-spec =
+pub largest-of-1024-spec : {M : Type 1} → statement M
+largest-of-1024-spec =
     tie.close
     (tie.spec
     Inv-loop
