@@ -16,7 +16,7 @@ DEFINITIONS = "crates/block_type/"
 
 # each number of document 01, with the names that it has in crates/block_type/specs/Limits.antt
 NUMBERS = {
-    2: "fixedHeader, handleAt or relocCode",
+    2: "fixedHeader, tagAt or relocCode",
     4: "freeHeader, relocHeader, smallestBlock, masterSize, firstAt or amountAt",
     8: "mastersAt or recordSize",
     12: "chainAt",
@@ -40,8 +40,8 @@ ATOM = r"(?:[^\s()]+|\((?:[^()]|\((?:[^()]|\((?:[^()]|\((?:[^()]|\([^()]*\))*\))
 
 # smaller numbers that have a name where they stand in such a form: the form, whose group is the number, and the name
 FORMS = [
-    (rf"\b(?:typeOf|kindB) {ATOM} (?:≡|=) ([01])\b", "freeCode or fixedCode"),
-    (rf"\beqb \((?:typeOf|kindB) {ATOM}\) ([01])\b", "freeCode or fixedCode"),
+    (rf"\b(?:typeOf|code) {ATOM} (?:≡|=) ([01])\b", "freeCode or fixedCode"),
+    (rf"\beqb \((?:typeOf|code) {ATOM}\) ([01])\b", "freeCode or fixedCode"),
     (rf"\bk ≡ typeOf {ATOM} → .*\beqb k ([01])\b", "freeCode or fixedCode"),
     (rf"\bslice {ATOM} (0) 4\b", "lengthAt"),
     (r"(?:\boverwrite [^\s()]+|\)) (0) \(toBE 4\b", "lengthAt"),
@@ -55,8 +55,9 @@ MEANINGS = [
     (r"(?<![\w-])(?:take|take-take|part-bytes|be-front|peel) [24]\b", "the width of a number that stands in front, in bytes"),
     (rf"\bslice {ATOM} {ATOM} ([24])\b", "the width of a number that is read, in bytes"),
     (rf"\bslice-take {ATOM} {ATOM} {ATOM} ([24])\b", "the width of a number that is read, in bytes"),
-    (r"\b(?:length|first|masters|chain|handle)At \+ ([24])\b", "the end of a field: its place and its width"),
+    (r"\b(?:length|first|masters|chain|tag)At \+ ([24])\b", "the end of a field: its place and its width"),
     (r"% 4\b", "a multiple of 4"),
+    (r"/ (?:handleRange|BlockType::HANDLE_RANGE) % 2\b", "the same of a size in words"),
     (r"/ 4 \* 4\b", "rounding to a multiple of 4"),
     (r"/ 2\b", "bytes to words"),
     (r"\* 2\b", "words to bytes"),
@@ -74,7 +75,7 @@ ALLOWED = [
     ("crates/bigendian/", r"\bat \+ 2\b(?= ?[)\]])", "the third byte of a number"),
     ("crates/bigendian/", r"[*/] 65536\b", "what the second of four bytes counts"),
     ("crates/kinds/proofs/KindLaws.antt", r"\bdrop-drop 2\b|\(drop 2\)|\(e \.bytes\) 2\b", "the handle's width"),
-    ("crates/structure/proofs/Codec.antt", r"(?:drop-drop|take-append-drop|\bdrop) 2\b(?= \(?(?:drop )?handleAt)", "the handle's width"),
+    ("crates/structure/proofs/Codec.antt", r"(?:drop-drop|take-append-drop|\bdrop) 2\b(?= \(?(?:drop )?tagAt)", "the handle's width"),
     ("crates/structure/proofs/Back.antt", rf"\bat-seam {ATOM} {ATOM} (4)\b", "the width of a master's number"),
     ("crates/zone/specs/Roster.antt", r"handle = fromBE \(slice bs 0 4", "the handle is the first number of a record"),
     # the census
@@ -120,12 +121,6 @@ ALLOWED = [
     ("crates/zone/proofs/Shown.antt", r"≡ 64\b", "the customer's list: where the recipe's data are then"),
 ]
 
-# crates that are being replaced: to be taken out of here with them
-LEFT_OUT = set(
-    "resize_in_place own_bay resize_layout resize_move resize_choice resize_relocate walk find_bay release compact_bay grow_bay bay_spots bay_changes"
-    " resize reshape relocate".split()
-)
-
 # an antt name may hold digits and marks; a number stands alone, or with a type's name in code
 NUMBER = re.compile(r"(?:(?<![^\s(){}\[\],;!])|(?<=\.\.)|(?<=\.\.=))(0x[\da-fA-F_]+|\d[\d_]*)(?:u8|u32|u64|usize)?(?![^\s(){}\[\],;.])")
 
@@ -144,7 +139,7 @@ def files(root):
     """All definitions, proofs and code but the definitions of the numbers."""
     paths = [*root.glob("crates/*/specs/**/*.antt"), *root.glob("crates/*/proofs/**/*.antt"), *root.glob("crates/*/src/**/*.rt")]
     names = sorted(path.relative_to(root).as_posix() for path in paths)
-    return [name for name in names if not name.startswith(DEFINITIONS) and name.split("/")[1] not in LEFT_OUT]
+    return [name for name in names if not name.startswith(DEFINITIONS)]
 
 
 def found(line):

@@ -29,8 +29,8 @@ carve-fit z z₁ at n need h next x l e =
       bytes = rw e (ap (take n) (drop-write z chainAt at (toBE 2 next) (omega (arith, x .below)) (omega (arith, x .inside))) ∙ x .bytes);
     }
 
-pub carve-done : (z z₁ z₂ z₃ : List ℕ) (at n need h next : ℕ) → zoneHeader ≤ h → z₁ ≡ overwrite z 12 (toBE 2 next) → z₂ ≡ overwrite z₁ at (bytesOf (held (blank need h) ∷ gap (n - need) []))
-    → z₃ ≡ overwrite z₂ h (toBE 4 (at + relocHeader)) → z₃ ≡ settled (overwrite z 12 (toBE 2 next)) at (held (blank need h) ∷ gap (n - need) [])
+pub carve-done : (z z₁ z₂ z₃ : List ℕ) (at n need h next : ℕ) → zoneHeader ≤ h → z₁ ≡ overwrite z chainAt (toBE 2 next) → z₂ ≡ overwrite z₁ at (bytesOf (held (blank need h) ∷ gap (n - need) []))
+    → z₃ ≡ overwrite z₂ h (toBE 4 (at + relocHeader)) → z₃ ≡ settled (overwrite z chainAt (toBE 2 next)) at (held (blank need h) ∷ gap (n - need) [])
 carve-done z z₁ z₂ z₃ at n need h next l e₁ e₂ e₃ =
     e₃ ∙ ap (λ (y : List ℕ). overwrite y h (toBE 4 (at + relocHeader))) (e₂ ∙ ap (λ (y : List ℕ). overwrite y at (bytesOf (held (blank need h) ∷ gap (n - need) []))) e₁)
-    ∙ sym (set-one (overwrite z 12 (toBE 2 next)) at (n - need) (blank need h) (omega arith))
+    ∙ sym (set-one (overwrite z chainAt (toBE 2 next)) at (n - need) (blank need h) (omega arith))

@@ -10,7 +10,7 @@ use lib.Dec.{eqb, leb}
 use borrow.Author.Tests.{eq-eqb, ne-eqb, leb-true, eqb-true, le-leb, lt-leb, not-true, not-false}
 use lib.ListN.{length, getD, take, drop, length-drop}
 use lib.Seq.{getD-drop, drop-drop}
-use Rattle.block_type.specs.Limits.{longestZone, masterSize, mostMasters, typeUnit, zoneHeader, freeHeader, relocHeader, smallestBlock, freeCode, fixedCode, relocCode, handleAt, typeByteUnit, zerosAt}
+use Rattle.block_type.specs.Limits.{longestZone, masterSize, mostMasters, typeUnit, zoneHeader, freeHeader, relocHeader, smallestBlock, freeCode, fixedCode, relocCode, tagAt, typeByteUnit, zerosAt}
 use Rattle.bigendian.specs.BigEndian.{fromBE, slice}
 use Rattle.memory.specs.Zeros.{allZero}
 use Rattle.format.proofs.Bool.{and-left, and-right, is-false, not-both}
@@ -64,15 +64,15 @@ free-rule z at n prev t e h q =
     let d : at + n - (at + freeHeader) ≡ n - freeHeader = omega arith in
     rw (e, drop-take freeHeader n (drop at z), drop-drop freeHeader at z, ← d) q
 
-pub reloc-rule : (z : List ℕ) (first at h v : ℕ) (t : Bool) → h ≡ fromBE (slice z (at + handleAt) 2) → t ≡ isMaster first h → t ≡ true → v ≡ fromBE (slice z h 4)
+pub reloc-rule : (z : List ℕ) (first at h v : ℕ) (t : Bool) → h ≡ fromBE (slice z (at + tagAt) 2) → t ≡ isMaster first h → t ≡ true → v ≡ fromBE (slice z h 4)
     → eqb v (at + relocHeader) ≡ relocRule z first at (handleOf (drop at z))
 unfolding relocRule handleOf
-reloc-rule z first at h v t e q y w = rw (drop-drop handleAt at z, ← e, ← q, y, w)
+reloc-rule z first at h v t e q y w = rw (drop-drop tagAt at z, ← e, ← q, y, w)
 
-pub reloc-rule-no : (z : List ℕ) (first at h : ℕ) (t : Bool) → h ≡ fromBE (slice z (at + handleAt) 2) → t ≡ isMaster first h → t ≡ false
+pub reloc-rule-no : (z : List ℕ) (first at h : ℕ) (t : Bool) → h ≡ fromBE (slice z (at + tagAt) 2) → t ≡ isMaster first h → t ≡ false
     → false ≡ relocRule z first at (handleOf (drop at z))
 unfolding relocRule handleOf
-reloc-rule-no z first at h t e q y = rw (drop-drop handleAt at z, ← e, ← q, y)
+reloc-rule-no z first at h t e q y = rw (drop-drop tagAt at z, ← e, ← q, y)
 
 module _ (k : ℕ) (free reloc : Bool) where
   pub rule-free : (r : List ℕ) (t : Bool) → k ≡ typeOf r → k ≡ freeCode → t ≡ free → t ≡ typeRule (typeOf r) free reloc

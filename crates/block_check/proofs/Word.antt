@@ -10,7 +10,7 @@ use lib.Dec.{eqb, leb, ltb}
 use borrow.Author.Tests.{eq-eqb, leb-true, ltb-true, eqb-true, le-leb}
 use lib.ListN.{length, getD, take, drop, length-drop}
 use lib.Seq.{drop-drop}
-use Rattle.block_type.specs.Limits.{relocCode, relocHeader, typeUnit, handleRange, zoneHeader, masterSize, smallestBlock}
+use Rattle.block_type.specs.Limits.{relocCode, relocHeader, typeUnit, handleRange, zoneHeader, masterSize, smallestBlock, tagAt}
 use Rattle.bigendian.specs.BigEndian.{fromBE, slice}
 use Rattle.bigendian.proofs.Laws.{be2-at, be4-at}
 use Rattle.format.proofs.Bool.{and-left, and-right}
@@ -27,12 +27,12 @@ word-law z at w b l f g e =
     let p = e ∙ be4-at z at (omega arith) in
     let b₀ = b at .fits in
     let b₁ = b (at + 1) .fits in
-    let b₂ = b (at + 2) .fits in
+    let b₂ = b (at + tagAt) .fits in
     let b₃ = b (at + 3) .fits in
     let q = be2-at z at (omega arith) in
-    let i : at + 2 + 1 ≡ at + 3 = omega arith in
-    let q₂ = (rw i at (be2-at z (at + 2) (omega arith))) in
-    record { is-type = sym (kind-law z at) ∙ omega arith; is-half = omega arith; is-handle = rw (drop-drop 2 at z) (omega arith) }
+    let i : at + tagAt + 1 ≡ at + 3 = omega arith in
+    let q₂ = (rw i at (be2-at z (at + tagAt) (omega arith))) in
+    record { is-type = sym (kind-law z at) ∙ omega arith; is-half = omega arith; is-handle = rw (drop-drop tagAt at z) (omega arith) }
 
 pub word-size : (z : List ℕ) (at w : ℕ) → IsWord z at w → typeOf (drop at z) ≡ relocCode → w / handleRange % typeUnit * 2 ≡ sizeOf (drop at z)
 word-size z at w i k = size-used (drop at z) relocCode (w / handleRange) (sym k) (λ q. omega arith) (i .is-half)

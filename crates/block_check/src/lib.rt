@@ -77,7 +77,7 @@ fn reloc_ok(z: &[u8], first: usize, at: usize) -> bool
     requires { ⌜ (at + smallestBlock ≤ length (now z)) × (first ≤ length (now z)) × (length (now z) ≤ longestZone) ⌝ }
     ensures { λ r. ⌜ r ≡ relocRule (now (z .entry)) first at (handleOf (drop at (now (z .entry)))) ⌝ }
 {
-    let h = bigendian::get2(z, at + BlockType::HANDLE_AT) as usize;
+    let h = bigendian::get2(z, at + BlockType::TAG_AT) as usize;
     if is_master(first, h) {
         return bigendian::get4(z, h) as usize == at + BlockType::RELOCATABLE_HEADER;
     }
@@ -151,7 +151,7 @@ fn is_held(z: &[u8], at: usize, n: usize, h: usize) -> bool
 // The size of the relocatable block at `at`, whose word is w, where it obeys the rules. A 0 says nothing: so a test that fails has nothing to set.
 // That size and handle are multiples of 4 is asked of the word: together that is one mask.
 fn reloc_size(z: &[u8], first: usize, at: usize, w: u32) -> usize
-    requires { ⌜ (at + 4 ≤ length (now z)) × (first ≤ length (now z)) × (first % 4 ≡ 0) × (length (now z) ≤ longestZone) × (IsWord (now z) at w) × (typeOf (drop at (now z)) ≡ relocCode) ⌝ }
+    requires { ⌜ (at + smallestBlock ≤ length (now z)) × (first ≤ length (now z)) × (first % 4 ≡ 0) × (length (now z) ≤ longestZone) × (IsWord (now z) at w) × (typeOf (drop at (now z)) ≡ relocCode) ⌝ }
     ensures { λ r. ⌜ (0 < r → (prev : Bool) → Turn (now (z .entry)) first prev at r) ⌝ }
 {
     let n = word_size(z, at, w);
@@ -173,7 +173,7 @@ pub struct Block {
 // The block at `at`: its size where it obeys the rules, else 0; whether it is free; 1 where it is relocatable, else 0.
 // w is its word, or 0. A good relocatable block is known by its word; any other is judged by its bytes.
 pub fn good_block(z: &[u8], first: usize, prev: bool, at: usize, w: u32) -> Block
-    requires { ⌜ (at + 4 ≤ length (now z)) × (first ≤ length (now z)) × (first % 4 ≡ 0) × (length (now z) ≤ longestZone) × (0 < w → IsWord (now z) at w) ⌝ }
+    requires { ⌜ (at + smallestBlock ≤ length (now z)) × (first ≤ length (now z)) × (first % 4 ≡ 0) × (length (now z) ≤ longestZone) × (0 < w → IsWord (now z) at w) ⌝ }
     ensures { λ r. ⌜ GoodBlock (now (z .entry)) first prev at (r .size) (r .free) (r .one) ⌝ }
 {
     if (RELOCATABLE_WORD <= w) & (w < RELOCATABLE_END) {

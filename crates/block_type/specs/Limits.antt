@@ -25,8 +25,8 @@ abbrev pub relocHeader : ℕ
 relocHeader = 4
 
 -- "Relocatable: the same 14 bits, then the handle (2 bytes)"
-abbrev pub handleAt : ℕ
-handleAt = 2
+abbrev pub tagAt : ℕ
+tagAt = 2
 
 -- ---- "A block's first two bits are its type": of its first byte the type is what stands above 6 bits
 

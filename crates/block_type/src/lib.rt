@@ -2,7 +2,7 @@
 // Each is tied to the definition's number by a function that returns it.
 ghost use mathlib.Core.Path.{_≡_};
 ghost use Prim.Native.Nat.{_+_};
-ghost use Rattle.block_type.specs.Limits.{freeCode, fixedCode, relocCode, freeHeader, fixedHeader, relocHeader, handleAt, handleRange, typeByteUnit, typeUnit, smallestBlock, fixedLimit, relocLimit};
+ghost use Rattle.block_type.specs.Limits.{freeCode, fixedCode, relocCode, freeHeader, fixedHeader, relocHeader, tagAt, handleRange, typeByteUnit, typeUnit, smallestBlock, fixedLimit, relocLimit};
 ghost use Rattle.block_type.specs.Limits.{zoneHeader, masterSize, longestZone, mostMasters, lengthAt, firstAt, mastersAt, chainAt, zerosAt, recordSize, amountAt};
 
 pub enum BlockType {
@@ -25,7 +25,7 @@ impl BlockType {
     pub const RELOCATABLE_HEADER: usize = 4;
 
     // "Relocatable: the same 14 bits, then the handle (2 bytes)"
-    pub const HANDLE_AT: usize = 2;
+    pub const TAG_AT: usize = 2;
 
     // "the handle (2 bytes)": handles are below
     pub const HANDLE_RANGE: u32 = 65536;
@@ -79,10 +79,10 @@ impl BlockType {
         BlockType::RELOCATABLE_HEADER
     }
 
-    pub fn handle_at() -> usize
-        ensures { λ r. ⌜ r ≡ handleAt ⌝ }
+    pub fn tag_at() -> usize
+        ensures { λ r. ⌜ r ≡ tagAt ⌝ }
     {
-        BlockType::HANDLE_AT
+        BlockType::TAG_AT
     }
 
     pub fn handle_range() -> u32

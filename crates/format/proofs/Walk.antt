@@ -10,7 +10,7 @@ use lib.Dec.{eqb, leb}
 use borrow.Author.Tests.{eq-eqb, ne-eqb, leb-true, eqb-true, le-leb}
 use lib.ListN.{length, take, drop, length-take, length-drop, drop-of-length-le}
 use lib.Seq.{take-take, getD-take, drop-drop, take-nil}
-use Rattle.block_type.specs.Limits.{typeUnit, smallestBlock, freeCode, handleAt}
+use Rattle.block_type.specs.Limits.{typeUnit, smallestBlock, freeCode, tagAt}
 use Rattle.bigendian.specs.BigEndian.{fromBE, slice}
 use Rattle.format.proofs.Bool.{and-left, and-right}
 pub use Rattle.format.specs.Steps.{Turn}
@@ -68,7 +68,7 @@ module _ (n : ℕ) (r : List ℕ) (h : smallestBlock ≤ n) where
 
   pub handle-take : handleOf (take n r) ≡ handleOf r
   unfolding handleOf
-  handle-take = rw (drop-take handleAt n r, take-take 2 (n - handleAt) (drop handleAt r) (omega arith))
+  handle-take = rw (drop-take tagAt n r, take-take 2 (n - tagAt) (drop tagAt r) (omega arith))
 
   pub free-take : isFree (take n r) ≡ isFree r
   unfolding isFree

@@ -9,7 +9,7 @@ use lib.ListN.{length, getD, take, drop}
 use lib.Dec.{eqb, leb}
 use Rattle.bigendian.specs.BigEndian.{fromBE, slice}
 use Rattle.memory.specs.Zeros.{allZero}
-use Rattle.block_type.specs.Limits.{freeCode, relocCode, freeHeader, relocHeader, zoneHeader, masterSize, firstBlock, longestZone, mostMasters, typeUnit, smallestBlock, handleAt, typeByteUnit, lengthAt, firstAt, mastersAt, chainAt, zerosAt}
+use Rattle.block_type.specs.Limits.{freeCode, relocCode, freeHeader, relocHeader, zoneHeader, masterSize, firstBlock, longestZone, mostMasters, typeUnit, smallestBlock, tagAt, typeByteUnit, lengthAt, firstAt, mastersAt, chainAt, zerosAt}
 
 -- ---- the header: "at 0 the length L (4 bytes); at 4 bkFst, .. (4); at 8 m, .. (4); at 12 hFstFree, .. (2)"
 
@@ -51,7 +51,7 @@ sizeOf b = cond (eqb (typeOf b) freeCode) (fromBE (take 4 b) * 2) (fromBE (take 
 
 -- "then the handle (2 bytes)"
 unfoldable pub handleOf : List ℕ → ℕ
-handleOf b = fromBE (slice b handleAt 2)
+handleOf b = fromBE (slice b tagAt 2)
 
 unfoldable pub isFree : List ℕ → Bool
 isFree b = eqb (typeOf b) freeCode

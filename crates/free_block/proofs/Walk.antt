@@ -21,6 +21,7 @@ use Rattle.row.proofs.Laws.{row-end, stepped}
 use Rattle.row.proofs.Zone.{valid-sound}
 use Rattle.free_block.specs.Around.{partOf, lastPart, firstPart}
 use Rattle.free_block.specs.Walk.{Below, Passed, Stopped}
+use Rattle.block_type.specs.Limits.{freeCode}
 
 -- ---- one block
 
@@ -28,7 +29,7 @@ same-bool : (t : Bool) (a : ℕ) → cond t a a + 0 ≡ a
 same-bool true a = add-zero a
 same-bool false a = add-zero a
 
-part-kind : (b : Block) → partOf b ≡ cond (eqb (code b) 0) (size b) 0
+part-kind : (b : Block) → partOf b ≡ cond (eqb (code b) freeCode) (size b) 0
 part-kind (cell (free n)) = refl
 part-kind (cell (held e)) = refl
 part-kind (fixed d) = refl

@@ -7,12 +7,12 @@ use lib.ListN.{length, drop}
 use lib.Seq.{drop-drop, drop-at}
 use Rattle.bigendian.specs.BigEndian.{toBE}
 use Rattle.bigendian.proofs.Laws.{length-toBE, be-front}
-use Rattle.block_type.specs.Limits.{freeHeader, fixedCode, relocCode, relocHeader, typeUnit, handleAt}
+use Rattle.block_type.specs.Limits.{freeHeader, fixedCode, relocCode, relocHeader, typeUnit, tagAt}
 use Rattle.format.specs.WellFormed.{typeOf, handleOf}
 use Rattle.kinds.specs.Kinds.{Item, item, codeOf, headerOf, tagOf, masterOf, itemIn, ItemOk}
 
 -- type and size take 2 bytes of a header, the tag the others
-pub tag-long : (e : Item) → length (tagOf e) + handleAt ≡ headerOf e
+pub tag-long : (e : Item) → length (tagOf e) + tagAt ≡ headerOf e
 tag-long e = omega (arith, length-toBE 2 (e .handle))
 
 -- codes are neither free nor fixed and have two bits; headers have room for a free block's
@@ -37,9 +37,9 @@ unfolding handleOf
 item-back e w l ok =
     let v = relocCode * typeUnit + w in
     let b = toBE 2 v ++ (toBE 2 (e .handle) ++ e .bytes) in
-    let d : drop handleAt b ≡ toBE 2 (e .handle) ++ e .bytes = drop-at (toBE 2 v) (toBE 2 (e .handle) ++ e .bytes) handleAt (length-toBE 2 v) in
+    let d : drop tagAt b ≡ toBE 2 (e .handle) ++ e .bytes = drop-at (toBE 2 v) (toBE 2 (e .handle) ++ e .bytes) tagAt (length-toBE 2 v) in
     let h : handleOf b ≡ e .handle = rw d (be-front 2 (e .handle) (e .bytes) (omega arith)) in
-    let r : drop relocHeader b ≡ e .bytes = sym (drop-drop 2 handleAt b) ∙ ap (drop 2) d ∙ drop-at (toBE 2 (e .handle)) (e .bytes) 2 (length-toBE 2 (e .handle)) in
+    let r : drop relocHeader b ≡ e .bytes = sym (drop-drop 2 tagAt b) ∙ ap (drop 2) d ∙ drop-at (toBE 2 (e .handle)) (e .bytes) 2 (length-toBE 2 (e .handle)) in
     ap₂ item h r
 
 -- ---- masters

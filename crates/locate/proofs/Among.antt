@@ -8,7 +8,7 @@ use native.Mathlib.Omega.{arith}
 use lib.ListN.{length}
 use lib.Dec.{eqb}
 use borrow.Author.Tests.{ne-eqb}
-use Rattle.block_type.specs.Limits.{fixedHeader, relocHeader}
+use Rattle.block_type.specs.Limits.{fixedHeader, relocHeader, fixedCode}
 use Rattle.structure.specs.Structure.{Block, fixed, size, cell, code}
 use Rattle.calls.specs.Calls.{Target, by-handle, by-pointer}
 use Rattle.calls.specs.Bays.{Bays, last, more, over, orElse, findS, findF}
@@ -21,13 +21,13 @@ use Rattle.access.specs.Named.{placeAmong, dataAmong}
 -- ---- by pointer, one block
 
 module _ (p at : ℕ) (bs : List Block) where
-  pub pointer-place : (b : Block) → placeAmong (by-pointer p) at (b ∷ bs) ≡ cond (eqb (code b) 1 && eqb p (at + fixedHeader)) (at + fixedHeader) (placeAmong (by-pointer p) (at + size b) bs)
+  pub pointer-place : (b : Block) → placeAmong (by-pointer p) at (b ∷ bs) ≡ cond (eqb (code b) fixedCode && eqb p (at + fixedHeader)) (at + fixedHeader) (placeAmong (by-pointer p) (at + size b) bs)
   unfolding placeAmong
   pointer-place (cell (free n)) = refl
   pointer-place (fixed d) = refl
   pointer-place (cell (held it)) = refl
 
-  pub pointer-data : (b : Block) → length (dataAmong (by-pointer p) at (b ∷ bs)) ≡ cond (eqb (code b) 1 && eqb p (at + fixedHeader)) (size b - fixedHeader) (length (dataAmong (by-pointer p) (at + size b) bs))
+  pub pointer-data : (b : Block) → length (dataAmong (by-pointer p) at (b ∷ bs)) ≡ cond (eqb (code b) fixedCode && eqb p (at + fixedHeader)) (size b - fixedHeader) (length (dataAmong (by-pointer p) (at + size b) bs))
   unfolding dataAmong
   pointer-data (cell (free n)) = refl
   pointer-data (fixed d) = go (eqb p (at + fixedHeader))

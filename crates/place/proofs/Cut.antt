@@ -5,7 +5,7 @@ use Prim.Native.Nat.{ℕ, zero, suc, _+_, _-_, _*_, _/_, _<_, _≤_}
 use native.Mathlib.Omega.{arith}
 use lib.ListN.{length, take, drop, replicate, length-replicate, length-append, length-take, length-drop, take-append-drop}
 use lib.Seq.{drop-drop, take-take, drop-append-add}
-use Rattle.block_type.specs.Limits.{freeHeader, relocCode, relocHeader, typeUnit, handleAt}
+use Rattle.block_type.specs.Limits.{freeHeader, relocCode, relocHeader, typeUnit, tagAt}
 use Rattle.bigendian.specs.BigEndian.{toBE, slice, overwrite}
 use Rattle.bigendian.proofs.Laws.{length-toBE}
 use Rattle.bigendian.proofs.Overwrite.{take-write, drop-write}
@@ -52,11 +52,11 @@ free-zeros z at n i k e h l =
 -- ---- a block of any kind
 
 module _ (z z₁ z₂ : List ℕ) (at n need h : ℕ) (x : Fit z at n need h) (e : Item) (en : itemSize e ≡ need) (ez : e .bytes ≡ replicate (need - headerOf e) 0)
-    (e₁ : z₁ ≡ overwrite z at (toBE 2 (codeOf e * typeUnit + need / 2))) (e₂ : z₂ ≡ overwrite z₁ (at + handleAt) (tagOf e)) where
+    (e₁ : z₁ ≡ overwrite z at (toBE 2 (codeOf e * typeUnit + need / 2))) (e₂ : z₂ ≡ overwrite z₁ (at + tagAt) (tagOf e)) where
   abbrev head : List ℕ
   head = toBE 2 (codeOf e * typeUnit + need / 2)
 
-  long-head : length head ≡ handleAt
+  long-head : length head ≡ tagAt
   long-head = length-toBE 2 (codeOf e * typeUnit + need / 2)
 
   new-is : encodeCell (held e) ≡ head ++ (tagOf e ++ replicate (need - headerOf e) 0)
@@ -71,7 +71,7 @@ module _ (z z₁ z₂ : List ℕ) (at n need h : ℕ) (x : Fit z at n need h) (e
   placed : z₂ ≡ overwrite z at (encodeCell (held e))
   placed =
       let lu : length (head ++ tagOf e) ≡ headerOf e = rw length-append (omega (arith, long-head, tag-long e)) in
-      e₂ ∙ (rw e₁ (write-more z head (tagOf e) at (at + handleAt) (omega (arith, long-head)) (omega (arith, tag-long e, x .fits, x .inside))))
+      e₂ ∙ (rw e₁ (write-more z head (tagOf e) at (at + tagAt) (omega (arith, long-head)) (omega (arith, tag-long e, x .fits, x .inside))))
       ∙ write-pad z (head ++ tagOf e) (replicate (need - headerOf e) 0) at (at + headerOf e) (need - headerOf e) (omega arith)
       (free-zeros z at n (headerOf e) (need - headerOf e) (x .bytes) (facts e .low) (omega (arith, x .fits))) (omega (arith, x .fits, x .inside))
       ∙ ap (λ (y : List ℕ). overwrite z at y) (append-assoc head (tagOf e) (replicate (need - headerOf e) 0) ∙ sym new-is)
@@ -101,7 +101,7 @@ pub blank-size : (need h : ℕ) → relocHeader ≤ need → itemSize (blank nee
 blank-size need h l = omega (arith, length-replicate {A = ℕ} (need - relocHeader) 0)
 
 module _ (z z₁ z₂ : List ℕ) (at n need h : ℕ) (x : Fit z at n need h)
-    (e₁ : z₁ ≡ overwrite z at (toBE 2 (relocCode * typeUnit + need / 2))) (e₂ : z₂ ≡ overwrite z₁ (at + handleAt) (toBE 2 h)) where
+    (e₁ : z₁ ≡ overwrite z at (toBE 2 (relocCode * typeUnit + need / 2))) (e₂ : z₂ ≡ overwrite z₁ (at + tagAt) (toBE 2 h)) where
   pub cut-all : n ≤ need → z₂ ≡ overwrite z at (bytesOf (held (blank need h) ∷ gap (n - need) []))
   cut-all k = all z z₁ z₂ at n need h x (blank need h) (blank-size need h (x .size .low)) refl e₁ e₂ k
 

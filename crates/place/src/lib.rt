@@ -82,7 +82,7 @@ pub fn cut_block(z: &mut [u8], at: usize, n: usize, need: usize, h: usize)
         at,
         (BlockType::RELOCATABLE_CODE as usize * BlockType::TYPE_UNIT + need / 2) as u32,
     );
-    bigendian::put2(z, at + BlockType::HANDLE_AT, h as u32);
+    bigendian::put2(z, at + BlockType::TAG_AT, h as u32);
     if need < n {
         bigendian::put4(z, at + need, ((n - need) / 2) as u32);
     }

@@ -9,7 +9,7 @@ use mir.Syntax.{w64}
 use lib.ListN.{length}
 use borrow.Author.Tests.{eqb-true}
 use Rattle.format.specs.WellFormed.{firstField}
-use Rattle.block_type.specs.Limits.{relocHeader, zoneHeader, masterSize}
+use Rattle.block_type.specs.Limits.{relocHeader, zoneHeader, masterSize, argumentRange}
 use Rattle.kinds.specs.Kinds.{Item, headerOf, masterOf, itemSize}
 use Rattle.calls.specs.Bays.{Bays, mapS, findS}
 use Rattle.calls.specs.State.{get, Fixed}
@@ -119,7 +119,7 @@ module _ (z : List ℕ) (h b a at n : ℕ) (y : CarryIn z h b a at n) where
   pub master : (zoneHeader ≤ h) × (h + masterSize ≤ start (decodeZone z))
   master = let q = offset-is h zoneHeader (count s) (master-in s v around h (handles s v around h its)) in (q .0, q .1)
 
-  word : h < 4294967296
+  word : h < argumentRange
   word = omega (arith, master .1, v .short)
 
   pub carry-live : LiveIn z h b

@@ -9,7 +9,7 @@ use lib.Dec.{eqb}
 use lib.ListN.{length, length-append, length-replicate}
 use Rattle.format.specs.Occurs.{occurs}
 use Rattle.format.specs.WellFormed.{offsets}
-use Rattle.block_type.specs.Limits.{zoneHeader}
+use Rattle.block_type.specs.Limits.{zoneHeader, chainAt}
 use Rattle.bigendian.specs.BigEndian.{toBE, overwrite}
 use Rattle.bigendian.proofs.Laws.{length-toBE}
 use Rattle.bigendian.proofs.Overwrite.{swap}
@@ -136,17 +136,17 @@ module _ (s : Structure) (v : Valid s) {bs′ : List Block} {e₀ : Item} (a : A
     freed-image : encode (record { chain = h ∷ s .chain; blocks = bs′ }) ≡ image h (upd (value s) h c) (overwrite r pf X)
     freed-image =
         sym (freed-owned s v a h handles)
-        ∙ ap (λ (y : List ℕ). overwrite (overwrite (overwrite (encode s) (start s + pf) y) 12 (toBE 2 h)) h (toBE 4 c)) (sym x-is)
-        ∙ ap (λ (y : List ℕ). overwrite (overwrite (overwrite y (start s + pf) X) 12 (toBE 2 h)) h (toBE 4 c)) (encode-img s)
-        ∙ ap (λ (y : List ℕ). overwrite (overwrite y 12 (toBE 2 h)) h (toBE 4 c)) (img-rest (len s) (start s) (count s) c pf (start s + pf) (value s) r X refl)
+        ∙ ap (λ (y : List ℕ). overwrite (overwrite (overwrite (encode s) (start s + pf) y) chainAt (toBE 2 h)) h (toBE 4 c)) (sym x-is)
+        ∙ ap (λ (y : List ℕ). overwrite (overwrite (overwrite y (start s + pf) X) chainAt (toBE 2 h)) h (toBE 4 c)) (encode-img s)
+        ∙ ap (λ (y : List ℕ). overwrite (overwrite y chainAt (toBE 2 h)) h (toBE 4 c)) (img-rest (len s) (start s) (count s) c pf (start s + pf) (value s) r X refl)
         ∙ ap (λ (y : List ℕ). overwrite y h (toBE 4 c)) (img-chain (len s) (start s) (count s) c h (value s) (overwrite r pf X))
         ∙ img-master (len s) (start s) (count s) h h c (value s) (overwrite r pf X) owned
 
     -- and allocated anew
-    placed-image : settled (overwrite (encode (record { chain = h ∷ s .chain; blocks = bs′ })) 12 (toBE 2 c)) at (held e ∷ gap (x .size - itemSize e) [])
+    placed-image : settled (overwrite (encode (record { chain = h ∷ s .chain; blocks = bs′ })) chainAt (toBE 2 c)) at (held e ∷ gap (x .size - itemSize e) [])
         ≡ image c (upd (upd (value s) h c) h (at + headerOf e)) (overwrite (overwrite r pf X) pa B)
     placed-image =
-        ap (λ (y : List ℕ). settled (overwrite y 12 (toBE 2 c)) at (held e ∷ gap (x .size - itemSize e) [])) freed-image
+        ap (λ (y : List ℕ). settled (overwrite y chainAt (toBE 2 c)) at (held e ∷ gap (x .size - itemSize e) [])) freed-image
         ∙ ap (λ (y : List ℕ). settled y at (held e ∷ gap (x .size - itemSize e) [])) (img-chain (len s) (start s) (count s) h c (upd (value s) h c) (overwrite r pf X))
         ∙ set-one (image c (upd (value s) h c) (overwrite r pf X)) at (x .size - itemSize e) e (omega (arith, em, offset-is h zoneHeader (count s) owned .0))
         ∙ ap₂ (λ (y : List ℕ) (k : ℕ). overwrite y k (toBE 4 (at + headerOf e))) (img-rest (len s) (start s) (count s) c pa at (upd (value s) h c) (overwrite r pf X) B place-at) em
@@ -160,5 +160,5 @@ module _ (s : Structure) (v : Valid s) {bs′ : List Block} {e₀ : Item} (a : A
         ∙ ap (image c (upd (value s) h (at + headerOf e))) either
         ∙ img-same (len s) (start s) (count s) c (upd (value s) h (at + headerOf e)) (upd (upd (value s) h c) h (at + headerOf e)) (overwrite (overwrite r pf X) pa B) (λ k l. sym (twice (value s) h c (at + headerOf e) k))
         ∙ sym placed-image
-        ∙ ap (λ (o : ℕ). settled (overwrite (encode (record { chain = h ∷ s .chain; blocks = bs′ })) 12 (toBE 2 c)) o (held e ∷ gap (x .size - itemSize e) [])) (sym q)
+        ∙ ap (λ (o : ℕ). settled (overwrite (encode (record { chain = h ∷ s .chain; blocks = bs′ })) chainAt (toBE 2 c)) o (held e ∷ gap (x .size - itemSize e) [])) (sym q)
         ∙ fill-placed (record { chain = h ∷ s .chain; blocks = bs′ }) v₂ before after bay parts x is e (s .chain) (ap (_∷ s .chain) (sym em)) ok fits

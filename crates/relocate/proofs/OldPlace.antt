@@ -5,7 +5,7 @@ use Prim.Native.Nat.{ℕ, _+_, _-_, _<_, _≤_}
 use mir.Val.{Fits}
 use mir.Syntax.{w64}
 use lib.ListN.{length, drop}
-use Rattle.block_type.specs.Limits.{relocHeader}
+use Rattle.block_type.specs.Limits.{relocHeader, argumentRange}
 use Rattle.format.specs.WellFormed.{firstField}
 use Rattle.access.specs.Edit.{IsZone, placeIn, dataIn}
 use Rattle.row.specs.Row.{Row}
@@ -20,10 +20,10 @@ module _ (z : List ℕ) (h b : ℕ) (x : LiveIn z h b) where
       go : LiveIn z h b → IsZone z
       go (live-in i l n e) = i
 
-  pub old-word : h < 4294967296
+  pub old-word : h < argumentRange
   old-word = go x
     where
-      go : LiveIn z h b → h < 4294967296
+      go : LiveIn z h b → h < argumentRange
       go (live-in i l n e) = l
 
   live : placeIn z h ≡ 0 → ⊥

@@ -4,7 +4,7 @@ use mathlib.Core.Bool.{Bool}
 use mathlib.Core.List.{List, _∷_, _++_}
 use Prim.Native.Nat.{ℕ, _+_, _-_, _<_, _≤_}
 use lib.ListN.{length}
-use Rattle.block_type.specs.Limits.{relocHeader}
+use Rattle.block_type.specs.Limits.{relocHeader, argumentRange}
 use Rattle.format.specs.WellFormed.{firstField}
 use Rattle.structure.specs.Structure.{Structure, sizes, start, encode, decodeZone}
 use Rattle.access.specs.Edit.{IsZone, placeIn, dataIn, dataOf}
@@ -39,7 +39,7 @@ pub record Grows (z : List ℕ) (h b a : ℕ) : Type 0 where
 
 -- the handle h is live, with b data bytes
 pub data LiveIn (z : List ℕ) (h b : ℕ) : Type 0 where
-  live-in : IsZone z → h < 4294967296 → (placeIn z h ≡ 0 → ⊥) → b ≡ length (dataIn z h) → LiveIn z h b
+  live-in : IsZone z → h < argumentRange → (placeIn z h ≡ 0 → ⊥) → b ≡ length (dataIn z h) → LiveIn z h b
 
 -- its data lie at old, and its block with the free blocks beside it from `from` up to `to`
 pub data OldPlace (z : List ℕ) (h b old from to : ℕ) : Type 0 where

@@ -54,7 +54,7 @@ fn find_old(z: &[u8], h: usize, b: usize) -> Old
     ensures { λ r. ⌜ OldPlace (now (z .entry)) h b (r .place) (r .from) (r .to) ⌝ }
 {
     let place = access::place(z, h);
-    let first = bigendian::get4(z, 4) as usize;
+    let first = bigendian::get4(z, block_type::FIRST_AT) as usize;
     let at = place - BlockType::RELOCATABLE_HEADER;
     let end = place + b;
     let s = free_block::walk_to(z, first, at);

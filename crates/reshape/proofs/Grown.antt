@@ -6,7 +6,7 @@ use native.Mathlib.Omega.{arith}
 use lib.ListN.{length, take, drop, replicate, length-replicate, length-append, length-take, length-drop, take-append-drop, drop-of-length-le}
 use lib.Seq.{drop-drop, drop-append-add}
 use Rattle.structure.proofs.ZoneLayout.{write-mid}
-use Rattle.block_type.specs.Limits.{freeHeader, relocCode, typeUnit}
+use Rattle.block_type.specs.Limits.{freeHeader, relocCode, typeUnit, tagAt}
 use Rattle.bigendian.specs.BigEndian.{toBE, slice, overwrite}
 use Rattle.bigendian.proofs.Laws.{length-toBE}
 use Rattle.bay.specs.Bay.{free, gap}
@@ -15,7 +15,7 @@ use Rattle.bay.specs.Sound.{bytesOf}
 use Rattle.bay.proofs.BayBytes.{drop-zeros, gap-some, gap-none}
 use Rattle.reshape.specs.Grow.{grownBytes, Room}
 
-module _ (A H D B G : List ℕ) (at o top run more : ℕ) (lA : length A ≡ at) (lH : length H ≡ 2) (lD : at + 2 + length D ≡ o) (lB : length B ≡ run) (lG : more ≤ length G) (et : top ≡ o + more) where
+module _ (A H D B G : List ℕ) (at o top run more : ℕ) (lA : length A ≡ at) (lH : length H ≡ tagAt) (lD : at + tagAt + length D ≡ o) (lB : length B ≡ run) (lG : more ≤ length G) (et : top ≡ o + more) where
   abbrev X : List ℕ
   X = take more (B ++ G)
 
@@ -52,10 +52,10 @@ module _ (A H D B G : List ℕ) (at o top run more : ℕ) (lA : length A ≡ at)
       ∙ write-mid a X (replicate more 0) (B ++ Y) o la (lX ∙ sym (length-replicate {A = ℕ} more 0))
       ∙ sym (g (replicate more 0 ++ (B ++ Y)))
 
-  step3 : (H′ : List ℕ) → length H′ ≡ 2 → overwrite (A ++ (H ++ (D ++ (replicate more 0 ++ (B ++ Y))))) at H′ ≡ A ++ (H′ ++ (D ++ (replicate more 0 ++ (B ++ Y))))
+  step3 : (H′ : List ℕ) → length H′ ≡ tagAt → overwrite (A ++ (H ++ (D ++ (replicate more 0 ++ (B ++ Y))))) at H′ ≡ A ++ (H′ ++ (D ++ (replicate more 0 ++ (B ++ Y))))
   step3 H′ l = write-mid A H H′ (D ++ (replicate more 0 ++ (B ++ Y))) at lA (lH ∙ sym l)
 
-  step4 : (H′ T : List ℕ) → length H′ ≡ 2 → length T ≡ length (take freeHeader Y) → overwrite (A ++ (H′ ++ (D ++ (replicate more 0 ++ (B ++ Y))))) (top + run) T ≡ A ++ (H′ ++ (D ++ (replicate more 0 ++ (B ++ (T ++ drop freeHeader Y)))))
+  step4 : (H′ T : List ℕ) → length H′ ≡ tagAt → length T ≡ length (take freeHeader Y) → overwrite (A ++ (H′ ++ (D ++ (replicate more 0 ++ (B ++ Y))))) (top + run) T ≡ A ++ (H′ ++ (D ++ (replicate more 0 ++ (B ++ (T ++ drop freeHeader Y)))))
   step4 H′ T l lT =
       let z = replicate {A = ℕ} more 0 in
       let a = A ++ (H′ ++ (D ++ (z ++ B))) in
@@ -98,7 +98,7 @@ module _ (s s₁ s₂ s₃ : List ℕ) (at o run more : ℕ) (x : Room s at o ru
   h₀ = slice s at 2
 
   abbrev d₀ : List ℕ
-  d₀ = slice s (at + 2) (o - (at + 2))
+  d₀ = slice s (at + tagAt) (o - (at + tagAt))
 
   abbrev b₀ : List ℕ
   b₀ = slice s o run
@@ -111,18 +111,18 @@ module _ (s s₁ s₂ s₃ : List ℕ) (at o run more : ℕ) (x : Room s at o ru
 
   parts : s ≡ a₀ ++ (h₀ ++ (d₀ ++ (b₀ ++ g₀)))
   parts =
-      let k : at + 2 + (o - (at + 2)) ≡ o = omega (arith, x .low) in
-      sym (take-append-drop at s) ∙ ap (λ (y : List ℕ). a₀ ++ y) (peel s at 2 ∙ ap (λ (y : List ℕ). h₀ ++ y)
-      (peel s (at + 2) (o - (at + 2)) ∙ ap (λ (y : List ℕ). d₀ ++ y) (ap (λ (m : ℕ). drop m s) k ∙ peel s o run)))
+      let k : at + tagAt + (o - (at + tagAt)) ≡ o = omega (arith, x .low) in
+      sym (take-append-drop at s) ∙ ap (λ (y : List ℕ). a₀ ++ y) (peel s at tagAt ∙ ap (λ (y : List ℕ). h₀ ++ y)
+      (peel s (at + tagAt) (o - (at + tagAt)) ∙ ap (λ (y : List ℕ). d₀ ++ y) (ap (λ (m : ℕ). drop m s) k ∙ peel s o run)))
 
   la : length a₀ ≡ at
   la = omega (arith, length-take at s, x .low, x .inside)
 
-  lh : length h₀ ≡ 2
-  lh = omega (arith, length-take 2 (drop at s), length-drop at s, x .low, x .inside)
+  lh : length h₀ ≡ tagAt
+  lh = omega (arith, length-take tagAt (drop at s), length-drop at s, x .low, x .inside)
 
-  ld : at + 2 + length d₀ ≡ o
-  ld = omega (arith, length-take (o - (at + 2)) (drop (at + 2) s), length-drop (at + 2) s, x .low, x .inside)
+  ld : at + tagAt + length d₀ ≡ o
+  ld = omega (arith, length-take (o - (at + tagAt)) (drop (at + tagAt) s), length-drop (at + tagAt) s, x .low, x .inside)
 
   lb : length b₀ ≡ run
   lb = omega (arith, length-take run (drop o s), length-drop o s, x .inside)

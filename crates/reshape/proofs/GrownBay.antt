@@ -5,7 +5,7 @@ use Prim.Native.Nat.{ℕ, _+_, _-_, _*_, _/_}
 use native.Mathlib.Omega.{arith}
 use lib.ListN.{length, take, drop, replicate, length-append}
 use lib.Seq.{drop-drop, take-at, drop-at, take-all}
-use Rattle.block_type.specs.Limits.{typeUnit}
+use Rattle.block_type.specs.Limits.{typeUnit, tagAt}
 use Rattle.bigendian.specs.BigEndian.{toBE, slice}
 use Rattle.bigendian.proofs.Laws.{length-toBE}
 use Rattle.kinds.specs.Kinds.{Item, codeOf, tagOf, itemSize}
@@ -40,25 +40,25 @@ module _ (xs ys : List Item) (e : Item) (n at o run more a : ℕ) (la : length (
   abbrev w₀ : List ℕ
   w₀ = toBE 2 (codeOf e * typeUnit + itemSize e / 2)
 
-  lw : length w₀ ≡ 2
+  lw : length w₀ ≡ tagAt
   lw = length-toBE 2 (codeOf e * typeUnit + itemSize e / 2)
 
   image : s ≡ bytesIn xs ++ (w₀ ++ ((tagOf e ++ d) ++ (bytesIn ys ++ bytesOf (gap n []))))
   image = laid-bytes xs ys e n ∙ ap (λ (t : List ℕ). bytesIn xs ++ t) (append-assoc w₀ (tagOf e ++ d) (bytesIn ys ++ bytesOf (gap n [])))
 
-  lhd : length (tagOf e ++ d) ≡ o - (at + 2)
+  lhd : length (tagOf e ++ d) ≡ o - (at + tagAt)
   lhd = omega (arith, length-append (tagOf e) d, tag-long e)
 
   drop-a : drop at s ≡ w₀ ++ ((tagOf e ++ d) ++ (bytesIn ys ++ bytesOf (gap n [])))
   drop-a = ap (drop at) image ∙ drop-at (bytesIn xs) _ at la
 
-  drop-w : drop (at + 2) s ≡ (tagOf e ++ d) ++ (bytesIn ys ++ bytesOf (gap n []))
-  drop-w = sym (drop-drop 2 at s) ∙ ap (drop 2) drop-a ∙ drop-at w₀ _ 2 lw
+  drop-w : drop (at + tagAt) s ≡ (tagOf e ++ d) ++ (bytesIn ys ++ bytesOf (gap n []))
+  drop-w = sym (drop-drop tagAt at s) ∙ ap (drop tagAt) drop-a ∙ drop-at w₀ _ tagAt lw
 
   pub drop-o : drop o s ≡ bytesIn ys ++ bytesOf (gap n [])
   drop-o =
-      let q : o ≡ at + 2 + (o - (at + 2)) = omega (arith, tag-long e) in
-      ap (λ (k : ℕ). drop k s) q ∙ sym (drop-drop (o - (at + 2)) (at + 2) s) ∙ ap (drop (o - (at + 2))) drop-w ∙ drop-at (tagOf e ++ d) _ (o - (at + 2)) lhd
+      let q : o ≡ at + tagAt + (o - (at + tagAt)) = omega (arith, tag-long e) in
+      ap (λ (k : ℕ). drop k s) q ∙ sym (drop-drop (o - (at + tagAt)) (at + tagAt) s) ∙ ap (drop (o - (at + tagAt))) drop-w ∙ drop-at (tagOf e ++ d) _ (o - (at + tagAt)) lhd
 
   pub long : length s ≡ o + run + n
   long =
@@ -84,7 +84,7 @@ module _ (xs ys : List Item) (e : Item) (n at o run more a : ℕ) (la : length (
   grown-bay =
       let g = bytesOf (gap (n - more) []) in
       let e₁ : take at s ≡ bytesIn xs = ap (take at) image ∙ take-at (bytesIn xs) _ at la in
-      let e₂ : slice s (at + 2) (o - (at + 2)) ≡ tagOf e ++ d = ap (take (o - (at + 2))) drop-w ∙ take-at (tagOf e ++ d) _ (o - (at + 2)) lhd in
+      let e₂ : slice s (at + tagAt) (o - (at + tagAt)) ≡ tagOf e ++ d = ap (take (o - (at + tagAt))) drop-w ∙ take-at (tagOf e ++ d) _ (o - (at + tagAt)) lhd in
       let e₃ : slice s o run ≡ bytesIn ys = ap (take run) drop-o ∙ take-at (bytesIn ys) _ run lb in
       let e₄ : length s - (o + run) - more ≡ n - more = omega (arith, long) in
       let e₅ : o + more - at ≡ itemSize (resized a e) = omega (arith, length-sized a d) in

@@ -5,7 +5,7 @@ use Prim.Native.Nat.{ℕ, zero, suc, _+_, _-_, _*_, _/_, _%_, _<_, _≤_, min}
 use native.Mathlib.Omega.{arith}
 use lib.ListN.{length, take, drop, replicate, length-replicate, length-append, length-take, length-drop, take-append-drop, replicate-append-replicate}
 use Rattle.structure.proofs.ZoneLayout.{write-mid}
-use Rattle.block_type.specs.Limits.{freeHeader, typeUnit}
+use Rattle.block_type.specs.Limits.{freeHeader, typeUnit, tagAt}
 use Rattle.bigendian.specs.BigEndian.{toBE, slice, overwrite}
 use Rattle.bigendian.proofs.Laws.{length-toBE}
 use Rattle.kinds.specs.Kinds.{Item, codeOf, headerOf, tagOf}
@@ -64,7 +64,7 @@ module _ (z : List ℕ) (e : Item) (o at b f a : ℕ) (ea : at ≡ o + headerOf 
   la : length (sized a d) ≡ a
   la = length-sized a d
 
-  lw : (n : ℕ) → length (word e n) ≡ 2
+  lw : (n : ℕ) → length (word e n) ≡ tagAt
   lw n = length-toBE 2 (codeOf e * typeUnit + (headerOf e + n) / 2)
 
   split : z ≡ front ++ (bytesOf (held e ∷ gap f []) ++ back)

@@ -4,7 +4,7 @@ use mathlib.Core.List.{List, [], _++_}
 use Prim.Native.Nat.{ℕ, _+_, _-_, _*_, _/_, _%_, _<_, _≤_}
 use lib.ListN.{length, take, drop, replicate}
 use Rattle.bigendian.specs.BigEndian.{toBE, slice}
-use Rattle.block_type.specs.Limits.{freeHeader, relocHeader, relocCode, relocLimit, longestZone, typeUnit}
+use Rattle.block_type.specs.Limits.{freeHeader, relocHeader, relocCode, relocLimit, longestZone, typeUnit, tagAt}
 use Rattle.bay.specs.Bay.{Cell, free, baySize, baySum, gap}
 use Rattle.bay.specs.Bytes.{encodeCell}
 use Rattle.bay.specs.Ends.{startFree}
@@ -19,7 +19,7 @@ use Rattle.reshape.specs.Own.{Own, bayOf}
 -- the part s, whose block from at to o has `more` zero bytes at its end; the run bytes behind it stand higher, and the rest is free
 unfoldable pub grownBytes : List ℕ → ℕ → ℕ → ℕ → ℕ → List ℕ
 grownBytes s at o run more =
-    take at s ++ (toBE 2 (relocCode * typeUnit + (o + more - at) / 2) ++ (slice s (at + 2) (o - (at + 2)) ++ (replicate more 0 ++ (slice s o run ++ bytesOf (gap (length s - (o + run) - more) [])))))
+    take at s ++ (toBE 2 (relocCode * typeUnit + (o + more - at) / 2) ++ (slice s (at + tagAt) (o - (at + tagAt)) ++ (replicate more 0 ++ (slice s o run ++ bytesOf (gap (length s - (o + run) - more) [])))))
 
 -- there is a free block of at least `more` bytes behind the run
 pub record Room (s : List ℕ) (at o run more : ℕ) : Type 0 where

@@ -47,7 +47,7 @@ pub fn resize_here(z: &mut [u8], h: usize, at: usize, b: usize, f: usize, a: usi
     bigendian::put2(
         z,
         at - BlockType::RELOCATABLE_HEADER,
-        (BlockType::RELOCATABLE_CODE as usize * 16384
+        (BlockType::RELOCATABLE_CODE as usize * BlockType::TYPE_UNIT
             + (BlockType::RELOCATABLE_HEADER + a) / 2) as u32,
     );
     if a < b + f {
@@ -69,7 +69,7 @@ fn grow_part(s: &mut [u8], at: usize, o: usize, run: usize, more: usize)
     bigendian::put2(
         s,
         at,
-        (BlockType::RELOCATABLE_CODE as usize * 16384 + (top - at) / 2) as u32,
+        (BlockType::RELOCATABLE_CODE as usize * BlockType::TYPE_UNIT + (top - at) / 2) as u32,
     );
     let rest = top + run;
     if rest < end {

@@ -10,6 +10,7 @@ ghost use Rattle.call_laws.specs.Frame.{PlannedIn, Planned};
 ghost use Rattle.resize.specs.Ready.{resizedTo, Tight, Chosen, Going, Ready};
 use block_type::BlockType;
 use calls::Told;
+ghost use Rattle.block_type.specs.Limits.{argumentRange};
 
 pub enum Way {
     InPlace,
@@ -104,7 +105,7 @@ fn plan_bays(z: &[u8], h: usize, first: usize, at: usize, b: usize, a: usize) ->
 
 // The plan in a well-formed zone.
 fn plan_in(z: &[u8], h: usize, c: u32) -> Plan
-    requires { ⌜ (IsZone (now z)) × (h < 4294967296) ⌝ }
+    requires { ⌜ (IsZone (now z)) × (h < argumentRange) ⌝ }
     ensures { λ r. ⌜ PlannedIn (resize h c) (now (z .entry)) (r .number) (Ready (now (z .entry)) h c r) ⌝ }
 {
     let at = access::place(z, h);
@@ -132,7 +133,7 @@ fn plan_in(z: &[u8], h: usize, c: u32) -> Plan
             tidy: false,
         };
     }
-    let first = bigendian::get4(z, 4) as usize;
+    let first = bigendian::get4(z, block_type::FIRST_AT) as usize;
     plan_bays(z, h, first, at, b, a)
 }
 
@@ -145,7 +146,7 @@ fn plan_zone(zone: &[u8], h: u32, c: u32) -> Plan
     if !ok {
         return no_plan(1);
     }
-    let l = bigendian::get4(zone, 0) as usize;
+    let l = bigendian::get4(zone, block_type::LENGTH_AT) as usize;
     let p = plan_in(&zone[..l], h as usize, c);
     let number = p.number;
     let way = p.way;

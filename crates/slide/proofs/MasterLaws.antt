@@ -11,7 +11,7 @@ use lib.Seq.{drop-drop, length-take-le}
 use Rattle.bigendian.specs.BigEndian.{fromBE, toBE, slice, overwrite}
 use Rattle.bigendian.proofs.Laws.{length-toBE}
 use Rattle.bigendian.proofs.Overwrite.{write-length, drop-write}
-use Rattle.block_type.specs.Limits.{freeCode, relocCode, freeHeader, relocHeader, masterSize, handleAt}
+use Rattle.block_type.specs.Limits.{freeCode, relocCode, freeHeader, relocHeader, masterSize, tagAt}
 use Rattle.format.specs.WellFormed.{typeOf, sizeOf, handleOf}
 use Rattle.format.proofs.Walk.{drop-take, kind-take, handle-take}
 use Rattle.kinds.specs.Kinds.{itemIn}
@@ -43,14 +43,14 @@ unfolding setOne
 one-some at (free n) z h q ne = absurd (ne q)
 one-some at (held e) z h q ne = rw (← q, ne-eqb h 0 ne, master-header e (λ x. ne (q ∙ x)))
 
-pub header-fits : (z : List ℕ) (to at n : ℕ) → Stepped (take to z) at n → to ≤ length z → at + handleAt + 2 ≤ length z
+pub header-fits : (z : List ℕ) (to at n : ℕ) → Stepped (take to z) at n → to ≤ length z → at + tagAt + 2 ≤ length z
 header-fits z to at n st l = omega (arith, st .low, st .fits, length-take-le to z l)
 
 -- ---- the block's master
 
-handle-there : (z : List ℕ) (at : ℕ) → handleOf (drop at z) ≡ fromBE (slice z (at + handleAt) 2)
+handle-there : (z : List ℕ) (at : ℕ) → handleOf (drop at z) ≡ fromBE (slice z (at + tagAt) 2)
 unfolding handleOf
-handle-there z at = rw (drop-drop handleAt at z)
+handle-there z at = rw (drop-drop tagAt at z)
 
 -- of a block by its bytes b
 owner-some : (b : List ℕ) → cellCode (decodeCell b) ≡ relocCode → ownerOf (decodeCell b) ≡ handleOf b
@@ -85,7 +85,7 @@ module _ (z : List ℕ) (to at n k : ℕ) (lt : at < to) (l : to ≤ length z) (
   pub own-none : (k ≡ relocCode → ⊥) → Owner z to at n 0
   own-none e = owner st (sym (owner-none b (λ x. e (sym same-code ∙ x))))
 
-  pub own-some : k ≡ relocCode → (h : ℕ) → h ≡ fromBE (slice z (at + handleAt) 2) → Owner z to at n h
+  pub own-some : k ≡ relocCode → (h : ℕ) → h ≡ fromBE (slice z (at + tagAt) 2) → Owner z to at n h
   own-some e h eh = owner st (eh ∙ sym (owner-some b (same-code ∙ e) ∙ same-handle ∙ handle-there z at))
 
 -- ---- one turn

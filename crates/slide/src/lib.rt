@@ -76,7 +76,7 @@ fn owner_at(z: &[u8], to: usize, at: usize, n: usize) -> usize
     ensures { λ r. ⌜ Owner (now (z .entry)) to at n r ⌝ }
 {
     if block_check::type_at(z, at) == BlockType::RELOCATABLE_CODE {
-        return bigendian::get2(z, at + BlockType::HANDLE_AT) as usize;
+        return bigendian::get2(z, at + BlockType::TAG_AT) as usize;
     }
     0
 }

@@ -12,7 +12,7 @@ use lib.Seq.{drop-at}
 use Rattle.format.specs.Occurs.{occurs}
 use Rattle.bigendian.specs.BigEndian.{fromBE, toBE, slice}
 use Rattle.bigendian.proofs.Laws.{length-toBE, be-front}
-use Rattle.block_type.specs.Limits.{freeCode, fixedCode, fixedHeader, fixedLimit, relocCode, relocHeader, typeUnit, zoneHeader, freeHeader, handleRange, masterSize, smallestBlock, handleAt, argumentRange}
+use Rattle.block_type.specs.Limits.{freeCode, fixedCode, fixedHeader, fixedLimit, relocCode, relocHeader, typeUnit, zoneHeader, freeHeader, handleRange, masterSize, smallestBlock, tagAt, argumentRange}
 use Rattle.memory.specs.Zeros.{allZero}
 use Rattle.format.specs.WellFormed.{typeOf, sizeOf, handleOf, isFree, isReloc, isMaster, masterAt, relocs, offsets, chain}
 use Rattle.format.specs.OneWalk.{links, typeRule, freeRule, relocRule, blockOk, blocksOk}
@@ -75,12 +75,12 @@ enc-fixed d q u =
       long = simp (length-append, length-toBE) (omega arith);
       same = size-used (encodeBlock (fixed d)) 0 k ∙ (rw (be-front 2 v d (omega arith), low-part fixedCode w (omega arith)) (half (fixedHeader + length d) q));
       kind = k;
-      back = dec-fixed (encodeBlock (fixed d)) d k (drop-at (toBE 2 v) d 2 (length-toBE 2 v));
+      back = dec-fixed (encodeBlock (fixed d)) d k (drop-at (toBE 2 v) d fixedHeader (length-toBE 2 v));
     }
 
 handle-enc : (h : ℕ) (d : List ℕ) → h < handleRange → handleOf (encodeBlock (cell (held (item h d)))) ≡ h
 unfolding encodeBlock handleOf
-handle-enc h d u = rw (drop-at (toBE 2 (relocCode * typeUnit + (relocHeader + length d) / 2)) (toBE 2 h ++ d) handleAt (length-toBE 2 (relocCode * typeUnit + (relocHeader + length d) / 2))) (be-front 2 h d (omega arith))
+handle-enc h d u = rw (drop-at (toBE 2 (relocCode * typeUnit + (relocHeader + length d) / 2)) (toBE 2 h ++ d) tagAt (length-toBE 2 (relocCode * typeUnit + (relocHeader + length d) / 2))) (be-front 2 h d (omega arith))
 
 -- ---- the test of a block, from facts
 

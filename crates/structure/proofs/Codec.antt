@@ -8,7 +8,7 @@ use lib.Dec.{eqb}
 use borrow.Author.Tests.{eqb-true}
 use lib.ListN.{length, take, drop, replicate, length-append, length-take, length-drop, take-append-drop}
 use lib.Seq.{getD-drop, drop-drop, take-append-seam, drop-append-seam, length-take-le}
-use Rattle.block_type.specs.Limits.{fixedHeader, relocHeader, typeUnit, fixedCode, freeHeader, relocCode, smallestBlock, freeCode, handleAt}
+use Rattle.block_type.specs.Limits.{fixedHeader, relocHeader, typeUnit, fixedCode, freeHeader, relocCode, smallestBlock, freeCode, tagAt}
 use Rattle.bigendian.specs.BigEndian.{fromBE, toBE, Bytes}
 use Rattle.bigendian.proofs.Laws.{toBE-be, be2-at}
 use Rattle.memory.specs.Zeros.{allZero}
@@ -80,7 +80,7 @@ all-zero-is (zero ∷ xs) h = ap (λ (t : List ℕ). 0 ∷ t) (all-zero-is xs h)
 all-zero-is (suc x ∷ xs) h = let e = eqb-true (suc x) 0 (zero-left (eqb (suc x) 0) (allZero xs) h) in let q : ⊥ = omega arith in absurd q
 
 -- the first two bytes are the type and the size
-head-word : (b : List ℕ) (k : ℕ) → typeOf b ≡ k → handleAt ≤ length b → Bytes b → fromBE (take 2 b) ≡ k * typeUnit + fromBE (take 2 b) % typeUnit
+head-word : (b : List ℕ) (k : ℕ) → typeOf b ≡ k → tagAt ≤ length b → Bytes b → fromBE (take 2 b) ≡ k * typeUnit + fromBE (take 2 b) % typeUnit
 unfolding typeOf
 head-word b k e l y = omega (arith, be2-at b 0 l, y 0, y 1)
 
@@ -101,11 +101,11 @@ enc-reloc : (b : List ℕ) → typeOf b ≡ relocCode → smallestBlock ≤ size
 unfolding encodeBlock handleOf
 enc-reloc b e l w y =
     let e₁ : relocCode * typeUnit + (relocHeader + length (drop relocHeader b)) / 2 ≡ fromBE (take 2 b) = omega (arith, size-used b 1 e, head-word b relocCode e (omega arith) y, length-drop relocHeader b) in
-    rw (e₁, part-bytes 2 b y (omega arith), part-bytes 2 (drop handleAt b) (bytes-drop handleAt b y) (omega (arith, length-drop handleAt b)))
-    (tail (drop-drop 2 handleAt b))
+    rw (e₁, part-bytes 2 b y (omega arith), part-bytes 2 (drop tagAt b) (bytes-drop tagAt b y) (omega (arith, length-drop tagAt b)))
+    (tail (drop-drop 2 tagAt b))
   where
-    tail : drop 2 (drop handleAt b) ≡ drop relocHeader b → take 2 b ++ (take 2 (drop handleAt b) ++ drop relocHeader b) ≡ b
-    tail q = rw (← q, take-append-drop 2 (drop handleAt b)) (take-append-drop handleAt b)
+    tail : drop 2 (drop tagAt b) ≡ drop relocHeader b → take 2 b ++ (take 2 (drop tagAt b) ++ drop relocHeader b) ≡ b
+    tail q = rw (← q, take-append-drop 2 (drop tagAt b)) (take-append-drop tagAt b)
 
 pub enc-dec : (z : List ℕ) (first : ℕ) (prev : Bool) (at : ℕ) (b : List ℕ) → blockOk z first prev at b ≡ true → Bytes b → encodeBlock (decodeBlock b) ≡ b
 unfolding decodeBlock typeRule freeRule

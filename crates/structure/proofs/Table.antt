@@ -74,7 +74,7 @@ module _ (z : List ℕ) (first : ℕ) (prev : Bool) (at : ℕ) (b : List ℕ) (g
   pub count-dec : (bs : List Block) → length (handlesOf (decodeBlock b ∷ bs)) ≡ cond (isReloc b) 1 0 + length (handlesOf bs)
   unfolding decodeBlock handlesOf isReloc
   count-dec bs =
-      by (λ k. length (handlesOf (byType k (cell (free (sizeOf b))) (fixed (drop fixedHeader b)) (cell (held (itemIn b))) ∷ bs)) ≡ cond (eqb k 2) 1 0 + length (handlesOf bs))
+      by (λ k. length (handlesOf (byType k (cell (free (sizeOf b))) (fixed (drop fixedHeader b)) (cell (held (itemIn b))) ∷ bs)) ≡ cond (eqb k relocCode) 1 0 + length (handlesOf bs))
       (λ e. omega arith) (λ e. omega arith) (λ e. omega arith)
 
   pub place-dec : (h o : ℕ) (bs : List Block) → placeOf h o (decodeBlock b ∷ bs) ≡ cond (isReloc b && eqb h (handleOf b)) (o + relocHeader) (placeOf h (o + size (decodeBlock b)) bs)
