@@ -9,7 +9,7 @@ use lib.ListN.{length, getD, take, drop}
 use Rattle.access.proofs.Checked.{zone-14}
 use Rattle.bigendian.specs.BigEndian.{toBE, overwrite}
 use Rattle.block_type.specs.Limits.{masterSize, relocHeader, argumentRange, chainAt}
-use Rattle.format.specs.WellFormed.{firstField}
+use Rattle.format.specs.WellFormed.{firstField, chainField}
 use Rattle.bay.specs.Bay.{free, held}
 use Rattle.structure.specs.Structure.{decodeZone, encode, encodeBlock, cell}
 use Rattle.structure.specs.Valid.{handlesOf}
@@ -33,7 +33,7 @@ pub in-6 : (z : List ℕ) (h a number : ℕ) (R : Type 0) → a ≡ placeIn z h 
 in-6 z h a number R e q k = refuses (rw k (no-block z h (sym e ∙ q)))
 
 pub in-0 : (z : List ℕ) (i : IsZone z) (h place : ℕ) → place ≡ placeIn z h → (place ≡ 0 → ⊥) → (n : ℕ) → n ≡ length (dataIn z h) → (first : ℕ) → first ≡ firstField z
-    → (prev stop : ℕ) → Stopped z first (place - relocHeader) prev stop → (head from to : ℕ) → Extended z prev (place - relocHeader) (place + n) from to → head ≡ fromBE (slice z chainAt 2)
+    → (prev stop : ℕ) → Stopped z first (place - relocHeader) prev stop → (head from to : ℕ) → Extended z prev (place - relocHeader) (place + n) from to → head ≡ chainField z
     → PlannedIn (free-handle h) z 0 (ReadyIn z h head from (place - relocHeader) (place + n) to)
 in-0 z i h place e ne n en first ef prev stop p head from to x q =
     let l = live-is z i h place e ne in
