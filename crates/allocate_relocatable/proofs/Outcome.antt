@@ -1,29 +1,24 @@
 -- After an accepted allocation the handle that it answers has a block of up4 c zero bytes.
 use mathlib.Core.Path.{_≡_, refl, ap, _∙_}
-use mathlib.Core.Bool.{Bool, true, false, cond, true≢false}
-use mathlib.Core.Option.{Option, none, some}
+use mathlib.Core.Bool.{false, true≢false}
+use mathlib.Core.Option.{some}
 use mathlib.Core.List.{List, [], _∷_}
-use Prim.Native.Nat.{ℕ, suc, _≤_}
+use Prim.Native.Nat.{ℕ, suc}
 use native.Mathlib.Omega.{arith}
 use lib.ListN.{length, replicate, length-replicate}
-use lib.Dec.{leb}
-use borrow.Author.Tests.{eq-eqb, leb-true}
+use borrow.Author.Tests.{eq-eqb}
 use Rattle.bigendian.specs.BigEndian.{Bytes}
 use Rattle.block_type.specs.Limits.{up4, zoneHeader}
 use Rattle.calls.specs.Calls.{by-handle, Answer, told, shows, Call, allocate-relocatable, size, view}
-use Rattle.calls.specs.Bays.{Bays, last, more, over, orElse, findS, maxS}
+use Rattle.calls.specs.Bays.{Bays, over, findS, maxS}
 use Rattle.kinds.specs.Kinds.{Item, itemSize}
-use Rattle.calls.specs.State.{is, get, newItem, top, Fixed, content}
+use Rattle.calls.specs.State.{get, newItem, top, Fixed, content}
 use Rattle.calls.specs.Table.{below, isEmpty}
 use Rattle.calls.proofs.First.{or-left}
 use Rattle.bay.specs.Bay.{Cell, items, baySum, put}
-use Rattle.bay.specs.Counted.{count, live}
-use Rattle.zone.specs.Search.{placeLow}
+use Rattle.bay.specs.Counted.{live}
 use Rattle.zone.specs.Work.{Zone, work}
 use Rattle.zone.specs.Call.{zoneIn, call}
-use Rattle.bay.proofs.Each.{Each, nothing, just, each-over, each-cond}
-use Rattle.bay.proofs.Perm.{perm-count, perm-get}
-use Rattle.bay.proofs.Holes.{put-keeps}
 use Rattle.zone.proofs.Found.{low-found as total-low}
 use Rattle.zone.proofs.Walk.{each-got}
 use Rattle.zone.proofs.Handles.{occurs, occurs-once}

@@ -9,11 +9,10 @@ use Rattle.structure.specs.Structure.{Structure, start, headOf, decodeZone}
 use Rattle.access.specs.Edit.{IsZone}
 use Rattle.kinds.specs.Kinds.{itemSize}
 use Rattle.calls.specs.Calls.{allocate-relocatable}
-use Rattle.calls.specs.Bays.{Bays}
-use Rattle.calls.specs.State.{Fixed, top, rest}
+use Rattle.calls.specs.State.{top, rest}
 use Rattle.calls.specs.Table.{refusalOf}
-use Rattle.bay.specs.Bay.{Cell, put}
-use Rattle.zone.specs.Group.{group, flatten}
+use Rattle.bay.specs.Bay.{put}
+use Rattle.zone.specs.Group.{flatten}
 use Rattle.zone.specs.Work.{facts, placeLow}
 use Rattle.bays.specs.Places.{baysOf}
 use Rattle.bays.specs.Found.{Found}

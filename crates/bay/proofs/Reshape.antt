@@ -1,7 +1,7 @@
 -- A bay in which a block has got another size: where the block stands, or laid out as compacted.
 use mathlib.Core.Path.{_≡_, refl, sym, ap, ap₂, _∙_}
-use mathlib.Core.Bool.{Bool, true, false, cond}
-use mathlib.Core.Option.{Option, none, some, Option·getD}
+use mathlib.Core.Bool.{Bool, true, false}
+use mathlib.Core.Option.{Option, none, Option·getD}
 use mathlib.Core.List.{List, [], _∷_, _++_, map, append-nil, append-assoc, map-append}
 use Prim.Native.Nat.{ℕ, zero, suc, _+_, _-_, _≤_, _<_}
 use native.Mathlib.Omega.{arith}
@@ -10,7 +10,7 @@ use lib.Dec.{leb}
 use borrow.Author.Tests.{leb-true, leb-false, lt-leb, eq-eqb}
 use Rattle.calls.specs.Bays.{over}
 use Rattle.kinds.specs.Kinds.{Item}
-use Rattle.calls.specs.State.{is, total, alter, get, sized}
+use Rattle.calls.specs.State.{total, alter, sized}
 use Rattle.bay.specs.Bay.{Cell, free, held, baySize, baySum, items, gap, packed, resized, inPlace, growHere, reshape}
 use Rattle.bay.specs.Counted.{count}
 use Rattle.bay.specs.Ends.{startFree, pastStart}

@@ -5,10 +5,9 @@ use Prim.Native.Nat.{ℕ, _-_, _%_}
 use lib.Dec.{eqb, leb}
 use Rattle.block_type.specs.Limits.{longestZone}
 use Rattle.structure.specs.Structure.{Structure, start}
-use Rattle.calls.specs.Bays.{Bays, onLast}
-use Rattle.calls.specs.State.{Fixed}
+use Rattle.calls.specs.Bays.{onLast}
 use Rattle.bay.specs.Bay.{Cell, gap, joinBays}
-use Rattle.zone.specs.Group.{group, flatten}
+use Rattle.zone.specs.Group.{flatten}
 use Rattle.bays.specs.Places.{baysOf, highBay}
 
 -- "k no multiple of 4, or L + k past the buffer or 1,048,576"; n is L + k

@@ -4,15 +4,14 @@ use mathlib.Core.List.{List, [], _∷_, _++_}
 use Prim.Native.Nat.{ℕ, _+_, _-_, _<_, _≤_}
 use native.Mathlib.Omega.{arith}
 use mir.Val.{Fits}
-use mir.Syntax.{w8, w64}
+use mir.Syntax.{w8}
 use lib.ListN.{length, getD, take, drop}
 use Rattle.access.proofs.Checked.{zone-14}
 use Rattle.bigendian.specs.BigEndian.{fromBE, toBE, slice, overwrite}
 use Rattle.block_type.specs.Limits.{masterSize, relocHeader}
 use Rattle.format.specs.WellFormed.{firstField}
-use Rattle.kinds.specs.Kinds.{Item, itemSize}
-use Rattle.bay.specs.Bay.{free, held, baySize}
-use Rattle.structure.specs.Structure.{sizes, start, decodeZone, encode, encodeBlock, cell}
+use Rattle.bay.specs.Bay.{free, held}
+use Rattle.structure.specs.Structure.{decodeZone, encode, encodeBlock, cell}
 use Rattle.structure.specs.Valid.{handlesOf}
 use Rattle.access.specs.Edit.{placeIn, dataIn, IsZone}
 use Rattle.blank.specs.Between.{Between}

@@ -1,6 +1,6 @@
 -- The free block that is chosen is room for the new block; where none is chosen, the bay's end is, after compacting.
 use mathlib.Core.Path.{_≡_, refl, sym, ap, _∙_}
-use mathlib.Core.Bool.{Bool, true, false, cond}
+use mathlib.Core.Bool.{Bool, true, false}
 use mathlib.Core.Option.{Option, none, some, Option·getD}
 use mathlib.Core.List.{List, [], _∷_, _++_, map}
 use Prim.Native.Nat.{ℕ, zero, suc, _+_, _-_, _<_, _≤_}
@@ -10,7 +10,7 @@ use Rattle.kinds.specs.Kinds.{Item, itemSize}
 use Rattle.kinds.proofs.KindLaws.{facts}
 use Rattle.calls.specs.Bays.{over}
 use Rattle.calls.specs.State.{total}
-use Rattle.bay.specs.Bay.{Cell, free, held, baySize, baySum, items, gap, packed, compactBay, Hole, holes, choose, fill, put}
+use Rattle.bay.specs.Bay.{Cell, free, held, baySize, baySum, items, gap, packed, Hole, holes, choose, fill, put}
 use Rattle.bay.proofs.Choice.{packed-is}
 use Rattle.bay.proofs.Each.{Each, just}
 use Rattle.bay.proofs.Holes.{Part, holes-are, choose-all}

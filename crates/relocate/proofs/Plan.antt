@@ -1,5 +1,5 @@
 -- What a plan hands over: a search has found the lowest bay whose sum reaches the need, and room in it.
-use mathlib.Core.Path.{_≡_, sym, ap, ap₂, _∙_, subst}
+use mathlib.Core.Path.{_≡_, sym, ap, _∙_, subst}
 use mathlib.Core.Bool.{Bool, true}
 use mathlib.Core.List.{List, _++_, map}
 use Prim.Native.Nat.{ℕ, _+_, _<_}
@@ -20,11 +20,11 @@ use Rattle.access.proofs.Zone.{whole-of}
 use Rattle.zone.specs.Group.{flatten}
 use Rattle.zone.proofs.GroupLaws.{flatten-group}
 use Rattle.bays.specs.Places.{baysOf, bayN, baysAt, lowBay}
-use Rattle.bays.proofs.Zone.{ZoneBays, zone-bays}
+use Rattle.bays.proofs.Zone.{zone-bays}
 use Rattle.slide.specs.ZoneBay.{bayCells, ZoneBay}
 use Rattle.settle.proofs.Bay.{bay-at}
 use Rattle.place.specs.Room.{Room, BayFor, RoomFor}
-use Rattle.relocate.specs.Slot.{plug, blocksBefore, blocksAfter}
+use Rattle.relocate.specs.Slot.{blocksBefore, blocksAfter}
 use Rattle.relocate.specs.Relocate.{itemOf, Grows, RelocateIn, relocate-in}
 use Rattle.relocate.proofs.Slots.{plug-flat}
 use Rattle.relocate.proofs.Target.{Lowest, low-slot}

@@ -1,12 +1,12 @@
 -- A bay in its place among bays: the flat list, its size, and bays that are all changed.
 use mathlib.Core.Path.{_≡_, refl, ap}
 use mathlib.Core.Bool.{true}
-use mathlib.Core.List.{List, _∷_, _++_, map}
+use mathlib.Core.List.{List, _++_, map}
 use Prim.Native.Nat.{ℕ, _+_, _≤_}
 use native.Mathlib.Omega.{arith}
 use lib.Dec.{leb}
 use borrow.Author.Tests.{lt-leb}
-use Rattle.structure.specs.Structure.{cell, sizes, fixed}
+use Rattle.structure.specs.Structure.{cell, sizes}
 use Rattle.kinds.specs.Kinds.{Item}
 use Rattle.calls.specs.Bays.{Bays, more, mapS, onLowest, orElse, findS}
 use Rattle.calls.specs.State.{get, Fixed, fsize}

@@ -15,13 +15,13 @@ use Rattle.format.specs.WellFormed.{firstField}
 use Rattle.kinds.specs.Kinds.{Item, item, itemSize}
 use Rattle.calls.specs.Bays.{Bays, mapS, findS}
 use Rattle.calls.specs.State.{get, Fixed, sized, ownSum}
-use Rattle.bay.specs.Bay.{Cell, free, baySize, baySum, items, compactBay, fill, put, release}
+use Rattle.bay.specs.Bay.{Cell, free, baySum, items, compactBay, fill, put, release}
 use Rattle.bay.specs.Counted.{count, live}
 use Rattle.bay.proofs.Laws.{tidy-size, tidy-items}
 use Rattle.bay.proofs.Resize.{length-sized}
 use Rattle.bay.proofs.Sound.{Sound}
 use Rattle.bay.proofs.Free.{release-none}
-use Rattle.structure.specs.Structure.{cell, Structure, sizes, start, len, encode, decodeZone}
+use Rattle.structure.specs.Structure.{cell, Structure, start, len, encode, decodeZone}
 use Rattle.structure.specs.Valid.{Valid}
 use Rattle.structure.proofs.Table.{Whole, encode-zone, start-is}
 use Rattle.structure.proofs.Sound.{valid-zone}

@@ -9,11 +9,11 @@ use Rattle.format.specs.WellFormed.{firstField}
 use Rattle.structure.specs.Structure.{Structure, sizes, start, encode, decodeZone}
 use Rattle.access.specs.Edit.{IsZone, placeIn, dataIn, dataOf}
 use Rattle.kinds.specs.Kinds.{Item, item}
-use Rattle.calls.specs.Bays.{Bays, mapS}
-use Rattle.calls.specs.State.{Fixed, sized, ownSum}
+use Rattle.calls.specs.Bays.{mapS}
+use Rattle.calls.specs.State.{sized, ownSum}
 use Rattle.bay.specs.Bay.{Cell, free, baySize, baySum, items, Hole, fill, release}
 use Rattle.bay.specs.Counted.{count}
-use Rattle.zone.specs.Group.{group, flatten}
+use Rattle.zone.specs.Group.{flatten}
 use Rattle.zone.specs.Work.{placeLow}
 use Rattle.bays.specs.Places.{baysOf}
 use Rattle.free_block.specs.Walk.{Stopped, Extended}

@@ -1,5 +1,5 @@
 -- The call.
-use mathlib.Core.Path.{_≡_, refl, sym, ap, ap₂, _∙_}
+use mathlib.Core.Path.{_≡_, refl, sym, ap₂}
 use mathlib.Core.Bool.{Bool}
 use mathlib.Core.Option.{Option, Option·getD}
 use mathlib.Core.List.{List, [], _++_}
@@ -7,7 +7,7 @@ use Prim.Native.Nat.{ℕ}
 use mir.Val.{Fits}
 use mir.Syntax.{w8}
 use lib.ListN.{length, getD, take, drop}
-use Rattle.structure.specs.Structure.{Structure, decodeZone, encode}
+use Rattle.structure.specs.Structure.{decodeZone, encode}
 use Rattle.calls.specs.Calls.{told, resize}
 use Rattle.zone.specs.Group.{flatten}
 use Rattle.zone.specs.Work.{resizeIn}

@@ -2,17 +2,17 @@
 use mathlib.Core.Path.{_≡_, sym, ap, _∙_, subst}
 use mathlib.Core.Bool.{Bool, true, false, cond}
 use mathlib.Core.List.{List}
-use Prim.Native.Nat.{ℕ, _+_, _-_}
+use Prim.Native.Nat.{ℕ, _-_}
 use native.Mathlib.Omega.{arith}
 use borrow.Author.Tests.{lt-leb}
 use lib.ListN.{length}
 use lib.Dec.{leb}
 use Rattle.structure.specs.Structure.{Structure, encode, decodeZone}
 use Rattle.access.specs.Edit.{dataIn, dataOf}
-use Rattle.calls.specs.Bays.{Bays, mapS, onLowest}
-use Rattle.calls.specs.State.{Fixed, sized, ownSum}
+use Rattle.calls.specs.Bays.{mapS, onLowest}
+use Rattle.calls.specs.State.{sized, ownSum}
 use Rattle.kinds.specs.Kinds.{item}
-use Rattle.bay.specs.Bay.{Cell, baySum, items, release, reshape}
+use Rattle.bay.specs.Bay.{baySum, items, release, reshape}
 use Rattle.zone.specs.Group.{flatten}
 use Rattle.zone.specs.Work.{has, placeLow}
 use Rattle.bays.specs.Places.{baysOf}

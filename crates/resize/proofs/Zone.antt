@@ -3,14 +3,14 @@ use mathlib.Core.Path.{_≡_, refl, sym, ap, _∙_}
 use mathlib.Core.Bool.{Bool, true, false, not, _&&_}
 use mathlib.Core.Option.{Option, some, Option·getD}
 use mathlib.Core.List.{List, [], _∷_}
-use Prim.Native.Nat.{ℕ, _+_, _-_, _*_, _/_, _%_, _<_, _≤_}
+use Prim.Native.Nat.{ℕ, _+_, _-_, _*_, _/_, _<_, _≤_}
 use native.Mathlib.Omega.{arith}
 use borrow.Author.Tests.{le-leb, lt-leb}
 use lib.ListN.{length}
 use lib.Dec.{leb}
 use Rattle.block_type.specs.Limits.{relocHeader, relocLimit, up4}
 use Rattle.format.specs.WellFormed.{firstField}
-use Rattle.structure.specs.Structure.{Structure, start, decodeZone}
+use Rattle.structure.specs.Structure.{Structure, decodeZone}
 use Rattle.access.specs.Edit.{IsZone, placeIn, dataIn, dataOf}
 use Rattle.kinds.specs.Kinds.{Item}
 use Rattle.calls.specs.Calls.{by-handle, resize}
@@ -35,11 +35,11 @@ module _ (z : List ℕ) (h c : ℕ) where
   abbrev asks : Bool → Option (List ℕ) → ℕ
   asks t d =
       first order (
-        cause 1 false
-        ∷ cause 3 (not t)
-        ∷ cause 5 (below (ownSum items baySum h (baysOf s)) (up4 c - Option·getD (over length d) 0) && below (maxS baySum (baysOf s)) (relocHeader + up4 c))
-        ∷ cause 6 (isNone (over length d))
-        ∷ []
+      cause 1 false
+      ∷ cause 3 (not t)
+      ∷ cause 5 (below (ownSum items baySum h (baysOf s)) (up4 c - Option·getD (over length d) 0) && below (maxS baySum (baysOf s)) (relocHeader + up4 c))
+      ∷ cause 6 (isNone (over length d))
+      ∷ []
       )
 
   -- of a live handle, by whether c is small and whether there is no room

@@ -28,9 +28,6 @@ kindB (cell (held it)) = 2
 abbrev pub freeB : Block → Bool
 freeB b = eqb (kindB b) 0
 
-abbrev pub fixedB : Block → Bool
-fixedB b = eqb (kindB b) 1
-
 -- the sizes that the format has
 abbrev pub Sound1 : Block → Type 0
 Sound1 (cell (free n)) = (smallestBlock ≤ n) × (n % 4 ≡ 0) × (n ≤ longestZone)

@@ -5,10 +5,9 @@ use Prim.Native.Nat.{ℕ, _*_, _/_, _%_, _≤_, min}
 use Rattle.block_type.specs.Limits.{freeHeader}
 use Rattle.structure.specs.Structure.{Structure, start, len, decodeZone}
 use Rattle.access.specs.Edit.{IsZone}
-use Rattle.calls.specs.Bays.{Bays, onLast, lastS}
-use Rattle.calls.specs.State.{Fixed}
-use Rattle.bay.specs.Bay.{Cell, baySum, takeHigh}
-use Rattle.zone.specs.Group.{group, flatten}
+use Rattle.calls.specs.Bays.{onLast, lastS}
+use Rattle.bay.specs.Bay.{baySum, takeHigh}
+use Rattle.zone.specs.Group.{flatten}
 use Rattle.bays.specs.Places.{baysOf}
 use Rattle.bays.specs.Found.{FoundLast}
 

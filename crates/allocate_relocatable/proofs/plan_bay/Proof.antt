@@ -1,6 +1,5 @@
 use mathlib.Core.Path.{refl}
 use Rattle.allocate_relocatable.proofs.PlanLaws.{ask-master, ask-bay, going}
-use borrow.Author.Needs.{needs}
 use Rattle.allocate_relocatable.proofs.plan_bay.Statement.{statement}
 use Rattle.allocate_relocatable.proofs.plan_bay.Tie as tie
 
