@@ -5,9 +5,9 @@ use mathlib.Core.List.{List, [], _∷_}
 use Prim.Native.Nat.{ℕ, _<_, _≤_}
 use native.Mathlib.Omega.{arith}
 use borrow.Author.Tests.{le-leb, lt-leb}
-use lib.ListN.{length, drop}
+use lib.ListN.{length}
 use lib.Dec.{leb}
-use Rattle.block_type.specs.Limits.{longestZone, relocLimit, relocNeed}
+use Rattle.block_type.specs.Limits.{relocLimit, relocNeed}
 use Rattle.format.specs.WellFormed.{firstField, chainField}
 use Rattle.structure.specs.Structure.{Structure, start, headOf, decodeZone}
 use Rattle.structure.specs.Valid.{Valid}
@@ -15,7 +15,6 @@ use Rattle.structure.proofs.Table.{start-is, head-is}
 use Rattle.structure.proofs.Sound.{valid-zone}
 use Rattle.access.specs.Edit.{IsZone}
 use Rattle.access.proofs.Zone.{whole-of}
-use Rattle.row.specs.Row.{Row}
 use Rattle.kinds.specs.Kinds.{itemSize}
 use Rattle.calls.specs.Calls.{allocate-relocatable}
 use Rattle.calls.specs.Bays.{Bays, maxS}
@@ -78,15 +77,6 @@ module _ (z : List ℕ) (c : ℕ) (l : c ≤ relocLimit) (i : IsZone z) (k : ℕ
 
   zb : ZoneBays z first
   zb = zone-bays z i first ef
-
-  pub ask-row : Row (drop first z)
-  ask-row = zb .row
-
-  pub ask-first : first ≤ length z
-  ask-first = zb .low
-
-  pub ask-limit : length z ≤ longestZone
-  ask-limit = zb .short
 
   module _ (need a e sum tail : ℕ) (f : Bool) (en : need ≡ relocNeed c) (q : bayN f a e sum tail ≡ lowBay need first (baysAt z first)) where
     reach : leb (relocNeed c) (maxS baySum (baysOf (decodeZone z))) ≡ f

@@ -9,7 +9,7 @@ use lib.Dec.{eqb, eqb·suc-zero}
 use Rattle.bigendian.specs.BigEndian.{Bytes}
 use Rattle.format.specs.WellFormed.{wellFormed, lengthField}
 use Rattle.structure.specs.Structure.{Structure, start, len, encode, decode}
-use Rattle.calls.specs.Calls.{Call, Answer, beside, secondOf, refused, told}
+use Rattle.calls.specs.Calls.{Call, beside, secondOf, refused, told}
 use Rattle.calls.specs.State.{Out, says}
 use Rattle.calls.specs.Table.{refusalOf}
 use Rattle.bay.specs.Bay.{Cell}
@@ -18,7 +18,7 @@ use Rattle.zone.specs.Group.{group}
 use Rattle.zone.specs.Call.{inLine, zoneIn, result, replacing, outcome, callWith, call}
 use Rattle.zone.proofs.Keep.{Whole, len-line}
 use Rattle.zone.proofs.Grouped.{work-whole, work-buffer}
-use Rattle.zone.proofs.Run.{Stored, stored-well, stored-decode, stored-bays, stored-after, number-is, well-whole, well-stored, same-bytes, beyond}
+use Rattle.zone.proofs.Run.{Stored, stored-well, stored-decode, stored-bays, stored-after, number-is, well-whole, well-stored, beyond}
 
 -- ---- a call on a zone: refused by the table, or its work; n is the refusal number
 
@@ -87,20 +87,9 @@ module _ (s : List ℕ) (y : Bytes s) (wf : wellFormed s ≡ true) where
         ∙ ap (λ (u : Structure). outcome s u (step c z)) (sym (stored-decode s z (well-whole s y wf) (well-stored s y wf)))
         ∙ ap (outcome s (decode s)) e
 
-    -- the call leaves every byte
-    pub call-same : (a : Answer) → step c z ≡ says a z → call c s ≡ result a s
-    call-same a e = call-of (says a z) e ∙ ap (result a) (same-bytes s y wf)
-
     module _ (f : Bytes (secondOf (beside c))) where
       pub next-whole : Whole ((step c z) .next)
       next-whole = step-whole c f z (well-whole s y wf)
-
-      -- the call leaves the length, and the structure u
-      pub call-done : (o : Out (List Cell)) → step c z ≡ o → o .next .len ≡ len (decode s) → (u : Structure) → inLine (o .next) ≡ u
-          → call c s ≡ result (o .answer) (encode u ++ drop (lengthField s) s)
-      call-done o e l u q =
-          let w : Whole (o .next) = subst (λ (x : Out (List Cell)). Whole (x .next)) e next-whole in
-          call-of o e ∙ ap (result (o .answer)) (ap (replacing s (decode s)) q ∙ same-length u (ap len (sym q) ∙ len-line (o .next) w ∙ l))
 
       after : Stored ((call c s) .bytes) ((step c z) .next)
       after =

@@ -5,38 +5,25 @@ use mathlib.Core.List.{List}
 use Prim.Native.Nat.{ℕ, _+_, _-_, _<_, _≤_}
 use native.Mathlib.Omega.{arith}
 use borrow.Author.Tests.{lt-leb}
-use lib.ListN.{length, drop}
+use lib.ListN.{length}
 use lib.Dec.{leb}
-use Rattle.block_type.specs.Limits.{relocHeader, longestZone}
+use Rattle.block_type.specs.Limits.{relocHeader}
 use Rattle.structure.specs.Structure.{decodeZone}
 use Rattle.access.specs.Edit.{dataIn}
-use Rattle.row.specs.Row.{Row}
 use Rattle.calls.specs.Bays.{maxS}
 use Rattle.calls.specs.State.{ownSum}
 use Rattle.calls.specs.Table.{below}
 use Rattle.bay.specs.Bay.{baySum, items}
 use Rattle.bays.specs.Places.{baysOf, baysAt, bayN, lowBay, ownBay}
-use Rattle.bays.proofs.Zone.{ZoneBays, zone-bays, zone-reach}
+use Rattle.bays.proofs.Zone.{zone-reach}
 use Rattle.reshape.proofs.Plan.{known-low, own-sum, laid-of, laid-reached}
 use Rattle.place.specs.Room.{BayFor, RoomFor}
 use Rattle.relocate.specs.Relocate.{Grows}
 use Rattle.relocate.proofs.Plan.{low-bay, low-moves}
-use Rattle.resize.specs.Ready.{noRoom, WayIn, own, other, Tight, Chosen, none, some}
+use Rattle.resize.specs.Ready.{noRoom, WayIn, own, other, Tight, Chosen, lacks, found}
 use Rattle.resize.specs.declared.Way.the-variants.{OwnBay, OtherBay}
 
 module _ (z : List ℕ) (h first at b a : ℕ) (x : Tight z h first at b a) where
-  zb : ZoneBays z first
-  zb = zone-bays z (x .zone) first (x .is-first)
-
-  pub ask-row : Row (drop first z)
-  ask-row = zb .row
-
-  pub ask-first : first ≤ length z
-  ask-first = zb .low
-
-  pub ask-limit : length z ≤ longestZone
-  ask-limit = zb .short
-
   pub ask-low : relocHeader ≤ at
   ask-low = known-low z h at b (x .behind) (x .known)
 
@@ -47,7 +34,7 @@ module _ (z : List ℕ) (h first at b a : ℕ) (x : Tight z h first at b a) wher
     pub own-way : a - b ≤ sum → (t : Bool) → Chosen z h a 0 a (WayIn z h a b at sum os oe t OwnBay)
     own-way l t =
         let y = laid-of z h at b (x .behind) (x .known) first (at - relocHeader) (x .is-first) refl g os oe sum tail q a (x .four) (x .high) (x .more) l in
-        some refl (ap (λ (u : Bool). not u && below (maxS baySum (baysOf (decodeZone z))) (relocHeader + a)) (laid-reached z h os oe sum b a y)) refl (own y)
+        found refl (ap (λ (u : Bool). not u && below (maxS baySum (baysOf (decodeZone z))) (relocHeader + a)) (laid-reached z h os oe sum b a y)) refl (own y)
 
     module _ (l : sum < a - b) (need : ℕ) (en : need ≡ relocHeader + a) (f : Bool) (st e room tl : ℕ) (r : bayN f st e room tl ≡ lowBay need first (baysAt z first)) where
       -- by whether a bay reaches the need
@@ -57,7 +44,7 @@ module _ (z : List ℕ) (h first at b a : ℕ) (x : Tight z h first at b a) wher
           (ap (λ (n : ℕ). leb n (maxS baySum (baysOf (decodeZone z)))) (sym en) ∙ zone-reach z (x .zone) first (x .is-first) need f st e room tl r)
 
       pub other-none : f ≡ false → (number a′ : ℕ) (G : Type 0) → number ≡ 5 → Chosen z h a number a′ G
-      other-none t number a′ G k = none k (no-room ∙ ap not t)
+      other-none t number a′ G k = lacks k (no-room ∙ ap not t)
 
       module _ (t : f ≡ true) where
         pub other-bay : BayFor z need st e room
@@ -74,5 +61,5 @@ module _ (z : List ℕ) (h first at b a : ℕ) (x : Tight z h first at b a) wher
 
         pub other-way : (to n : ℕ) (tidy : Bool) → RoomFor z need st e to n tidy → Chosen z h a 0 a (WayIn z h a b to n st e tidy OtherBay)
         other-way to n tidy p =
-            some refl (no-room ∙ ap not t) refl
+            found refl (no-room ∙ ap not t) refl
             (other (low-moves z (x .zone) first (x .is-first) need f st e room tl t r h b a en grows (omega (arith, own-is, x .more)) to n tidy p))

@@ -24,7 +24,7 @@ use Rattle.locate.proofs.Live.{place-gone, place-live}
 use Rattle.reshape.specs.Own.{Known}
 use Rattle.reshape.proofs.Plan.{here-of, here-reached}
 use Rattle.call_laws.specs.Frame.{zoneAt, PlannedIn, refuses, goes}
-use Rattle.resize.specs.Ready.{noRoom, WayIn, here, Tight, Chosen, none, some as way-of, ReadyIn}
+use Rattle.resize.specs.Ready.{noRoom, WayIn, here, Tight, Chosen, lacks, found, ReadyIn}
 use Rattle.resize.specs.declared.Way.the-variants.{InPlace}
 
 module _ (z : List ℕ) (h c : ℕ) where
@@ -35,11 +35,11 @@ module _ (z : List ℕ) (h c : ℕ) where
   abbrev asks : Bool → Option (List ℕ) → ℕ
   asks t d =
       first order (
-        cause 1 false
-        ∷ cause 3 (not t)
-        ∷ cause 5 (below (ownSum items baySum h (baysOf s)) (up4 c - Option·getD (over length d) 0) && below (maxS baySum (baysOf s)) (relocHeader + up4 c))
-        ∷ cause 6 (isNone (over length d))
-        ∷ []
+      cause 1 false
+      ∷ cause 3 (not t)
+      ∷ cause 5 (below (ownSum items baySum h (baysOf s)) (up4 c - Option·getD (over length d) 0) && below (maxS baySum (baysOf s)) (relocHeader + up4 c))
+      ∷ cause 6 (isNone (over length d))
+      ∷ []
       )
 
   -- of a live handle, by whether c is small and whether there is no room
@@ -76,15 +76,15 @@ module _ (z : List ℕ) (h c : ℕ) where
 
       -- what the bays give
       pub in-bays : (number a′ : ℕ) (G : Type 0) → Chosen z h a number a′ G → PlannedIn (resize h c) z number (ReadyIn z h c a′ G)
-      in-bays number a′ G (none k n) = refuses (record { some = λ y. omega arith; is = λ buf. asked live (le-leb c relocLimit l) (ap (noRoom z h) (sym ea) ∙ n) buf ∙ sym k })
-      in-bays number a′ G (way-of k n q g) = goes k (record { is-a = q ∙ ea; passed = asked live (le-leb c relocLimit l) (ap (noRoom z h) (sym ea) ∙ n); goes = g })
+      in-bays number a′ G (lacks k n) = refuses (record { some = λ y. omega arith; is = λ buf. asked live (le-leb c relocLimit l) (ap (noRoom z h) (sym ea) ∙ n) buf ∙ sym k })
+      in-bays number a′ G (found k n q g) = goes k (record { is-a = q ∙ ea; passed = asked live (le-leb c relocLimit l) (ap (noRoom z h) (sym ea) ∙ n); goes = g })
 
       module _ (b f : ℕ) (k : Known z h place b f) where
         pub in-here : a ≤ b + f → (st en : ℕ) (t : Bool) → PlannedIn (resize h c) z 0 (ReadyIn z h c a (WayIn z h a b place f st en t InPlace))
         in-here m st en t =
             let x = here-of z h place b f k a (omega (arith, ea)) (omega (arith, ea)) m in
             in-bays 0 a (WayIn z h a b place f st en t InPlace)
-            (way-of refl (ap (λ (u : Bool). not u && below (maxS baySum (baysOf s)) (relocHeader + a)) (here-reached z h place b f a x)) refl (here x))
+            (found refl (ap (λ (u : Bool). not u && below (maxS baySum (baysOf s)) (relocHeader + a)) (here-reached z h place b f a x)) refl (here x))
 
         pub in-tight : IsZone z → b ≡ length (dataIn z h) → (first : ℕ) → first ≡ firstField z → b + f < a → Tight z h first place b a
         in-tight i eb first ef m =

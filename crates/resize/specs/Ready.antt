@@ -57,8 +57,8 @@ pub record Tight (z : List ℕ) (h first at b a : ℕ) : Type 0 where
 
 -- the plan of those: the refusal, or a way
 pub data Chosen (z : List ℕ) (h a number a′ : ℕ) (Goes : Type 0) : Type 0 where
-  none : number ≡ 5 → noRoom z h a ≡ true → Chosen z h a number a′ Goes
-  some : number ≡ 0 → noRoom z h a ≡ false → a′ ≡ a → Goes → Chosen z h a number a′ Goes
+  lacks : number ≡ 5 → noRoom z h a ≡ true → Chosen z h a number a′ Goes
+  found : number ≡ 0 → noRoom z h a ≡ false → a′ ≡ a → Goes → Chosen z h a number a′ Goes
 
 pub record ReadyIn (z : List ℕ) (h c a : ℕ) (Goes : Type 0) : Type 0 where
   pub is-a : a ≡ up4 c

@@ -5,12 +5,10 @@ use Prim.Native.Nat.{ℕ, _+_, _%_, _<_, _≤_}
 use native.Mathlib.Omega.{arith}
 use lib.ListN.{length, take, drop, length-append, length-drop, drop-of-length-le}
 use lib.Seq.{drop-drop, take-at, drop-at}
-use Rattle.block_type.specs.Limits.{relocHeader, smallestBlock, relocCode}
-use Rattle.format.specs.WellFormed.{typeOf, sizeOf, handleOf}
-use Rattle.format.proofs.Walk.{blocks-cons, blocks-nil, kind-take, size-take, handle-take}
+use Rattle.block_type.specs.Limits.{smallestBlock}
+use Rattle.format.specs.WellFormed.{typeOf, sizeOf}
+use Rattle.format.proofs.Walk.{blocks-cons, blocks-nil, kind-take, size-take}
 use Rattle.structure.specs.Structure.{Block, fixed, size, sizes, encodeBlock, decodeBlock, join, cell, code}
-use Rattle.kinds.specs.Kinds.{item}
-use Rattle.bay.specs.Bay.{held}
 use Rattle.bay.proofs.CellBytes.{enc}
 use Rattle.structure.proofs.Back.{Enc, enc-cell, enc-fixed}
 use Rattle.row.specs.Row.{blocksOf, bytesOf, Sound1, Sound, Row, row, blockAt, Stepped}
@@ -95,13 +93,6 @@ stepped s p n (row (b ∷ bs) sd e) l en =
 pub row-end : (s : List ℕ) (p : ℕ) → length s ≤ p → blocksOf (drop p s) ≡ []
 row-end s p h = rw (drop-of-length-le s h) tiles-nil
 
--- a stretch is the bytes of its blocks
-pub row-bytes : (r : List ℕ) → Row r → bytesOf (blocksOf r) ≡ r
-row-bytes r (row bs sd e) = rw e (rw (tiles-join bs sd))
-
-pub row-sound : (r : List ℕ) → Row r → Sound (blocksOf r)
-row-sound r (row bs sd e) = rw (e, tiles-join bs sd) sd
-
 pub bytes-long : (bs : List Block) → Sound bs → length (bytesOf bs) ≡ sizes bs
 unfolding join sizes
 bytes-long [] s = refl
@@ -123,9 +114,3 @@ sound-left (x ∷ a) b s = (s .0, sound-left a b (s .1))
 pub sound-right : (a b : List Block) → Sound (a ++ b) → Sound b
 sound-right [] b s = s
 sound-right (x ∷ a) b s = sound-right a b (s .1)
-
--- a relocatable block, by its bytes
-pub reloc-at : (s : List ℕ) (p n : ℕ) → Stepped s p n → typeOf (drop p s) ≡ relocCode
-    → blockAt s p ≡ cell (held (item (handleOf (drop p s)) (drop relocHeader (take n (drop p s)))))
-unfolding decodeBlock
-reloc-at s p n st k = rw (st .size-is, kind-take n (drop p s) (st .low), k, handle-take n (drop p s) (st .low))

@@ -5,7 +5,7 @@ use mathlib.Core.Bool.{Bool}
 use Prim.Native.Nat.{ℕ, _+_, _%_, _≤_}
 use lib.ListN.{length, take, drop}
 use lib.Dec.{eqb}
-use Rattle.block_type.specs.Limits.{freeCode, fixedCode, fixedHeader, fixedLimit, smallestBlock}
+use Rattle.block_type.specs.Limits.{freeCode, fixedHeader, fixedLimit, smallestBlock}
 use Rattle.bigendian.specs.BigEndian.{slice}
 use Rattle.format.specs.WellFormed.{sizeOf, typeOf, splitBlocks}
 use Rattle.structure.specs.Structure.{Block, fixed, size, code, encodeBlock, decodeBlock, join, cell}
@@ -21,9 +21,6 @@ bytesOf bs = join (map encodeBlock bs)
 
 abbrev pub freeB : Block → Bool
 freeB b = eqb (code b) freeCode
-
-abbrev pub fixedB : Block → Bool
-fixedB b = eqb (code b) fixedCode
 
 -- the sizes that the format has
 abbrev pub Sound1 : Block → Type 0

@@ -13,16 +13,13 @@ use Rattle.block_type.specs.Limits.{fixedHeader}
 use Rattle.kinds.specs.Kinds.{headerOf, masterOf, itemSize}
 use Rattle.bay.specs.Bay.{free, held}
 use Rattle.format.proofs.Count.{one, one-same, one-other}
-use Rattle.structure.specs.Structure.{Block, fixed, size, sizes, placeOf, cell, handlesOf}
+use Rattle.structure.specs.Structure.{Block, fixed, sizes, placeOf, cell, handlesOf}
+use Rattle.structure.specs.Valid.{handlesOf}
 
 pub sizes-append : (a b : List Block) → sizes (a ++ b) ≡ sizes a + sizes b
 unfolding sizes
 sizes-append [] b = omega arith
 sizes-append (x ∷ a) b = omega (arith, sizes-append a b)
-
-pub sizes-snoc : (a : List Block) (b : Block) → sizes (a ++ b ∷ []) ≡ sizes a + size b
-unfolding sizes
-sizes-snoc a b = omega (arith, sizes-append a (b ∷ []))
 
 pub handles-append : (a b : List Block) → handlesOf (a ++ b) ≡ handlesOf a ++ handlesOf b
 unfolding handlesOf

@@ -1,5 +1,6 @@
 use Rattle.access.proofs.Checked.{zone-8, zone-14}
-use Rattle.allocate_relocatable.proofs.Zone.{in-0, in-3, in-4, in-5, ask-row, ask-first, ask-limit, bay-here}
+use Rattle.row.proofs.Zone.{zone-row, zone-start, zone-short}
+use Rattle.allocate_relocatable.proofs.Zone.{in-0, in-3, in-4, in-5, bay-here}
 use borrow.Author.Needs.{needs}
 use Rattle.allocate_relocatable.proofs.plan_in.Statement.{statement}
 use Rattle.allocate_relocatable.proofs.plan_in.Tie as tie
@@ -17,7 +18,7 @@ get4-requires : tie.Need-get4-requires
 get4-requires c κs = search zone-8
 
 find-low-requires : tie.Need-find-low-requires
-find-low-requires c κs = (search ask-row, search ask-first, search ask-limit)
+find-low-requires c κs = (search zone-row, search zone-start, search zone-short)
 
 plan-bay-requires : tie.Need-plan-bay-requires
 plan-bay-requires c κs = search bay-here

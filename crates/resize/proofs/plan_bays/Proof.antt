@@ -1,4 +1,5 @@
-use Rattle.resize.proofs.Bays.{ask-row, ask-first, ask-limit, ask-low, own-way, other-bay, other-way, other-none}
+use Rattle.row.proofs.Zone.{zone-row, zone-start, zone-short}
+use Rattle.resize.proofs.Bays.{ask-low, own-way, other-bay, other-way, other-none}
 use borrow.Author.Needs.{needs}
 use Rattle.resize.proofs.plan_bays.Statement.{statement}
 use Rattle.resize.proofs.plan_bays.Tie as tie
@@ -7,13 +8,13 @@ sub-find-own : tie.Need-sub-find-own
 sub-find-own c = search ask-low
 
 find-own-requires : tie.Need-find-own-requires
-find-own-requires c κs = (search ask-row, search ask-first, search ask-limit)
+find-own-requires c κs = (search zone-row, search zone-start, search zone-short)
 
 returns : tie.Need-returns
 returns c = search own-way
 
 find-low-requires : tie.Need-find-low-requires
-find-low-requires c κs = (search ask-row, search ask-first, search ask-limit)
+find-low-requires c κs = (search zone-row, search zone-start, search zone-short)
 
 find-room-requires : tie.Need-find-room-requires
 find-room-requires c κs = search other-bay
