@@ -17,8 +17,8 @@ use Rattle.format.proofs.Header.{header-facts}
 use Rattle.format.proofs.Walk.{slice-take}
 use Rattle.structure.specs.Structure.{decode, len}
 use Rattle.structure.proofs.Table.{whole, len-is}
-use Rattle.access.specs.Edit.{IsZone, is-zone}
-use Rattle.access.proofs.Zone.{whole-of}
+use Rattle.structure.specs.IsZone.{IsZone, is-zone}
+use Rattle.structure.proofs.IsZone.{whole-of}
 
 -- ---- slices
 

@@ -2,5 +2,4 @@ pub mod Checked
 pub mod PlaceLaws
 pub mod Among
 pub mod Size
-pub mod Zone
 pub mod Named

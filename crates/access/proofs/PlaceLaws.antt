@@ -18,8 +18,9 @@ use Rattle.format.proofs.Live.{handles, live-of, live-high, handles-high}
 use Rattle.structure.specs.Structure.{placeOf, decodeZone, decodeBlock}
 use Rattle.structure.proofs.Table.{Whole, places, start-is}
 use Rattle.structure.proofs.Back.{master-of}
-use Rattle.access.specs.Edit.{placeIn, IsZone}
-use Rattle.access.proofs.Zone.{whole-of}
+use Rattle.access.specs.Edit.{placeIn}
+use Rattle.structure.specs.IsZone.{IsZone}
+use Rattle.structure.proofs.IsZone.{whole-of}
 
 module _ (z : List ℕ) (i : IsZone z) (h : ℕ) where
   w : Whole z

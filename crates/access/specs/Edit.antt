@@ -4,7 +4,6 @@ use mathlib.Core.Bool.{cond}
 use Prim.Native.Nat.{ℕ}
 use Rattle.structure.specs.Structure.{Block, fixed, start, placeOf, decodeZone, cell}
 use Rattle.kinds.specs.Kinds.{is}
-pub use Rattle.structure.specs.IsZone.{IsZone, is-zone}
 use Rattle.bay.specs.Bay.{free, held}
 
 -- the data of handle h

@@ -3,8 +3,9 @@ use block_type::BlockType;
 ghost use mathlib.Core.Path.{_≡_};
 ghost use Prim.Native.Nat.{_<_};
 ghost use lib.ListN.{length};
-ghost use Rattle.access.specs.Edit.{placeIn, dataIn, IsZone};
+ghost use Rattle.access.specs.Edit.{placeIn, dataIn};
 ghost use Rattle.block_type.specs.Limits.{argumentRange};
+ghost use Rattle.structure.specs.IsZone.{IsZone};
 
 // Where the data of handle h lies; 0 where h is not live.
 pub fn place(z: &[u8], h: usize) -> usize

@@ -12,7 +12,6 @@ use mir.Syntax.{w8, w32, w64}
 use Rattle.block_type.specs.Limits.{fixedHeader, fixedNeed, fixedLimit}
 use Rattle.format.specs.WellFormed.{firstField}
 use Rattle.structure.specs.Structure.{Structure, start, len, decodeZone, encode}
-use Rattle.access.specs.Edit.{IsZone}
 use Rattle.calls.specs.Calls.{told, allocate-fixed}
 use Rattle.calls.specs.Bays.{Bays, maxS}
 use Rattle.calls.specs.State.{Fixed, pointer}
@@ -30,6 +29,7 @@ use Rattle.call_laws.proofs.Frame.{frame-ready, frame-done}
 use Rattle.allocate_fixed.specs.Placed.{room, placed, Site}
 use Rattle.allocate_fixed.specs.Ready.{ReadyIn}
 use Rattle.allocate_fixed.proofs.Placed.{ask-sub, ask-end}
+use Rattle.structure.specs.IsZone.{IsZone}
 
 -- ---- the refusals
 

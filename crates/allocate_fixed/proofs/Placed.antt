@@ -16,8 +16,8 @@ use Rattle.bay.specs.Bay.{Cell, baySize, packed, takeHigh}
 use Rattle.bay.specs.Sound.{bytesOf}
 use Rattle.bay.proofs.Laws.{cut-less}
 use Rattle.bay.proofs.BayBytes.{bytes-long}
-use Rattle.structure.specs.Structure.{Block, cell, fixed, Structure, size, sizes, count, start, encodeBlock, join, encode, decodeZone}
-use Rattle.structure.specs.Valid.{handlesOf, Valid}
+use Rattle.structure.specs.Structure.{Block, cell, fixed, Structure, size, sizes, count, start, encodeBlock, join, encode, decodeZone, handlesOf}
+use Rattle.structure.specs.Valid.{Valid}
 use Rattle.structure.proofs.Round.{offset-is}
 use Rattle.row.specs.Row as Row
 use Rattle.row.proofs.Laws.{bytes-append, sound-append}

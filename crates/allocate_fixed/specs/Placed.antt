@@ -4,13 +4,13 @@ use mathlib.Core.List.{List}
 use Prim.Native.Nat.{ℕ, _%_, _≤_}
 use Rattle.block_type.specs.Limits.{freeHeader, largestBlock}
 use Rattle.structure.specs.Structure.{Structure, start, len, decodeZone}
-use Rattle.access.specs.Edit.{IsZone}
 use Rattle.calls.specs.Bays.{Bays}
 use Rattle.calls.specs.State.{Fixed}
 use Rattle.bay.specs.Bay.{Cell, takeHigh}
 use Rattle.zone.specs.Group.{group, flatten}
 use Rattle.zone.specs.Work.{placeHigh}
 use Rattle.bays.specs.Found.{FoundHigh}
+use Rattle.structure.specs.IsZone.{IsZone}
 
 -- a new fixed block of need bytes, and the bays with it
 abbrev pub room : ℕ → Structure → Fixed × Bays (List Cell) Fixed

@@ -3,7 +3,6 @@ ghost use mathlib.Core.Path.{_≡_};
 ghost use Prim.Native.Nat.{_+_};
 ghost use lib.ListN.{take};
 ghost use Rattle.structure.specs.Structure.{encode, decodeZone};
-ghost use Rattle.access.specs.Edit.{IsZone};
 ghost use Rattle.calls.specs.Calls.{told, allocate-fixed};
 ghost use Rattle.zone.specs.Call.{result, call};
 ghost use Rattle.call_laws.specs.Frame.{PlannedIn, Planned};
@@ -11,6 +10,7 @@ ghost use Rattle.allocate_fixed.specs.Placed.{placed, Site};
 ghost use Rattle.allocate_fixed.specs.Ready.{Ready};
 use block_type::BlockType;
 use calls::Told;
+ghost use Rattle.structure.specs.IsZone.{IsZone};
 
 // The new block of need bytes at the end of the bay from a to e. Its data are zero, also where a free block's header stood.
 fn place(z: &mut [u8], need: usize, a: usize, e: usize, sum: usize, tail: usize)

@@ -7,7 +7,6 @@ use Rattle.structure.specs.Structure.{cell, Structure, start, encode, decodeZon
 use Rattle.structure.specs.Valid.{Valid}
 use Rattle.structure.proofs.Table.{Whole, encode-zone}
 use Rattle.structure.proofs.Sound.{valid-zone}
-use Rattle.access.proofs.Zone.{whole-of}
 use Rattle.zone.specs.Group.{flatten}
 use Rattle.zone.proofs.GroupLaws.{flatten-group}
 use Rattle.bays.specs.Places.{baysOf}
@@ -16,6 +15,7 @@ use Rattle.slide.specs.ZoneBay.{bayCells, ZoneBay}
 use Rattle.settle.proofs.Bay.{bay-at}
 use Rattle.place.proofs.Placed.{head-low}
 use Rattle.allocate_relocatable.specs.Ready.{BayIn}
+use Rattle.structure.proofs.IsZone.{whole-of}
 
 module _ {z : List ℕ} {need h a e sum : ℕ} (x : BayIn z need h a e sum) where
   abbrev s : Structure

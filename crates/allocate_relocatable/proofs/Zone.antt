@@ -13,8 +13,6 @@ use Rattle.structure.specs.Structure.{Structure, start, headOf, decodeZone}
 use Rattle.structure.specs.Valid.{Valid}
 use Rattle.structure.proofs.Table.{start-is, head-is}
 use Rattle.structure.proofs.Sound.{valid-zone}
-use Rattle.access.specs.Edit.{IsZone}
-use Rattle.access.proofs.Zone.{whole-of}
 use Rattle.kinds.specs.Kinds.{itemSize}
 use Rattle.calls.specs.Calls.{allocate-relocatable}
 use Rattle.calls.specs.Bays.{Bays, maxS}
@@ -31,6 +29,8 @@ use Rattle.place.proofs.Cut.{blank-size}
 use Rattle.place.proofs.Placed.{head-low}
 use Rattle.call_laws.specs.Frame.{zoneAt, PlannedIn, refuses, goes}
 use Rattle.allocate_relocatable.specs.Ready.{BayIn, GoingIn, ReadyIn}
+use Rattle.structure.specs.IsZone.{IsZone}
+use Rattle.structure.proofs.IsZone.{whole-of}
 
 module _ (z : List ℕ) (c : ℕ) where
   abbrev s : Structure

@@ -6,7 +6,6 @@ use Prim.Native.Nat.{ℕ}
 use lib.ListN.{length}
 use Rattle.block_type.specs.Limits.{relocNeed}
 use Rattle.structure.specs.Structure.{Structure, start, headOf, decodeZone}
-use Rattle.access.specs.Edit.{IsZone}
 use Rattle.kinds.specs.Kinds.{itemSize}
 use Rattle.calls.specs.Calls.{allocate-relocatable}
 use Rattle.calls.specs.State.{top, rest}
@@ -20,6 +19,7 @@ use Rattle.place.specs.Fit.{blank, Size}
 use Rattle.place.specs.Room.{Room}
 use Rattle.call_laws.specs.Frame.{zoneAt}
 use Rattle.allocate_relocatable.specs.declared.Plan.{Plan}
+use Rattle.structure.specs.IsZone.{IsZone}
 
 -- the structure with a new block of need bytes in the lowest bay whose sum reaches them, the chain's head being its handle
 abbrev pub allocated : ℕ → Structure → Structure

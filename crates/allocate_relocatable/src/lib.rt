@@ -6,7 +6,6 @@ ghost use lib.ListN.{take};
 ghost use Rattle.block_type.specs.Limits.{zoneHeader, chainAt};
 ghost use Rattle.bigendian.specs.BigEndian.{toBE, overwrite};
 ghost use Rattle.structure.specs.Structure.{encode, decodeZone};
-ghost use Rattle.access.specs.Edit.{IsZone};
 ghost use Rattle.bay.specs.Bay.{held, gap};
 ghost use Rattle.slide.specs.ZoneBay.{settled};
 ghost use Rattle.place.specs.Fit.{blank, Fit};
@@ -16,6 +15,7 @@ ghost use Rattle.call_laws.specs.Frame.{PlannedIn, Planned};
 ghost use Rattle.allocate_relocatable.specs.Ready.{allocated, BayIn, Going, Ready};
 use block_type::BlockType;
 use calls::Told;
+ghost use Rattle.structure.specs.IsZone.{IsZone};
 
 pub struct Plan {
     pub number: u32,

@@ -9,8 +9,8 @@ use lib.ListN.{length}
 use lib.Dec.{leb}
 use borrow.Author.Tests.{le-leb, lt-leb, eq-eqb}
 use Rattle.calls.specs.Bays.{over}
-use Rattle.kinds.specs.Kinds.{Item, itemSize}
-use Rattle.calls.specs.State.{is, get}
+use Rattle.kinds.specs.Kinds.{Item, itemSize, is}
+use Rattle.calls.specs.State.{get}
 use Rattle.calls.specs.Table.{isNone}
 use Rattle.bay.specs.Bay.{Cell, free, held, baySum, items, gap, packed, Hole, behind, holes, choose, fill, trim, takeHigh, resized, inPlace, growHere}
 use Rattle.bay.proofs.Laws.{items-append, bsum-append}

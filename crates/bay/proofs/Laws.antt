@@ -6,8 +6,8 @@ use native.Mathlib.Omega.{arith}
 use lib.ListN.{length}
 use lib.Dec.{leb}
 use borrow.Author.Tests.{leb-true}
-use Rattle.kinds.specs.Kinds.{Item, headerOf, itemSize}
-use Rattle.calls.specs.State.{is, total, alter}
+use Rattle.kinds.specs.Kinds.{Item, headerOf, itemSize, is}
+use Rattle.calls.specs.State.{total, alter}
 use Rattle.bay.specs.Bay.{Cell, free, held, baySize, baySum, items, gap, packed, joinBays, compactBay, trim, takeHigh, release, edit}
 use Rattle.bay.specs.Counted.{remove}
 use Rattle.bay.proofs.Each.{Each, nothing, just, each-over, each-cond, each-getD, cond-ap, cond-one}

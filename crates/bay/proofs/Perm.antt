@@ -6,8 +6,8 @@ use mathlib.Core.List.{List, _∷_, map, List·Permᴰ, List·Permᴰ·nil, List
 use Prim.Native.Nat.{ℕ, suc, _+_, _≤_}
 use native.Mathlib.Omega.{arith}
 use lib.ListN.{length}
-use Rattle.kinds.specs.Kinds.{Item, itemSize}
-use Rattle.calls.specs.State.{is, total, get}
+use Rattle.kinds.specs.Kinds.{Item, itemSize, is}
+use Rattle.calls.specs.State.{total, get}
 use Rattle.bay.specs.Counted.{remove, count}
 
 pub perm-total : {a b : List Item} → List·Permᴰ a b → total a ≡ total b

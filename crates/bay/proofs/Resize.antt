@@ -9,8 +9,8 @@ use lib.ListN.{length, length-append, length-take, length-replicate}
 use lib.Dec.{leb}
 use borrow.Author.Tests.{leb-true, leb-false}
 use Rattle.calls.specs.Bays.{over}
-use Rattle.kinds.specs.Kinds.{Item, itemSize}
-use Rattle.calls.specs.State.{is, total, alter, get, sized}
+use Rattle.kinds.specs.Kinds.{Item, itemSize, is}
+use Rattle.calls.specs.State.{total, alter, get, sized}
 use Rattle.bay.specs.Bay.{Cell, free, held, baySize, baySum, items, gap, packed, resized, growInto, inPlace, growHere, reshape}
 use Rattle.bay.specs.Counted.{count, roomFor}
 use Rattle.bay.proofs.Each.{Each, nothing, just, each-over, each-cond, each-cond′, each-getD, each-weaken}

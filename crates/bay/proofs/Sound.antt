@@ -7,8 +7,8 @@ use native.Mathlib.Omega.{arith}
 use lib.ListN.{length}
 use lib.Dec.{leb}
 use borrow.Author.Tests.{leb-true}
-use Rattle.kinds.specs.Kinds.{Item, itemSize}
-use Rattle.calls.specs.State.{is, alter}
+use Rattle.kinds.specs.Kinds.{Item, itemSize, is}
+use Rattle.calls.specs.State.{alter}
 use Rattle.bay.specs.Bay.{Cell, free, held, baySum, items, gap, packed, joinBays, compactBay, put, trim, takeHigh, release, edit}
 use Rattle.bay.proofs.Each.{Each, nothing, just, each-over, each-cond, each-getD}
 use Rattle.bay.proofs.Holes.{Put, in-hole, compacted, put-is}

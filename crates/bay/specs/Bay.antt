@@ -7,8 +7,8 @@ use lib.ListN.{length}
 use lib.Dec.{leb}
 use Rattle.calls.specs.Bays.{over}
 use Rattle.block_type.specs.Limits.{freeCode}
-use Rattle.kinds.specs.Kinds.{Item, codeOf, holding, itemSize}
-use Rattle.calls.specs.State.{total, is, alter, sized}
+use Rattle.kinds.specs.Kinds.{Item, codeOf, holding, itemSize, is}
+use Rattle.calls.specs.State.{total, alter, sized}
 
 -- ---- a bay's blocks: free ones by their size, relocatable ones by what they hold
 
@@ -40,12 +40,13 @@ items [] = []
 items (free n ∷ cs) = items cs
 items (held e ∷ cs) = e ∷ items cs
 
+-- n free bytes in front of a bay's blocks, merged with a free one that follows
 abbrev pub merge : ℕ → List Cell → List Cell
 merge n [] = free n ∷ []
 merge n (free k ∷ cs) = free (n + k) ∷ cs
 merge n (held e ∷ cs) = free n ∷ held e ∷ cs
 
--- n free bytes in front, merged with a free block that follows; nothing for 0
+-- the same, and nothing for 0
 abbrev pub gap : ℕ → List Cell → List Cell
 gap zero cs = cs
 gap (suc n) cs = merge (suc n) cs
@@ -61,7 +62,8 @@ joinBays [] t = t
 joinBays (free n ∷ cs) t = gap n (joinBays cs t)
 joinBays (held e ∷ cs) t = held e ∷ joinBays cs t
 
--- "its relocatable blocks go to its start in old order, one free block holds the rest (none for 0)"
+-- "its relocatable blocks go to its start in old order, one free block holds the rest (none for 0), masters follow" (a master holds where
+-- its block is: `value` in Structure)
 abbrev pub compactBay : List Cell → List Cell
 compactBay cs = packed (items cs) (gap (baySum cs) [])
 
@@ -139,6 +141,7 @@ inPlace e a cs =
     (some (held (resized a e) ∷ gap (length (e .bytes) - a) cs))
     (growInto (resized a e) (a - length (e .bytes)) cs)
 
+-- the bay with the block of handle h at its new size where it stands; none where there is no room
 abbrev pub growHere : ℕ → ℕ → List Cell → Option (List Cell)
 growHere h a [] = none
 growHere h a (free k ∷ cs) = over (free k ∷_) (growHere h a cs)

@@ -6,8 +6,8 @@ use Prim.Native.Nat.{ℕ, suc, _-_}
 use lib.ListN.{length}
 use lib.Dec.{leb}
 use Rattle.calls.specs.Bays.{Bays, sumS}
-use Rattle.kinds.specs.Kinds.{Item}
-use Rattle.calls.specs.State.{is, Fixed}
+use Rattle.kinds.specs.Kinds.{Item, is}
+use Rattle.calls.specs.State.{Fixed}
 use Rattle.bay.specs.Bay.{Cell, items}
 
 -- the items with another handle

@@ -7,12 +7,12 @@ use lib.ListN.{length}
 use Rattle.format.specs.WellFormed.{firstField}
 use Rattle.structure.specs.Structure.{start, len, decodeZone}
 use Rattle.structure.proofs.Table.{start-is, len-is}
-use Rattle.access.specs.Edit.{IsZone}
-use Rattle.access.proofs.Zone.{whole-of}
 use Rattle.zone.specs.Group.{group}
 use Rattle.zone.proofs.Places.{Tiled}
 use Rattle.bays.specs.Places.{BayN, baysAt, highBay}
 use Rattle.bays.proofs.Zone.{ZoneBays, zone-bays}
+use Rattle.structure.specs.IsZone.{IsZone}
+use Rattle.structure.proofs.IsZone.{whole-of}
 
 module _ (z : List ℕ) (i : IsZone z) (first : ℕ) (ef : first ≡ firstField z) where
   b : ZoneBays z first

@@ -16,7 +16,6 @@ use Rattle.structure.specs.Structure.{Block, Structure, encode, decodeZone}
 use Rattle.structure.specs.Valid.{Valid}
 use Rattle.structure.proofs.Table.{encode-zone}
 use Rattle.structure.proofs.Sound.{valid-zone}
-use Rattle.access.proofs.Zone.{whole-of}
 use Rattle.slide.specs.ZoneBay.{ZoneBay, bayCells, settled}
 use Rattle.slide.proofs.Change.{Kept, kept-now}
 use Rattle.settle.proofs.Any.{settle}
@@ -25,6 +24,7 @@ use Rattle.bay_end.specs.Taken.{beforeZeros, CanTake}
 use Rattle.bay_end.specs.Run.{Run}
 use Rattle.bay_end.proofs.Masters.{all-length}
 use Rattle.bay_end.proofs.Kept.{taken-kept}
+use Rattle.structure.proofs.IsZone.{whole-of}
 
 module _ (z : List ℕ) (n a e sum tail : ℕ) (r : Run z n a e sum tail) where
   abbrev s : Structure

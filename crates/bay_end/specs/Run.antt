@@ -5,8 +5,8 @@ use Prim.Native.Nat.{ℕ, _%_, _≤_}
 use Rattle.block_type.specs.Limits.{freeHeader}
 use Rattle.bay.specs.Bay.{Cell, baySum}
 use Rattle.structure.specs.Structure.{Block, cell, start, decodeZone}
-use Rattle.access.specs.Edit.{IsZone}
 use Rattle.bays.specs.Found.{Numbers}
+use Rattle.structure.specs.IsZone.{IsZone}
 
 pub record Run (z : List ℕ) (n a e sum tail : ℕ) : Type 0 where
   pub zone : IsZone z

@@ -12,8 +12,6 @@ use Rattle.structure.specs.Structure.{Block, Structure, count, start, len, deco
 use Rattle.structure.specs.Valid.{Valid}
 use Rattle.structure.proofs.Table.{Whole, start-is, len-is}
 use Rattle.structure.proofs.Sound.{valid-zone}
-use Rattle.access.specs.Edit.{IsZone}
-use Rattle.access.proofs.Zone.{whole-of}
 use Rattle.row.specs.Row.{Row}
 use Rattle.row.proofs.Zone.{blocks-are, zone-row, zone-start, zone-short}
 use Rattle.calls.specs.Bays.{Bays, maxS}
@@ -26,6 +24,8 @@ use Rattle.zone.proofs.Grouped.{line-bays, whole-bays}
 use Rattle.zone.proofs.Keep.{count-line}
 use Rattle.bays.specs.Places.{baysOf, baysAt, BayN, bayN, lowBay}
 use Rattle.bays.proofs.Low.{low-is}
+use Rattle.structure.specs.IsZone.{IsZone}
+use Rattle.structure.proofs.IsZone.{whole-of}
 
 -- ---- the bays; the blocks begin at `first`
 

@@ -156,7 +156,11 @@ fn reloc_size(z: &[u8], first: usize, at: usize, w: u32) -> usize
 {
     let n = word_size(z, at, w);
     let h = word_handle(z, at, w);
-    if (w % 4 == 0) & (w / BlockType::HANDLE_RANGE % 2 == 0) & (block_type::ZONE_HEADER <= h) & (h < first) {
+    if (w % 4 == 0)
+        & (w / BlockType::HANDLE_RANGE % 2 == 0)
+        & (block_type::ZONE_HEADER <= h)
+        & (h < first)
+    {
         if is_held(z, at, n, h) {
             return n;
         }

@@ -26,9 +26,9 @@ pub roster-left : (k : ℕ) (second : List ℕ) → (refused (roster second) k) 
 roster-left k second = refl
 
 -- an allocation that a handle is left for, and that the largest bay's sum reaches, is not refused
-pub granted : (c h : ℕ) (hs : List ℕ) (f : Facts) → f .well ≡ true → f .handles ≡ h ∷ hs → leb c relocLimit ≡ true → leb (relocNeed c) (f .largest) ≡ true
+pub granted : (c h : ℕ) (hs : List ℕ) (f : Facts) → f .well ≡ true → f .chain ≡ h ∷ hs → leb c relocLimit ≡ true → leb (relocNeed c) (f .largest) ≡ true
     → refusalOf (allocate-relocatable c) f ≡ 0
-granted c h hs f w g l n = go (f .well) (f .handles) (leb c relocLimit) (leb (relocNeed c) (f .largest)) w g l n
+granted c h hs f w g l n = go (f .well) (f .chain) (leb c relocLimit) (leb (relocNeed c) (f .largest)) w g l n
   where
     go : (v : Bool) (ks : List ℕ) (t u : Bool) → v ≡ true → ks ≡ h ∷ hs → t ≡ true → u ≡ true
         → first order (cause 1 (not v) ∷ cause 3 (not t) ∷ cause 4 (isEmpty ks) ∷ cause 5 (not u) ∷ []) ≡ 0

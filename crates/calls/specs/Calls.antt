@@ -12,6 +12,7 @@ pub data Call : Type 0 where
   -- c
   allocate-relocatable : ℕ → Call
   allocate-fixed : ℕ → Call
+  -- handle; pointer
   free-handle : ℕ → Call
   free-pointer : ℕ → Call
   -- handle, c

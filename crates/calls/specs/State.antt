@@ -7,8 +7,7 @@ use Prim.Native.Nat.{ℕ, zero, suc, _+_, _-_}
 use lib.ListN.{length, getD, take, drop, replicate}
 use lib.Dec.{eqb, leb}
 use Rattle.block_type.specs.Limits.{fixedHeader, masterSize, up4}
-use Rattle.kinds.specs.Kinds.{Item, item, holding, itemSize}
-pub use Rattle.kinds.specs.Kinds.{is}
+use Rattle.kinds.specs.Kinds.{Item, item, holding, is, itemSize}
 use Rattle.calls.specs.Calls.{Target, by-handle, by-pointer, Card, Answer, told}
 use Rattle.calls.specs.Bays.{Bays, last, more, over, findS, findF, maxS, sumS}
 

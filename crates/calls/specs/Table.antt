@@ -21,7 +21,7 @@ pub record Facts : Type 0 where
   pub buf : ℕ
   pub len : ℕ
   -- the free handles
-  pub handles : List ℕ
+  pub chain : List ℕ
   -- the data size of the block that is so named, none where there is no such block
   pub size : Target → Option ℕ
   -- the largest bay's sum, and the sum of the bay that has a handle (0 where none has it)
@@ -36,7 +36,7 @@ factsOf all μ well s = record {
   well = well;
   buf = s .buf;
   len = s .len;
-  handles = s .chain;
+  chain = s .chain;
   size = λ t. over length (content all t (s .bays));
   largest = maxS μ (s .bays);
   own = λ h. ownSum all μ h (s .bays);
@@ -79,7 +79,7 @@ tooLarge limit c = cause 3 (below limit c)
 
 -- 4: "allocate relocatable: chain empty"
 abbrev pub chainEmpty : Facts → Cause
-chainEmpty f = cause 4 (isEmpty (f .handles))
+chainEmpty f = cause 4 (isEmpty (f .chain))
 
 -- 5: "no bay as required"
 abbrev pub noBay : ℕ → Facts → Cause

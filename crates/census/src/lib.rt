@@ -4,9 +4,9 @@ ghost use Prim.Native.Nat.{ℕ, _^_, _<_, _≤_};
 ghost use lib.ListN.{length, getD, drop};
 ghost use Rattle.block_type.specs.Limits.{longestZone};
 ghost use Rattle.row.specs.Row.{Row, blocksOf};
-ghost use Rattle.access.specs.Edit.{IsZone};
 ghost use Rattle.zone.specs.Census.{countsOf, lowerLimits, freeWords, census};
 ghost use Rattle.census.specs.Tally.{counted, Stratum, adding, CountsIn};
+ghost use Rattle.structure.specs.IsZone.{IsZone};
 
 // The refusal number, 0 for done, and the number of free blocks of each stratum.
 pub struct Counts {

@@ -11,8 +11,6 @@ use Rattle.block_type.specs.Limits.{firstAt}
 use Rattle.format.specs.WellFormed.{firstField}
 use Rattle.structure.specs.Structure.{Structure, fixed, sizes, start, decodeZone, encode}
 use Rattle.structure.proofs.Sound.{valid-zone}
-use Rattle.access.specs.Edit.{IsZone}
-use Rattle.access.proofs.Zone.{whole-of}
 use Rattle.calls.specs.Calls.{told, compact}
 use Rattle.calls.specs.Bays.{Bays, last, more, maxS}
 use Rattle.calls.specs.State.{Fixed}
@@ -29,6 +27,8 @@ use Rattle.call_laws.proofs.Outcome.{none-lent}
 use Rattle.call_laws.proofs.Frame.{frame-ready, frame-done}
 use Rattle.compact.specs.Compacted.{largest, compacted}
 use Rattle.compact.specs.Ready.{ReadyIn}
+use Rattle.structure.specs.IsZone.{IsZone}
+use Rattle.structure.proofs.IsZone.{whole-of}
 
 -- in a zone, by the first bytes of the buffer
 pub in-0 : (s : List ℕ) (l first : ℕ) → IsZone (take l s) → first ≡ firstField s → PlannedIn compact (take l s) 0 (ReadyIn (take l s) first)

@@ -17,8 +17,6 @@ use Rattle.calls.specs.Bays.{Bays, last, more, mapS, maxS}
 use Rattle.calls.specs.State.{Fixed, fsize}
 use Rattle.bay.specs.Bay.{Cell, baySize, baySum, compactBay}
 use Rattle.bay.proofs.Laws.{tidy-size}
-use Rattle.access.specs.Edit.{IsZone}
-use Rattle.access.proofs.Zone.{whole-of}
 use Rattle.row.specs.Row.{Row}
 use Rattle.zone.specs.Group.{flatten}
 use Rattle.zone.proofs.Places.{Tiled}
@@ -34,6 +32,8 @@ use Rattle.settle.proofs.Cells.{all-sizes}
 use Rattle.settle.proofs.Tidy.{compact-start}
 use Rattle.compact.specs.Compacted.{compacted, largest}
 use Rattle.compact.proofs.Going.{Stands, stands-row, stands-short, stands-bays, its-bay, packs, stays, new-valid, new-long}
+use Rattle.structure.specs.IsZone.{IsZone}
+use Rattle.structure.proofs.IsZone.{whole-of}
 
 -- s₀ is to be compacted; the bays below `at` are, and `best` is the largest of their sums
 pub data Going (s₀ : Structure) (z : List ℕ) (at best : ℕ) : Type 0 where

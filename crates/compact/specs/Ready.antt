@@ -3,8 +3,8 @@ use mathlib.Core.Path.{_≡_}
 use mathlib.Core.List.{List}
 use Prim.Native.Nat.{ℕ}
 use Rattle.format.specs.WellFormed.{firstField}
-use Rattle.access.specs.Edit.{IsZone}
 use Rattle.compact.specs.declared.CompactPlan.{CompactPlan}
+use Rattle.structure.specs.IsZone.{IsZone}
 
 pub record ReadyIn (z : List ℕ) (first : ℕ) : Type 0 where
   pub zone : IsZone z

@@ -8,13 +8,13 @@ ghost use Rattle.slide.specs.ZoneBay.{ZoneBay, bayCells, settled};
 ghost use lib.ListN.{take};
 ghost use Rattle.format.specs.WellFormed.{firstField};
 ghost use Rattle.structure.specs.Structure.{encode, decodeZone};
-ghost use Rattle.access.specs.Edit.{IsZone};
 ghost use Rattle.compact.specs.Compacted.{compacted, largest};
 ghost use Rattle.call_laws.specs.Frame.{Planned};
 ghost use Rattle.compact.specs.Ready.{Ready};
 ghost use Rattle.calls.specs.Calls.{told, compact};
 ghost use Rattle.zone.specs.Call.{result, call};
 use calls::Told;
+ghost use Rattle.structure.specs.IsZone.{IsZone};
 
 fn larger_of(a: usize, b: usize) -> usize
     ensures { λ r. ⌜ r ≡ max a b ⌝ }

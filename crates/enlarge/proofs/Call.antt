@@ -12,7 +12,6 @@ use Rattle.bigendian.specs.BigEndian.{toBE, overwrite}
 use Rattle.block_type.specs.Limits.{lengthAt}
 use Rattle.format.specs.WellFormed.{wellFormed, lengthField}
 use Rattle.structure.specs.Structure.{encodeBlock, decodeZone, cell}
-use Rattle.access.specs.Edit.{IsZone}
 use Rattle.blank.specs.Between.{Between}
 use Rattle.calls.specs.Calls.{told, enlarge}
 use Rattle.bay.specs.Bay.{free}
@@ -24,6 +23,7 @@ use Rattle.call_laws.proofs.Frame.{plan-no, plan-well, frame-fits, frame-ready,
 use Rattle.enlarge.specs.Enlarge.{accepts, lastFree}
 use Rattle.enlarge.specs.Ready.{ReadyIn}
 use Rattle.enlarge.proofs.Zone.{within, limit, number-is, grows, idle, between, written}
+use Rattle.structure.specs.IsZone.{IsZone}
 
 -- ---- the writes
 

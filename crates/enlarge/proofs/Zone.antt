@@ -20,8 +20,6 @@ use Rattle.structure.specs.Structure.{Block, Structure, sizes, start, len, enco
 use Rattle.structure.specs.Valid.{Valid, Tiled}
 use Rattle.structure.proofs.Table.{Whole, len-is, encode-zone}
 use Rattle.structure.proofs.Sound.{valid-zone}
-use Rattle.access.specs.Edit.{IsZone}
-use Rattle.access.proofs.Zone.{whole-of}
 use Rattle.row.specs.Row.{Sound, bytesOf}
 use Rattle.row.proofs.Laws.{low-of, sound-right}
 use Rattle.row.proofs.Zone.{valid-sound}
@@ -45,6 +43,8 @@ use Rattle.bay_end.proofs.End.{rest, rest-behind, rest-size, lens, end-changed}
 use Rattle.call_laws.specs.Frame.{zoneAt, Does}
 use Rattle.enlarge.specs.Enlarge.{accepts, grow, longer, lastFree}
 use Rattle.enlarge.proofs.Last.{solid, solid-is, grow-is}
+use Rattle.structure.specs.IsZone.{IsZone}
+use Rattle.structure.proofs.IsZone.{whole-of}
 
 -- ---- what is accepted
 

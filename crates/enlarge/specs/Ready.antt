@@ -5,9 +5,9 @@ use mathlib.Core.List.{List}
 use Prim.Native.Nat.{ℕ, _+_}
 use lib.ListN.{length, take}
 use Rattle.structure.specs.Structure.{decodeZone}
-use Rattle.access.specs.Edit.{IsZone}
 use Rattle.enlarge.specs.Enlarge.{accepts, lastFree}
 use Rattle.enlarge.specs.declared.EnlargePlan.{EnlargePlan}
+use Rattle.structure.specs.IsZone.{IsZone}
 
 -- of the buffer s, whose zone has l bytes
 pub record ReadyIn (s : List ℕ) (k l from : ℕ) : Type 0 where

@@ -6,7 +6,6 @@ ghost use Rattle.bigendian.specs.BigEndian.{toBE, overwrite};
 ghost use Rattle.block_type.specs.Limits.{lengthAt};
 ghost use Rattle.structure.specs.Structure.{encodeBlock, decodeZone, cell};
 ghost use Rattle.bay.specs.Bay.{free};
-ghost use Rattle.access.specs.Edit.{IsZone};
 ghost use Rattle.blank.specs.Between.{Between};
 ghost use Rattle.calls.specs.Calls.{told, enlarge};
 ghost use Rattle.zone.specs.Call.{result, call};
@@ -14,6 +13,7 @@ ghost use Rattle.call_laws.specs.Frame.{Planned};
 ghost use Rattle.enlarge.specs.Enlarge.{accepts, lastFree};
 ghost use Rattle.enlarge.specs.Ready.{Ready};
 use calls::Told;
+ghost use Rattle.structure.specs.IsZone.{IsZone};
 
 // Whether a zone of n bytes, k of them new, is possible in a buffer of `buf` bytes.
 fn is_accepted(buf: usize, n: usize, k: usize) -> bool

@@ -9,18 +9,18 @@ use Rattle.block_type.specs.Limits.{masterSize, zoneHeader, chainAt}
 use Rattle.format.specs.WellFormed.{chainField}
 use Rattle.bay.specs.Bay.{free, gap}
 use Rattle.bay.specs.Ends.{endFree, startFree}
-use Rattle.structure.specs.Structure.{Block, cell, Structure, sizes, start, count, headOf, encodeBlock, encode, decodeZone}
-use Rattle.structure.specs.Valid.{handlesOf, Valid}
+use Rattle.structure.specs.Structure.{Block, cell, Structure, sizes, start, count, headOf, encodeBlock, encode, decodeZone, handlesOf}
+use Rattle.structure.specs.Valid.{Valid}
 use Rattle.structure.proofs.Append.{sizes-append}
 use Rattle.structure.proofs.Round.{offset-is}
 use Rattle.structure.proofs.Table.{Whole, encode-zone, len-is, head-is}
 use Rattle.structure.proofs.Sound.{valid-zone}
-use Rattle.access.proofs.Zone.{whole-of}
 use Rattle.blank.specs.Between.{Hole, Between}
 use Rattle.free_block.specs.Around.{Around, Freeing}
 use Rattle.free_block.proofs.Hole.{gap-hole}
 use Rattle.free_block.proofs.Parts.{amount, before, after, old-parts, before-sizes, all-sizes-are, block-low, gap-sizes}
 use Rattle.free_block.proofs.Bytes.{freed-plain, master-in, freed-owned}
+use Rattle.structure.proofs.IsZone.{whole-of}
 
 module _ (z : List ℕ) (bs′ : List Block) (b : Block) (from at end to : ℕ) (f : Freeing z bs′ b from at end to) where
   w : Whole z

@@ -15,8 +15,8 @@ use Rattle.block_type.specs.Limits.{zoneHeader, chainAt}
 use Rattle.bigendian.specs.BigEndian.{toBE, overwrite}
 use Rattle.format.proofs.Count.{one, one-same, one-other}
 use Rattle.bay.specs.Bay.{free}
-use Rattle.structure.specs.Structure.{Block, cell, Structure, sizes, count, start, len, headOf, placeOf, nextOf, value, encodeBlock, join, encode}
-use Rattle.structure.specs.Valid.{handlesOf, Valid}
+use Rattle.structure.specs.Structure.{Block, cell, Structure, sizes, count, start, len, headOf, placeOf, nextOf, value, encodeBlock, join, encode, handlesOf}
+use Rattle.structure.specs.Valid.{Valid}
 use Rattle.structure.proofs.Round.{place-none}
 use Rattle.row.specs.Row.{bytesOf}
 use Rattle.surgery.proofs.Image.{img, upd, encode-img, img-rest, img-chain, img-master}

@@ -13,8 +13,6 @@ use Rattle.structure.specs.Valid.{Valid}
 use Rattle.structure.proofs.Append.{sizes-append}
 use Rattle.structure.proofs.Table.{Whole, start-is, len-is}
 use Rattle.structure.proofs.Sound.{valid-zone}
-use Rattle.access.specs.Edit.{IsZone}
-use Rattle.access.proofs.Zone.{whole-of}
 use Rattle.row.specs.Row.{Row, Sound, blocksOf, blockAt, Stepped}
 use Rattle.row.proofs.Laws.{low-of, stepped}
 use Rattle.row.proofs.Zone.{valid-sound}
@@ -22,6 +20,8 @@ use Rattle.settle.proofs.Cells.{all-sizes}
 use Rattle.free_block.specs.Around.{partOf, lastPart, firstPart, Around, Freeing}
 use Rattle.free_block.specs.Walk.{Below, Stopped, Extended}
 use Rattle.free_block.proofs.Parts.{block-low}
+use Rattle.structure.specs.IsZone.{IsZone}
+use Rattle.structure.proofs.IsZone.{whole-of}
 
 -- ---- lists of blocks
 

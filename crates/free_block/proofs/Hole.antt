@@ -14,12 +14,12 @@ use Rattle.structure.specs.Valid.{Valid}
 use Rattle.structure.proofs.Table.{Whole, encode-zone}
 use Rattle.structure.proofs.Round.{rest-is}
 use Rattle.structure.proofs.Sound.{valid-zone}
-use Rattle.access.specs.Edit.{IsZone}
-use Rattle.access.proofs.Zone.{whole-of}
 use Rattle.row.specs.Row.{bytesOf, Sound}
 use Rattle.row.proofs.Laws.{bytes-append, bytes-long, sound-left, sound-right}
 use Rattle.row.proofs.Zone.{valid-sound}
 use Rattle.blank.specs.Between.{Hole, nothing, zeros}
+use Rattle.structure.specs.IsZone.{IsZone}
+use Rattle.structure.proofs.IsZone.{whole-of}
 
 module _ (z : List ℕ) (i : IsZone z) where
   abbrev d : Structure

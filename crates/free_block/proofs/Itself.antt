@@ -17,8 +17,8 @@ use Rattle.kinds.proofs.KindLaws.{tag-long}
 use Rattle.bay.specs.Bay.{held, baySize}
 use Rattle.bay.specs.Bytes.{encodeCell}
 use Rattle.bay.specs.Sound.{bytesOf}
-use Rattle.structure.specs.Structure.{Block, cell, Structure, sizes, start, placeOf, encode}
-use Rattle.structure.specs.Valid.{handlesOf, Valid}
+use Rattle.structure.specs.Structure.{Block, cell, Structure, sizes, start, placeOf, encode, handlesOf}
+use Rattle.structure.specs.Valid.{Valid}
 use Rattle.structure.proofs.Append.{sizes-append, handles-append, place-append}
 use Rattle.surgery.proofs.Sound.{handle-once}
 use Rattle.settle.proofs.Cells.{all-sizes}

@@ -11,17 +11,15 @@ use lib.ListN.{length, drop}
 use borrow.Author.Tests.{eqb-true}
 use Rattle.block_type.specs.Limits.{relocHeader}
 use Rattle.format.specs.WellFormed.{firstField}
-use Rattle.kinds.specs.Kinds.{Item, headerOf, masterOf, itemSize}
+use Rattle.kinds.specs.Kinds.{Item, headerOf, masterOf, itemSize, is}
 use Rattle.bay.specs.Bay.{held, baySize}
 use Rattle.calls.specs.Calls.{free-handle}
 use Rattle.calls.specs.Bays.{over}
-use Rattle.calls.specs.State.{is}
 use Rattle.calls.specs.Table.{cause, isNone, first, order, refusalOf}
 use Rattle.structure.specs.Structure.{cell, Structure, sizes, start, len, decodeZone}
 use Rattle.structure.specs.Valid.{Valid}
 use Rattle.structure.proofs.Sound.{valid-zone}
-use Rattle.access.specs.Edit.{IsZone, placeIn, dataIn, dataOf}
-use Rattle.access.proofs.Zone.{whole-of}
+use Rattle.access.specs.Edit.{placeIn, dataIn, dataOf}
 use Rattle.row.specs.Row.{Row}
 use Rattle.zone.specs.Group.{group}
 use Rattle.zone.specs.Work.{facts, work}
@@ -37,6 +35,8 @@ use Rattle.free_block.proofs.Around.{around-same}
 use Rattle.free_block.proofs.Own.{own-block}
 use Rattle.free_block.proofs.Itself.{its-place}
 use Rattle.free_block.proofs.Found.{block-fits, prev-fits, end-row, freeing}
+use Rattle.structure.specs.IsZone.{IsZone}
+use Rattle.structure.proofs.IsZone.{whole-of}
 
 module _ (z : List ℕ) (i : IsZone z) (h : ℕ) (live : placeIn z h ≡ 0 → ⊥) where
   abbrev s : Structure

@@ -6,9 +6,9 @@ use mathlib.Core.List.{List, [], _∷_, map, append-assoc, _++_}
 use Prim.Native.Nat.{ℕ, _≤_}
 use native.Mathlib.Omega.{arith}
 use Rattle.structure.specs.Structure.{Block, fixed, cell}
-use Rattle.kinds.specs.Kinds.{Item}
+use Rattle.kinds.specs.Kinds.{Item, is}
 use Rattle.calls.specs.Bays.{Bays, last, more, mapS, orElse, findS}
-use Rattle.calls.specs.State.{is, get, Fixed}
+use Rattle.calls.specs.State.{get, Fixed}
 use Rattle.bay.specs.Bay.{Cell, held, items, release}
 use Rattle.bay.specs.Counted.{count, live}
 use Rattle.bay.proofs.Sound.{Sound}

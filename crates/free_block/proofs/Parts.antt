@@ -9,8 +9,8 @@ use Rattle.bay.specs.Bay.{Cell, free, held, baySize, gap}
 use Rattle.bay.specs.Ends.{endFree, startFree}
 use Rattle.bay.proofs.Sound as Sound
 use Rattle.bay.proofs.Free.{lower, upper, lower-is, upper-is, joined-is}
-use Rattle.structure.specs.Structure.{Block, cell, Structure, size, sizes}
-use Rattle.structure.specs.Valid.{handlesOf, Tiled, Valid}
+use Rattle.structure.specs.Structure.{Block, cell, Structure, size, sizes, handlesOf}
+use Rattle.structure.specs.Valid.{Tiled, Valid}
 use Rattle.structure.proofs.Append.{sizes-append, handles-append}
 use Rattle.row.specs.Row as Row
 use Rattle.row.proofs.Laws.{low-of, sound-left, sound-right}

@@ -13,8 +13,6 @@ use Rattle.structure.proofs.Append.{sizes-append}
 use Rattle.structure.proofs.Round.{rest-is}
 use Rattle.structure.proofs.Table.{start-is, encode-zone}
 use Rattle.structure.proofs.Sound.{valid-zone}
-use Rattle.access.specs.Edit.{IsZone}
-use Rattle.access.proofs.Zone.{whole-of}
 use Rattle.bay.specs.Bay.{free, held}
 use Rattle.row.specs.Row.{Row, row, blocksOf, blockAt, Stepped}
 use Rattle.row.proofs.Laws.{row-end, stepped}
@@ -22,6 +20,8 @@ use Rattle.row.proofs.Zone.{valid-sound}
 use Rattle.free_block.specs.Around.{partOf, lastPart, firstPart}
 use Rattle.free_block.specs.Walk.{Below, Passed, Stopped}
 use Rattle.block_type.specs.Limits.{freeCode}
+use Rattle.structure.specs.IsZone.{IsZone}
+use Rattle.structure.proofs.IsZone.{whole-of}
 
 -- ---- one block
 

@@ -5,7 +5,7 @@ use Prim.Native.Nat.{ℕ, _+_}
 use Rattle.bay.specs.Bay.{Cell, baySize, gap, joinBays}
 use Rattle.bay.specs.Ends.{freePart, endFree, startFree}
 use Rattle.structure.specs.Structure.{Block, cell, fixed, size, sizes, start, decodeZone}
-use Rattle.access.specs.Edit.{IsZone}
+use Rattle.structure.specs.IsZone.{IsZone}
 
 -- the free bytes of a block
 abbrev pub partOf : Block → ℕ

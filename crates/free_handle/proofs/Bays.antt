@@ -7,7 +7,7 @@ use Prim.Native.Nat.{ℕ}
 use native.Mathlib.Omega.{arith}
 use lib.ListN.{length}
 use Rattle.structure.specs.Structure.{decodeZone}
-use Rattle.access.specs.Edit.{IsZone, placeIn}
+use Rattle.access.specs.Edit.{placeIn}
 use Rattle.kinds.specs.Kinds.{Item}
 use Rattle.calls.specs.Calls.{told, free-handle}
 use Rattle.calls.specs.Bays.{over}
@@ -16,6 +16,7 @@ use Rattle.locate.proofs.Live.{place-gone}
 use Rattle.free_block.specs.Freed.{freed}
 use Rattle.free_block.proofs.Live.{free-passed}
 use Rattle.call_laws.specs.Frame.{Refuses, Does}
+use Rattle.structure.specs.IsZone.{IsZone}
 
 module _ (z : List ℕ) (h : ℕ) where
   -- the refusal, by what is found

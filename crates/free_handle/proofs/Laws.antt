@@ -11,9 +11,8 @@ use Rattle.bigendian.specs.BigEndian.{toBE, overwrite}
 use Rattle.block_type.specs.Limits.{masterSize, relocHeader, argumentRange, chainAt}
 use Rattle.format.specs.WellFormed.{firstField, chainField}
 use Rattle.bay.specs.Bay.{free, held}
-use Rattle.structure.specs.Structure.{decodeZone, encode, encodeBlock, cell}
-use Rattle.structure.specs.Valid.{handlesOf}
-use Rattle.access.specs.Edit.{placeIn, dataIn, IsZone}
+use Rattle.structure.specs.Structure.{decodeZone, encode, encodeBlock, cell, handlesOf}
+use Rattle.access.specs.Edit.{placeIn, dataIn}
 use Rattle.blank.specs.Between.{Between}
 use Rattle.free_block.specs.Freed.{freed}
 use Rattle.free_block.specs.Walk.{Stopped, Extended}
@@ -26,6 +25,7 @@ use Rattle.call_laws.proofs.Outcome.{none-lent}
 use Rattle.call_laws.proofs.Frame.{frame-ready, frame-done}
 use Rattle.free_handle.specs.Ready.{ReadyIn}
 use Rattle.free_handle.proofs.Bays.{no-block, frees}
+use Rattle.structure.specs.IsZone.{IsZone}
 
 -- ---- the plan
 

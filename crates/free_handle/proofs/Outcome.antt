@@ -13,8 +13,8 @@ use Rattle.format.specs.WellFormed.{wellFormed}
 use Rattle.structure.specs.Structure.{decode}
 use Rattle.calls.specs.Calls.{by-handle, Call, Answer, told, refused, allocate-relocatable, free-handle, size, sums}
 use Rattle.calls.specs.Bays.{Bays, last, more, over, mapS, orElse, findS, sumS, maxS}
-use Rattle.kinds.specs.Kinds.{Item}
-use Rattle.calls.specs.State.{is, get, Fixed, Out, says, done}
+use Rattle.kinds.specs.Kinds.{Item, is}
+use Rattle.calls.specs.State.{get, Fixed, Out, says, done}
 use Rattle.bay.specs.Bay.{Cell, baySum, items, release}
 use Rattle.bay.specs.Counted.{count, remove, live}
 use Rattle.calls.specs.Table.{cause, below, isNone, first, order}

@@ -4,13 +4,13 @@ ghost use mathlib.Core.Path.{_≡_};
 ghost use Prim.Native.Nat.{_<_};
 ghost use Rattle.block_type.specs.Limits.{argumentRange};
 ghost use Rattle.structure.specs.Structure.{encode, decodeZone};
-ghost use Rattle.access.specs.Edit.{IsZone};
 ghost use Rattle.calls.specs.Calls.{told, free-handle};
 ghost use Rattle.zone.specs.Call.{result, call};
 ghost use lib.ListN.{take};
 ghost use Rattle.call_laws.specs.Frame.{PlannedIn, Planned};
 ghost use Rattle.free_block.specs.Freed.{freed};
 ghost use Rattle.free_handle.specs.Ready.{Ready};
+ghost use Rattle.structure.specs.IsZone.{IsZone};
 
 pub struct FreePlan {
     pub number: u32,

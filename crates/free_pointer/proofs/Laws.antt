@@ -14,11 +14,8 @@ use Rattle.block_type.specs.Limits.{fixedCode, fixedHeader, freeHeader}
 use Rattle.format.specs.WellFormed.{typeOf, firstField}
 use Rattle.format.proofs.Bool.{and-right}
 use Rattle.bay.specs.Bay.{Cell, free, baySize}
-use Rattle.structure.specs.Structure.{Structure, fixed, cell, sizes, start, encodeBlock, decodeZone}
-use Rattle.structure.specs.Valid.{handlesOf}
+use Rattle.structure.specs.Structure.{Structure, fixed, cell, sizes, start, encodeBlock, decodeZone, handlesOf}
 use Rattle.structure.proofs.Table.{start-is}
-use Rattle.access.specs.Edit.{IsZone}
-use Rattle.access.proofs.Zone.{whole-of}
 use Rattle.row.specs.Row.{Stepped}
 use Rattle.row.proofs.Laws.{row-fits}
 use Rattle.blank.specs.Between.{Between}
@@ -42,6 +39,8 @@ use Rattle.call_laws.proofs.Frame.{frame-ready, frame-done}
 use Rattle.free_pointer.specs.Ready.{freed, ReadyIn}
 use Rattle.free_pointer.proofs.Bays.{Named, named, no-block, found, frees}
 use Rattle.free_pointer.proofs.Walk.{absent-low, absent-high, absent-end, absent-other, present}
+use Rattle.structure.specs.IsZone.{IsZone}
+use Rattle.structure.proofs.IsZone.{whole-of}
 
 -- ---- the plan refuses
 

@@ -14,8 +14,6 @@ use Rattle.kinds.specs.Kinds.{itemSize}
 use Rattle.bay.specs.Bay.{free, held}
 use Rattle.structure.specs.Structure.{Block, cell, fixed, size, sizes, start, decodeZone}
 use Rattle.structure.proofs.Table.{Whole, len-is}
-use Rattle.access.specs.Edit.{IsZone}
-use Rattle.access.proofs.Zone.{whole-of}
 use Rattle.row.specs.Row.{blocksOf, Stepped}
 use Rattle.row.proofs.Laws.{stepped}
 use Rattle.calls.specs.Calls.{by-pointer}
@@ -23,6 +21,8 @@ use Rattle.locate.specs.Locate.{targetPlace}
 use Rattle.access.specs.Named.{placeAmong}
 use Rattle.locate.proofs.Laws.{place-start, place-here, place-next, place-end}
 use Rattle.free_block.specs.Walk.{Below, Stopped}
+use Rattle.structure.specs.IsZone.{IsZone}
+use Rattle.structure.proofs.IsZone.{whole-of}
 
 -- ---- a pointer among blocks
 

@@ -3,11 +3,11 @@ use block_type::BlockType;
 use calls::Told;
 ghost use mathlib.Core.Path.{_≡_};
 ghost use lib.ListN.{take};
-ghost use Rattle.access.specs.Edit.{IsZone};
 ghost use Rattle.calls.specs.Calls.{told, free-pointer};
 ghost use Rattle.zone.specs.Call.{result, call};
 ghost use Rattle.call_laws.specs.Frame.{PlannedIn, Planned};
 ghost use Rattle.free_pointer.specs.Ready.{Ready};
+ghost use Rattle.structure.specs.IsZone.{IsZone};
 
 pub struct FreePlan {
     pub number: u32,

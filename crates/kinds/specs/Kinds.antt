@@ -1,4 +1,5 @@
--- The kinds of movable blocks. All that differs between kinds stands here: type code, header, master. There is one kind, the relocatable block.
+-- The kinds of movable blocks: what they hold, and what differs between kinds, as type code, header and master. There is one kind, the
+-- relocatable block. (What is asked of its handle stands with the other rules of a zone, in WellFormed.)
 use mathlib.Core.Bool.{Bool}
 use mathlib.Core.List.{List}
 use Prim.Native.Nat.{ℕ, _+_, _<_}
@@ -28,11 +29,11 @@ headerOf e = relocHeader
 abbrev pub tagOf : Item → List ℕ
 tagOf e = toBE 2 (e .handle)
 
--- the master that holds "the offset of the block's first data byte"
+-- the master that holds "the offset of the block's first data byte": "A handle is its master's offset"
 abbrev pub masterOf : Item → ℕ
 masterOf e = e .handle
 
--- the same block with other data
+-- the same block with other data: "The handle stays"
 abbrev pub holding : Item → List ℕ → Item
 holding e d = item (e .handle) d
 
@@ -40,11 +41,11 @@ holding e d = item (e .handle) d
 abbrev pub is : ℕ → Item → Bool
 is h e = eqb h (masterOf e)
 
--- "for each handle, 4 plus data size"
+-- "Sizes include the header"; in the ledger "for each handle, 4 plus data size"
 abbrev pub itemSize : Item → ℕ
 itemSize e = headerOf e + length (e .bytes)
 
--- what a movable block's bytes hold
+-- what a movable block's bytes hold: "Data size is block size less header"
 abbrev pub itemIn : List ℕ → Item
 itemIn b = item (handleOf b) (drop relocHeader b)
 

@@ -10,8 +10,8 @@ use lib.Dec.{leb}
 use borrow.Author.Tests.{leb-true, leb-false, le-leb, lt-leb}
 use Rattle.block_type.specs.Limits.{relocHeader, relocLimit, fixedLimit, up4, relocNeed, fixedNeed}
 use Rattle.calls.specs.Bays.{last, more, over, orElse, findS, maxS, sumS}
-use Rattle.kinds.specs.Kinds.{Item}
-use Rattle.calls.specs.State.{is, get}
+use Rattle.kinds.specs.Kinds.{Item, is}
+use Rattle.calls.specs.State.{get}
 use Rattle.calls.specs.Table.{below, isNone, isEmpty, cause, first, beforeNoBay, order}
 use Rattle.ledger.specs.Ledger.{Bay, Layout, Ledger, sumOf, stepWith, step}
 use Rattle.ledger.specs.Space.{Request, relocatable, fixed, resized, callOf, resizeNeed, needOf, fits, earlier}

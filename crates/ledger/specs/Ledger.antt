@@ -1,6 +1,6 @@
 -- Document 01, 'The ledger'. It is fed the calls alone. It holds no place of a relocatable block and never reads a zone: of a bay it
--- keeps a capacity and what the live handles in it hold. With the zone's definitions it shares State, Bays and Table; of a zone's bays and
--- bytes it has nothing.
+-- keeps a capacity and what the live handles in it hold. With the zone's definitions it shares State, Bays and Table, and of Kinds what an
+-- item is and how many bytes it takes; of a zone's bays and bytes it has nothing.
 use mathlib.Core.Bool.{true, cond}
 use mathlib.Core.List.{List, [], _∷_, _++_, map}
 use Prim.Native.Nat.{ℕ, _+_, _-_, _*_, _/_, min}
@@ -10,8 +10,8 @@ use lib.Dec.{leb, eqb}
 use Rattle.block_type.specs.Limits.{relocHeader, up4, fixedNeed, relocNeed, zoneHeader, firstBlock, recordSize}
 use Rattle.calls.specs.Calls.{Target, by-handle, by-pointer, Call, allocate-relocatable, allocate-fixed, free-handle, free-pointer, resize, size, read, write, view, compact, sums, check, length-of, enlarge, shrink, roster, Card, Answer, toldTwo, shows, lists, refused}
 use Rattle.calls.specs.Bays.{Bays, last, onLowest, mapS, onFixed, onLast, concatS, sumS, maxS, lastS}
-use Rattle.kinds.specs.Kinds.{Item}
-use Rattle.calls.specs.State.{total, is, alter, newItem, sized, card, handlesFrom, Fixed, pointer, alterFixed, State, Out, says, done, withBays, cutHigh, joinAt, dataOf, ownSum, liveCount, top, rest}
+use Rattle.kinds.specs.Kinds.{Item, item, is}
+use Rattle.calls.specs.State.{total, alter, newItem, sized, card, handlesFrom, Fixed, pointer, alterFixed, State, Out, says, done, withBays, cutHigh, joinAt, dataOf, ownSum, liveCount, top, rest}
 use Rattle.calls.specs.Table.{Facts, factsOf, refusalOf}
 
 -- ---- "State: L; the buffer's length; free handles as a stack; in address order, bays (capacity, live handles with their bytes)
@@ -73,7 +73,7 @@ abbrev pub resizeIn : ℕ → ℕ → List ℕ → Layout → Layout
 resizeIn h a d l =
     cond (leb (a - length d) (ownSum entriesOf sumOf h l))
     (change (by-handle h) (sized a) l)
-    (enter (relocHeader + a) (record { handle = h; bytes = sized a d }) (mapS (onEntries (without h)) l))
+    (enter (relocHeader + a) (item h (sized a d)) (mapS (onEntries (without h)) l))
 
 -- ---- the work of each call that nothing refuses: the answer, and the ledger after the call
 

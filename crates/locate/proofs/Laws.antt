@@ -13,8 +13,6 @@ use Rattle.format.proofs.Bool.{and-right}
 use Rattle.structure.specs.Structure.{Block, start, decodeZone}
 use Rattle.structure.proofs.Table.{start-is}
 use Rattle.access.specs.Edit as Edit
-use Rattle.access.specs.Edit.{IsZone}
-use Rattle.access.proofs.Zone.{whole-of}
 use Rattle.access.proofs.Checked.{is-well}
 use Rattle.row.specs.Row.{blocksOf, Stepped}
 use Rattle.row.proofs.Laws.{row-end}
@@ -27,6 +25,8 @@ use Rattle.locate.specs.Locate.{targetPlace, targetData, absentNumber, L
 use Rattle.access.specs.Named.{placeAmong, dataAmong}
 use Rattle.locate.proofs.Among.{pointer-place, pointer-data}
 use Rattle.access.proofs.Among.{handle-place, handle-data}
+use Rattle.structure.specs.IsZone.{IsZone}
+use Rattle.structure.proofs.IsZone.{whole-of}
 
 -- ---- by handle
 

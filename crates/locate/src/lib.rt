@@ -6,11 +6,11 @@ ghost use lib.ListN.{length, drop};
 ghost use lib.Dec.{eqb};
 ghost use Rattle.block_type.specs.Limits.{fixedCode, fixedHeader, smallestBlock};
 ghost use Rattle.format.specs.WellFormed.{typeOf};
-ghost use Rattle.access.specs.Edit.{IsZone};
 ghost use Rattle.calls.specs.Calls.{by-handle, by-pointer};
 ghost use Rattle.locate.specs.Locate.{targetPlace, targetData, absentNumber, Located};
 ghost use Rattle.locate.specs.Named.{targetOf};
 use block_type::BlockType;
+ghost use Rattle.structure.specs.IsZone.{IsZone};
 
 // A block is named by its handle, or by its pointer where it is fixed.
 pub enum Target {

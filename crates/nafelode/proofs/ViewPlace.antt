@@ -18,7 +18,6 @@ use Rattle.calls.specs.Calls.{Target, by-handle, by-pointer, view}
 use Rattle.zone.specs.Call.{numberOf}
 use Rattle.zone.specs.View.{dataAt, viewStart, viewLength}
 use Rattle.access.specs.Edit as Edit
-use Rattle.access.specs.Edit.{IsZone, is-zone}
 use Rattle.access.proofs.PlaceLaws.{by-count, place-no, handle-fits}
 use Rattle.locate.specs.Locate.{targetPlace, absentNumber}
 use Rattle.locate.proofs.Laws.{place-by-handle}
@@ -26,6 +25,7 @@ use Rattle.stretch.specs.Stretch as Walked
 use Rattle.stretch.specs.Stretch.{stretchNumber}
 use Rattle.stretch.proofs.Answers.{Case, ill, lost, past, short, fits, the-case, absent-some, view-number}
 use Rattle.stretch_write.proofs.Hardware.{target-is}
+use Rattle.structure.specs.IsZone.{IsZone, is-zone}
 
 -- ---- the place
 

@@ -14,8 +14,8 @@ use Rattle.bay.specs.Bay.{Cell, free, held, gap}
 use Rattle.bay.specs.Sound.{Sound1, Sound}
 use Rattle.bay.proofs.Laws.{bsize-gap}
 use Rattle.bay.proofs.SoundLaws.{gap-sound}
-use Rattle.structure.specs.Structure.{Block, cell, Structure, sizes, count, start, headOf, nextOf, encode}
-use Rattle.structure.specs.Valid.{handlesOf, Valid}
+use Rattle.structure.specs.Structure.{Block, cell, Structure, sizes, count, start, headOf, nextOf, encode, handlesOf}
+use Rattle.structure.specs.Valid.{Valid}
 use Rattle.structure.proofs.Round.{offset-is}
 use Rattle.slide.specs.ZoneBay.{settled}
 use Rattle.settle.proofs.Any.{settle-chain}

@@ -7,8 +7,8 @@ use Prim.Native.Nat.{ℕ, _+_, _-_, _≤_}
 use native.Mathlib.Omega.{arith}
 use Rattle.structure.specs.Structure.{Block, cell, fixed, sizes}
 use Rattle.calls.specs.Bays.{Bays, orElse, findS}
-use Rattle.kinds.specs.Kinds.{Item, itemSize}
-use Rattle.calls.specs.State.{is, get, Fixed}
+use Rattle.kinds.specs.Kinds.{Item, itemSize, is}
+use Rattle.calls.specs.State.{get, Fixed}
 use Rattle.bay.specs.Bay.{Cell, free, held, baySize, items, release}
 use Rattle.bay.specs.Counted.{count, live}
 use Rattle.bay.specs.Ends.{endFree, startFree}

@@ -25,8 +25,7 @@ use Rattle.structure.specs.Valid.{Valid}
 use Rattle.structure.proofs.Round.{offset-is}
 use Rattle.structure.proofs.Table.{Whole, encode-zone}
 use Rattle.structure.proofs.Sound.{valid-zone}
-use Rattle.access.specs.Edit.{IsZone, placeIn, dataIn}
-use Rattle.access.proofs.Zone.{whole-of}
+use Rattle.access.specs.Edit.{placeIn, dataIn}
 use Rattle.zone.specs.PickBays.{AllS}
 use Rattle.zone.specs.Group.{flatten}
 use Rattle.zone.specs.Call.{inBays}
@@ -54,6 +53,8 @@ use Rattle.relocate.proofs.Beside.{end-low, lowEnd, highEnd, Beside, be
 use Rattle.free_block.proofs.Itself.{its-place}
 use Rattle.relocate.proofs.Moved.{handles}
 use Rattle.relocate.proofs.Data.{new-long}
+use Rattle.structure.specs.IsZone.{IsZone}
+use Rattle.structure.proofs.IsZone.{whole-of}
 
 module _ (z : List ℕ) (h b a at n : ℕ) (y : CarryIn z h b a at n) where
   abbrev x : Carry z h b a at n

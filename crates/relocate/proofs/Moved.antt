@@ -17,8 +17,8 @@ use Rattle.kinds.specs.Kinds.{Item, headerOf, masterOf, itemSize}
 use Rattle.bay.specs.Bay.{Cell, free, held, baySize, gap, Hole, fill}
 use Rattle.bay.specs.Sound.{bytesOf, Sound1}
 use Rattle.bay.proofs.Laws.{bsize-append}
-use Rattle.structure.specs.Structure.{Block, cell, Structure, sizes, count, start, len, headOf, value, encodeBlock, encode}
-use Rattle.structure.specs.Valid.{handlesOf, Valid}
+use Rattle.structure.specs.Structure.{Block, cell, Structure, sizes, count, start, len, headOf, value, encodeBlock, encode, handlesOf}
+use Rattle.structure.specs.Valid.{Valid}
 use Rattle.structure.proofs.Round.{offset-is}
 use Rattle.row.specs.Row as Row
 use Rattle.row.proofs.Laws as Rows

@@ -7,11 +7,12 @@ use mir.Syntax.{w64}
 use lib.ListN.{length, drop}
 use Rattle.block_type.specs.Limits.{relocHeader, argumentRange}
 use Rattle.format.specs.WellFormed.{firstField}
-use Rattle.access.specs.Edit.{IsZone, placeIn, dataIn}
+use Rattle.access.specs.Edit.{placeIn, dataIn}
 use Rattle.row.specs.Row.{Row}
 use Rattle.free_block.specs.Walk.{Stopped}
 use Rattle.free_block.proofs.Live.{data-low, at-fits, end-word, prev-in, row-in, end-in}
 use Rattle.relocate.specs.Relocate.{LiveIn, live-in}
+use Rattle.structure.specs.IsZone.{IsZone}
 
 module _ (z : List ℕ) (h b : ℕ) (x : LiveIn z h b) where
   pub old-zone : IsZone z

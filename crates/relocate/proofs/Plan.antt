@@ -15,8 +15,7 @@ use Rattle.bay.proofs.Resize.{length-sized}
 use Rattle.structure.specs.Structure.{cell, Structure, start, decodeZone}
 use Rattle.structure.proofs.Table.{Whole, start-is, encode-zone}
 use Rattle.structure.proofs.Sound.{valid-zone}
-use Rattle.access.specs.Edit.{IsZone, dataIn}
-use Rattle.access.proofs.Zone.{whole-of}
+use Rattle.access.specs.Edit.{dataIn}
 use Rattle.zone.specs.Group.{flatten}
 use Rattle.zone.proofs.GroupLaws.{flatten-group}
 use Rattle.bays.specs.Places.{baysOf, bayN, baysAt, lowBay}
@@ -28,6 +27,8 @@ use Rattle.relocate.specs.Slot.{blocksBefore, blocksAfter}
 use Rattle.relocate.specs.Relocate.{itemOf, Grows, RelocateIn, relocate-in}
 use Rattle.relocate.proofs.Slots.{plug-flat}
 use Rattle.relocate.proofs.Target.{Lowest, low-slot}
+use Rattle.structure.specs.IsZone.{IsZone}
+use Rattle.structure.proofs.IsZone.{whole-of}
 
 module _ (z : List ℕ) (i : IsZone z) (first : ℕ) (ef : first ≡ firstField z) (need : ℕ) (g : Bool) (from to sum tail : ℕ) (t : g ≡ true) (q : bayN g from to sum tail ≡ lowBay need first (baysAt z first)) where
   abbrev s : Structure

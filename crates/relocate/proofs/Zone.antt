@@ -25,8 +25,7 @@ use Rattle.structure.specs.Structure.{cell, Structure, start, len, encode, deco
 use Rattle.structure.specs.Valid.{Valid}
 use Rattle.structure.proofs.Table.{Whole, encode-zone, start-is}
 use Rattle.structure.proofs.Sound.{valid-zone}
-use Rattle.access.specs.Edit.{IsZone, placeIn, dataIn}
-use Rattle.access.proofs.Zone.{whole-of}
+use Rattle.access.specs.Edit.{placeIn, dataIn}
 use Rattle.access.proofs.Checked.{bytes-of}
 use Rattle.zone.specs.PickBays.{AllS}
 use Rattle.zone.specs.Group.{group, flatten}
@@ -48,6 +47,8 @@ use Rattle.relocate.specs.Relocate.{relocated, itemOf, Carry, CarryIn, c
 use Rattle.relocate.proofs.Slots.{plug-at, plug-flat, plug-map, plug-all, plug-lowest, plug-tiled, plug-find}
 use Rattle.relocate.proofs.AsZone.{zone-of, back-of, its-data}
 use Rattle.relocate.proofs.Choice.{without, under-freed}
+use Rattle.structure.specs.IsZone.{IsZone}
+use Rattle.structure.proofs.IsZone.{whole-of}
 
 abbrev find : ℕ → Bays (List Cell) Fixed → Option Item
 find h s = findS (λ (c : List Cell). get h (items c)) s

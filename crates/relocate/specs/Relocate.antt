@@ -7,7 +7,7 @@ use lib.ListN.{length}
 use Rattle.block_type.specs.Limits.{relocHeader, argumentRange}
 use Rattle.format.specs.WellFormed.{firstField}
 use Rattle.structure.specs.Structure.{Structure, sizes, start, encode, decodeZone}
-use Rattle.access.specs.Edit.{IsZone, placeIn, dataIn, dataOf}
+use Rattle.access.specs.Edit.{placeIn, dataIn, dataOf}
 use Rattle.kinds.specs.Kinds.{Item, item}
 use Rattle.calls.specs.Bays.{mapS}
 use Rattle.calls.specs.State.{sized, ownSum}
@@ -20,6 +20,7 @@ use Rattle.free_block.specs.Walk.{Stopped, Extended}
 use Rattle.place.specs.Fit.{Size}
 use Rattle.place.specs.Room.{Room}
 use Rattle.relocate.specs.Slot.{Slot, plug, others, blocksBefore, Under}
+use Rattle.structure.specs.IsZone.{IsZone}
 
 -- "it moves to the lowest bay whose sum reaches 4 + a, as an allocation does, and the old place is freed": h's block, with a data bytes
 abbrev pub relocated : ℕ → ℕ → Structure → Structure

@@ -6,16 +6,15 @@ use Prim.Native.Nat.{ℕ, zero, suc, _+_, _%_, _≤_}
 use native.Mathlib.Omega.{arith}
 use borrow.Author.Tests.{eq-eqb}
 use Rattle.block_type.specs.Limits.{longestZone, masterSize}
-use Rattle.kinds.specs.Kinds.{Item, headerOf, masterOf, itemSize}
-use Rattle.calls.specs.State.{is, total}
+use Rattle.kinds.specs.Kinds.{Item, headerOf, masterOf, itemSize, is}
+use Rattle.calls.specs.State.{total}
 use Rattle.bay.specs.Bay.{Cell, held, baySize, baySum, items, gap, packed, compactBay}
 use Rattle.bay.specs.Counted.{count}
 use Rattle.bay.specs.Sound.{Sound1, Sound}
 use Rattle.bay.proofs.Choice.{packed-is}
 use Rattle.bay.proofs.Laws.{items-append, bsize-gap, bsize-packed}
 use Rattle.bay.proofs.SoundLaws.{gap-sound}
-use Rattle.structure.specs.Structure.{Block, cell, placeOf}
-use Rattle.structure.specs.Valid.{handlesOf}
+use Rattle.structure.specs.Structure.{Block, cell, placeOf, handlesOf}
 use Rattle.slide.specs.ZoneBay.{Low}
 use Rattle.slide.proofs.Compact.{gap-low}
 use Rattle.reshape.proofs.GrownBay.{laid}

@@ -18,8 +18,7 @@ use Rattle.bay.proofs.Laws.{bsize-gap, bsize-packed}
 use Rattle.bay.proofs.Resize.{length-sized}
 use Rattle.bay.proofs.Reshape.{reshape-laid}
 use Rattle.bay.proofs.SoundLaws.{sum-four}
-use Rattle.structure.specs.Structure.{Block, cell, encode, decodeZone}
-use Rattle.structure.specs.Valid.{handlesOf}
+use Rattle.structure.specs.Structure.{Block, cell, encode, decodeZone, handlesOf}
 use Rattle.bays.specs.Places.{baysOf}
 use Rattle.bays.proofs.At.{at-new}
 use Rattle.slide.specs.ZoneBay.{partOf, bayCells, settled}

@@ -7,9 +7,9 @@ use Prim.Native.Nat.{ℕ, suc, _+_, _≤_}
 use native.Mathlib.Nat.{add-zero, add-assoc}
 use native.Mathlib.Omega.{arith}
 use borrow.Author.Tests.{eqb-true, eq-eqb}
-use Rattle.kinds.specs.Kinds.{Item, headerOf, itemSize}
+use Rattle.kinds.specs.Kinds.{Item, headerOf, itemSize, is}
 use Rattle.calls.specs.Bays.{Bays, last, more, over, orElse, findS, onLowest}
-use Rattle.calls.specs.State.{Fixed, fsize, get, is, ownSum}
+use Rattle.calls.specs.State.{Fixed, fsize, get, ownSum}
 use Rattle.calls.specs.Table.{isNone}
 use Rattle.bay.specs.Bay.{Cell, free, held, baySize, baySum, items}
 use Rattle.bay.specs.Counted.{count, live}

@@ -19,8 +19,7 @@ use Rattle.bay.specs.Ends.{startFree}
 use Rattle.bay.proofs.Laws.{bsize-append, bsum-append}
 use Rattle.structure.specs.Structure.{Block, sizes, start, decodeZone}
 use Rattle.structure.proofs.Table.{start-is}
-use Rattle.access.specs.Edit.{IsZone, dataIn, dataOf}
-use Rattle.access.proofs.Zone.{whole-of}
+use Rattle.access.specs.Edit.{dataIn, dataOf}
 use Rattle.zone.proofs.GroupLaws.{flatten-group}
 use Rattle.zone.proofs.Places.{Tiled}
 use Rattle.bays.specs.Places.{baysOf, baysAt, bayN, bayAt, ownBay}
@@ -31,6 +30,8 @@ use Rattle.reshape.specs.Own.{Own, bayOf, dataAt, Known, known}
 use Rattle.reshape.specs.Here.{Here}
 use Rattle.reshape.specs.Grow.{Laid}
 use Rattle.reshape.proofs.Stays.{here-in}
+use Rattle.structure.specs.IsZone.{IsZone}
+use Rattle.structure.proofs.IsZone.{whole-of}
 
 -- the bay of the block at offset t of some bays, the first of which begins at p and the last of which ends at `last`
 found-own : (h p last t : ℕ) (s : Bays (List Cell) Fixed) (o : Own h s) → Tiled p s last → t + headerOf (o .mine) ≡ dataAt p o → ownBay t p s ≡ bayAt (p + sizes (o .before)) (bayOf o)

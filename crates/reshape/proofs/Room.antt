@@ -17,8 +17,7 @@ use Rattle.structure.specs.Structure.{Block, cell, fixed, Structure, size, star
 use Rattle.structure.specs.Valid.{Valid}
 use Rattle.structure.proofs.Table.{Whole, encode-zone, len-is}
 use Rattle.structure.proofs.Sound.{valid-zone}
-use Rattle.access.specs.Edit.{IsZone, placeIn, dataIn, dataOf}
-use Rattle.access.proofs.Zone.{whole-of}
+use Rattle.access.specs.Edit.{placeIn, dataIn, dataOf}
 use Rattle.row.specs.Row.{Row, row, bytesOf, blocksOf, blockAt, Stepped}
 use Rattle.row.proofs.Laws.{tiles-join, row-end}
 use Rattle.zone.specs.Call.{inBays}
@@ -30,6 +29,8 @@ use Rattle.settle.proofs.Tidy.{at-right}
 use Rattle.reshape.specs.Own.{Own, dataAt, Known, known}
 use Rattle.reshape.proofs.Own.{OwnAt, own-of}
 use Rattle.reshape.proofs.Parts.{behind-bytes, behind-sound, parts-end}
+use Rattle.structure.specs.IsZone.{IsZone}
+use Rattle.structure.proofs.IsZone.{whole-of}
 
 -- ---- the free bytes in front of some blocks
 

@@ -20,8 +20,6 @@ use Rattle.structure.specs.Structure.{Block, cell, Structure, sizes, start, enc
 use Rattle.structure.specs.Valid.{Valid}
 use Rattle.structure.proofs.Table.{Whole, encode-zone, len-is}
 use Rattle.structure.proofs.Sound.{valid-zone}
-use Rattle.access.specs.Edit.{IsZone}
-use Rattle.access.proofs.Zone.{whole-of}
 use Rattle.bays.specs.Places.{baysOf}
 use Rattle.settle.proofs.Bay.{cells-sound, part-is}
 use Rattle.reshape.specs.Own.{reshaped, Own, dataAt, Known, known}
@@ -29,6 +27,8 @@ use Rattle.reshape.specs.Here.{Here}
 use Rattle.reshape.proofs.Parts.{pre, rest, parts, pre-sizes, parts-end, parts-new}
 use Rattle.reshape.proofs.Still.{still}
 use Rattle.reshape.proofs.Here.{all-taken, part-left}
+use Rattle.structure.specs.IsZone.{IsZone}
+use Rattle.structure.proofs.IsZone.{whole-of}
 
 gap-four : (n : ℕ) → Sound (gap n []) → n % 4 ≡ 0
 gap-four zero so = refl

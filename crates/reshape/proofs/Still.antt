@@ -11,8 +11,8 @@ use Rattle.format.proofs.Count.{one, occurs, one-same, one-other}
 use Rattle.kinds.specs.Kinds.{Item, headerOf, masterOf}
 use Rattle.bay.specs.Bay.{Cell, held, baySize, gap}
 use Rattle.bay.specs.Sound.{bytesOf, Sound}
-use Rattle.structure.specs.Structure.{Block, cell, Structure, sizes, count, start, len, headOf, placeOf, nextOf, value, encode}
-use Rattle.structure.specs.Valid.{handlesOf, Valid}
+use Rattle.structure.specs.Structure.{Block, cell, Structure, sizes, count, start, len, headOf, placeOf, nextOf, value, encode, handlesOf}
+use Rattle.structure.specs.Valid.{Valid}
 use Rattle.row.specs.Row as Row
 use Rattle.surgery.proofs.Image.{encode-img, img-rest}
 use Rattle.surgery.proofs.Sound.{handle-once}

@@ -15,12 +15,11 @@ use Rattle.bay.specs.Bay.{Cell, free, held, baySize, baySum, items, gap, packed
 use Rattle.bay.specs.Sound.{bytesOf, cellsOf, Sound}
 use Rattle.bay.proofs.BayBytes.{cells-bytes}
 use Rattle.bay.proofs.Laws.{tidy-size}
-use Rattle.structure.specs.Structure.{Block, cell, Structure, sizes, start, placeOf, encode, decodeZone}
-use Rattle.structure.specs.Valid.{handlesOf, Valid}
+use Rattle.structure.specs.Structure.{Block, cell, Structure, sizes, start, placeOf, encode, decodeZone, handlesOf}
+use Rattle.structure.specs.Valid.{Valid}
 use Rattle.structure.proofs.Table.{Whole, encode-zone}
 use Rattle.structure.proofs.Sound.{valid-zone}
 use Rattle.structure.proofs.Round.{offset-is, next-none, master-is}
-use Rattle.access.proofs.Zone.{whole-of}
 use Rattle.zone.specs.Group.{flatten}
 use Rattle.zone.proofs.GroupLaws.{flatten-group}
 use Rattle.bays.specs.Places.{baysOf}
@@ -36,6 +35,7 @@ use Rattle.reshape.specs.Grow.{Laid}
 use Rattle.reshape.proofs.Parts.{in-bay}
 use Rattle.reshape.proofs.GrownBay.{laid}
 use Rattle.reshape.proofs.LaidBay.{laid-is, laid-size, laid-place}
+use Rattle.structure.proofs.IsZone.{whole-of}
 
 -- ---- a run of cells of a valid structure in the bytes y, from a to e
 

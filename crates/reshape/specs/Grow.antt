@@ -10,11 +10,11 @@ use Rattle.bay.specs.Bytes.{encodeCell}
 use Rattle.bay.specs.Ends.{startFree}
 use Rattle.bay.specs.Sound.{bytesOf, Sound}
 use Rattle.structure.specs.Structure.{start, decodeZone}
-use Rattle.access.specs.Edit.{IsZone}
 use Rattle.bays.specs.Places.{baysOf}
 use Rattle.bays.specs.Found.{Numbers}
 use Rattle.slide.specs.ZoneBay.{Low, partOf}
 use Rattle.reshape.specs.Own.{Own, bayOf}
+use Rattle.structure.specs.IsZone.{IsZone}
 
 -- the part s, whose block from at to o has `more` zero bytes at its end; the run bytes behind it stand higher, and the rest is free
 unfoldable pub grownBytes : List ℕ → ℕ → ℕ → ℕ → ℕ → List ℕ

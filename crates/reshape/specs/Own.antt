@@ -10,11 +10,12 @@ use Rattle.bay.specs.Bay.{Cell, held, baySize, baySum, items, reshape}
 use Rattle.bay.specs.Counted.{count}
 use Rattle.bay.specs.Ends.{startFree}
 use Rattle.structure.specs.Structure.{Block, Structure, sizes, start, decodeZone}
-use Rattle.access.specs.Edit.{IsZone, dataOf}
+use Rattle.access.specs.Edit.{dataOf}
 use Rattle.zone.specs.Group.{flatten}
 use Rattle.zone.specs.Work.{has}
 use Rattle.bays.specs.Places.{baysOf}
 use Rattle.bays.specs.At.{At}
+use Rattle.structure.specs.IsZone.{IsZone}
 
 -- the block of handle h has a data bytes, in its own bay
 abbrev pub reshaped : ℕ → ℕ → Structure → Structure

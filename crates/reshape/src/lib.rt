@@ -5,12 +5,13 @@ ghost use lib.ListN.{length};
 ghost use Rattle.block_type.specs.Limits.{relocHeader, longestZone};
 ghost use Rattle.bay.specs.Sound.{cellsOf};
 ghost use Rattle.structure.specs.Structure.{encode, decodeZone};
-ghost use Rattle.access.specs.Edit.{IsZone, placeIn, dataIn};
+ghost use Rattle.access.specs.Edit.{placeIn, dataIn};
 ghost use Rattle.slide.specs.ZoneBay.{partOf, ZoneBay, settled};
 ghost use Rattle.reshape.specs.Own.{reshaped, Known};
 ghost use Rattle.reshape.specs.Here.{Here};
 ghost use Rattle.reshape.specs.Grow.{grownBytes, Room, GrowsTo, Laid};
 use block_type::BlockType;
+ghost use Rattle.structure.specs.IsZone.{IsZone};
 
 // The size of the free block right behind the block of the live handle h, 0 where there is none; its n data bytes lie at `at`.
 pub fn room_after(z: &[u8], h: usize, at: usize, n: usize) -> usize

@@ -13,8 +13,8 @@ use Rattle.block_type.specs.Limits.{relocHeader, up4}
 use Rattle.calls.specs.Calls.{by-handle, Answer, told, shows, Call, resize, size, view}
 use Rattle.calls.specs.Bays.{Bays, last, more, over, orElse, findS, mapS, maxS}
 use Rattle.zone.specs.PickBays.{onLow}
-use Rattle.kinds.specs.Kinds.{Item}
-use Rattle.calls.specs.State.{is, get, alter, sized, Fixed, content, ownSum}
+use Rattle.kinds.specs.Kinds.{Item, is}
+use Rattle.calls.specs.State.{get, alter, sized, Fixed, content, ownSum}
 use Rattle.calls.specs.Table.{below, isNone}
 use Rattle.calls.proofs.First.{or-left}
 use Rattle.bay.specs.Bay.{Cell, items, baySum, release, resized, reshape}

@@ -11,7 +11,7 @@ use lib.Dec.{leb}
 use Rattle.block_type.specs.Limits.{relocHeader, relocLimit, up4}
 use Rattle.format.specs.WellFormed.{firstField}
 use Rattle.structure.specs.Structure.{Structure, decodeZone}
-use Rattle.access.specs.Edit.{IsZone, placeIn, dataIn, dataOf}
+use Rattle.access.specs.Edit.{placeIn, dataIn, dataOf}
 use Rattle.kinds.specs.Kinds.{Item}
 use Rattle.calls.specs.Calls.{by-handle, resize}
 use Rattle.calls.specs.Bays.{over, maxS}
@@ -26,6 +26,7 @@ use Rattle.reshape.proofs.Plan.{here-of, here-reached}
 use Rattle.call_laws.specs.Frame.{zoneAt, PlannedIn, refuses, goes}
 use Rattle.resize.specs.Ready.{noRoom, WayIn, here, Tight, Chosen, lacks, found, ReadyIn}
 use Rattle.resize.specs.declared.Way.the-variants.{InPlace}
+use Rattle.structure.specs.IsZone.{IsZone}
 
 module _ (z : List ℕ) (h c : ℕ) where
   abbrev s : Structure

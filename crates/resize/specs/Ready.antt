@@ -7,7 +7,7 @@ use lib.ListN.{length}
 use Rattle.block_type.specs.Limits.{relocHeader, relocLimit, up4}
 use Rattle.format.specs.WellFormed.{firstField}
 use Rattle.structure.specs.Structure.{Structure, start, decodeZone}
-use Rattle.access.specs.Edit.{IsZone, placeIn, dataIn, dataOf}
+use Rattle.access.specs.Edit.{placeIn, dataIn, dataOf}
 use Rattle.calls.specs.Calls.{resize}
 use Rattle.calls.specs.Bays.{maxS}
 use Rattle.calls.specs.State.{ownSum}
@@ -24,6 +24,7 @@ use Rattle.call_laws.specs.Frame.{zoneAt}
 use Rattle.resize.specs.declared.Plan.{Plan}
 use Rattle.resize.specs.declared.Way.{Way}
 use Rattle.resize.specs.declared.Way.the-variants.{InPlace, OwnBay, OtherBay}
+use Rattle.structure.specs.IsZone.{IsZone}
 
 -- the structure with a data bytes in the block of handle h
 abbrev pub resizedTo : ℕ → ℕ → Structure → Structure

@@ -3,7 +3,6 @@ ghost use mathlib.Core.Path.{_≡_};
 ghost use Prim.Native.Nat.{_<_};
 ghost use lib.ListN.{take};
 ghost use Rattle.structure.specs.Structure.{encode, decodeZone};
-ghost use Rattle.access.specs.Edit.{IsZone};
 ghost use Rattle.calls.specs.Calls.{told, resize};
 ghost use Rattle.zone.specs.Call.{result, call};
 ghost use Rattle.call_laws.specs.Frame.{PlannedIn, Planned};
@@ -11,6 +10,7 @@ ghost use Rattle.resize.specs.Ready.{resizedTo, Tight, Chosen, Going, Re
 use block_type::BlockType;
 use calls::Told;
 ghost use Rattle.block_type.specs.Limits.{argumentRange};
+ghost use Rattle.structure.specs.IsZone.{IsZone};
 
 pub enum Way {
     InPlace,

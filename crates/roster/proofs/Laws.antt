@@ -18,8 +18,7 @@ use Rattle.memory.proofs.Writes.{write-none}
 use Rattle.format.specs.WellFormed.{wellFormed, zoneOf, mastersField, countOf, offsets, lengthField}
 use Rattle.structure.specs.Structure.{decode, decodeZone, start}
 use Rattle.structure.proofs.Table.{len-is}
-use Rattle.access.specs.Edit.{placeIn, dataIn, IsZone, is-zone}
-use Rattle.access.proofs.Zone.{whole-of}
+use Rattle.access.specs.Edit.{placeIn, dataIn}
 use Rattle.access.proofs.Size.{size-none, data-fits}
 use Rattle.bigendian.proofs.Overwrite.{len-write, write-write}
 use Rattle.calls.specs.Calls.{Card, Answer, roster, shows, lists}
@@ -33,6 +32,8 @@ use Rattle.access.proofs.Checked.{is-well, fields-of}
 use Rattle.tell.proofs.CheckLaws.{count-live, count-blocks, count-few}
 use Rattle.roster.specs.Listed.{Rostered, cardOf, cardsOf, allCards, Entered, Planned, refused, ready}
 use Rattle.roster.proofs.Order.{length-cards, bayCards, cards-are, all-order}
+use Rattle.structure.specs.IsZone.{IsZone, is-zone}
+use Rattle.structure.proofs.IsZone.{whole-of}
 
 -- ---- one record
 

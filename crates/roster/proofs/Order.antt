@@ -17,8 +17,7 @@ use Rattle.structure.specs.Valid.{Valid}
 use Rattle.structure.proofs.Round.{place-none, offset-le}
 use Rattle.structure.proofs.Sound.{valid-zone}
 use Rattle.structure.proofs.Table.{count-is}
-use Rattle.access.specs.Edit.{dataOf, placeIn, dataIn, IsZone}
-use Rattle.access.proofs.Zone.{whole-of}
+use Rattle.access.specs.Edit.{dataOf, placeIn, dataIn}
 use Rattle.calls.specs.Calls.{Card}
 use Rattle.calls.specs.Bays.{Bays, last, more, concatS}
 use Rattle.kinds.specs.Kinds.{Item, item}
@@ -26,6 +25,8 @@ use Rattle.calls.specs.State.{Fixed, card}
 use Rattle.bay.specs.Bay.{Cell, free, held, items}
 use Rattle.zone.specs.Group.{inFront, group}
 use Rattle.roster.specs.Listed.{cardOf, cardsOf, allCards}
+use Rattle.structure.specs.IsZone.{IsZone}
+use Rattle.structure.proofs.IsZone.{whole-of}
 
 -- ---- in the order of the blocks
 

@@ -11,9 +11,8 @@ use Rattle.bigendian.specs.BigEndian.{Bytes}
 use Rattle.block_type.specs.Limits.{recordSize, zoneHeader}
 use Rattle.format.specs.WellFormed.{wellFormed}
 use Rattle.format.proofs.Count.{one}
-use Rattle.structure.specs.Structure.{Block, fixed, start, count, decode, cell}
+use Rattle.structure.specs.Structure.{Block, fixed, start, count, decode, cell, handlesOf}
 use Rattle.bay.specs.Bay.{free, held}
-use Rattle.structure.specs.Valid.{handlesOf}
 use Rattle.structure.proofs.Sound.{valid}
 use Rattle.structure.proofs.Round.{offset-le}
 use Rattle.calls.specs.Calls.{Card, roster}

@@ -5,10 +5,11 @@ ghost use Prim.Native.Nat.{_+_, _*_, _<_, _≤_};
 ghost use lib.ListN.{length};
 ghost use Rattle.bigendian.specs.BigEndian.{toBE, overwrite};
 ghost use Rattle.block_type.specs.Limits.{argumentRange, recordSize};
-ghost use Rattle.access.specs.Edit.{placeIn, dataIn, IsZone};
+ghost use Rattle.access.specs.Edit.{placeIn, dataIn};
 ghost use Rattle.zone.specs.Roster.{cardBytes};
 ghost use Rattle.roster.specs.Listed.{cardsOf, allCards, Entered, Planned, Rostered};
 use calls::Told;
+ghost use Rattle.structure.specs.IsZone.{IsZone};
 
 // Where a handle's data lies, 0 where it is not live, and its data size.
 pub struct Entry {

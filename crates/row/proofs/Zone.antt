@@ -10,8 +10,8 @@ use Rattle.block_type.specs.Limits.{longestZone, zoneHeader, handleRange}
 use Rattle.kinds.specs.Kinds.{masterOf}
 use Rattle.format.specs.WellFormed.{firstField}
 use Rattle.format.proofs.Count.{one-same}
-use Rattle.structure.specs.Structure.{Block, cell, fixed, Structure, count, decodeZone}
-use Rattle.structure.specs.Valid.{Tiled, Valid, handlesOf}
+use Rattle.structure.specs.Structure.{Block, cell, fixed, Structure, count, decodeZone, handlesOf}
+use Rattle.structure.specs.Valid.{Tiled, Valid}
 use Rattle.structure.proofs.Table.{Whole, encode-zone, start-is}
 use Rattle.structure.proofs.Sound.{valid-zone}
 use Rattle.structure.proofs.Round.{offset-is, rest-is}

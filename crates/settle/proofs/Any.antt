@@ -14,8 +14,8 @@ use Rattle.bigendian.specs.BigEndian.{toBE, overwrite}
 use Rattle.block_type.specs.Limits.{zoneHeader, chainAt}
 use Rattle.bay.specs.Bay.{Cell, baySize}
 use Rattle.bay.specs.Sound.{Sound}
-use Rattle.structure.specs.Structure.{Block, Structure, sizes, count, start, len, headOf, placeOf, nextOf, value, encode, cell}
-use Rattle.structure.specs.Valid.{handlesOf, Valid}
+use Rattle.structure.specs.Structure.{Block, Structure, sizes, count, start, len, headOf, placeOf, nextOf, value, encode, cell, handlesOf}
+use Rattle.structure.specs.Valid.{Valid}
 use Rattle.structure.proofs.Round.{next-none, offset-is}
 use Rattle.row.specs.Row as Row
 use Rattle.surgery.specs.Masters as Masters

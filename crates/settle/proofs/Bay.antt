@@ -12,8 +12,8 @@ use Rattle.kinds.specs.Kinds.{masterOf}
 use Rattle.bay.specs.Bay.{Cell, free, held, baySize}
 use Rattle.bay.specs.Sound.{bytesOf, cellsOf, Sound, is-bay}
 use Rattle.bay.proofs.BayBytes as Bytes
-use Rattle.structure.specs.Structure.{Block, Structure, sizes, count, start, encode, cell}
-use Rattle.structure.specs.Valid.{handlesOf, Valid}
+use Rattle.structure.specs.Structure.{Block, Structure, sizes, count, start, encode, cell, handlesOf}
+use Rattle.structure.specs.Valid.{Valid}
 use Rattle.structure.proofs.Round.{offset-is, rest-is, length-is}
 use Rattle.row.specs.Row as Row
 use Rattle.row.proofs.Laws.{bytes-append, bytes-long, sound-left, sound-right}

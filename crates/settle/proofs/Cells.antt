@@ -11,8 +11,7 @@ use Rattle.kinds.specs.Kinds.{headerOf, masterOf, itemSize}
 use Rattle.bay.specs.Bay.{Cell, free, held, baySize, items, packed}
 use Rattle.bay.specs.Bytes.{encodeCell}
 use Rattle.bay.specs.Sound.{bytesOf, Sound}
-use Rattle.structure.specs.Structure.{encodeBlock, sizes, join, cell}
-use Rattle.structure.specs.Valid.{handlesOf}
+use Rattle.structure.specs.Structure.{encodeBlock, sizes, join, cell, handlesOf}
 use Rattle.row.specs.Row as Row
 use Rattle.surgery.specs.Masters as Masters
 use Rattle.slide.specs.ZoneBay.{setOne, setAll}

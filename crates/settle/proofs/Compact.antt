@@ -7,8 +7,8 @@ use Rattle.kinds.specs.Kinds.{Item}
 use Rattle.bay.specs.Bay.{Cell, packed, compactBay}
 use Rattle.bay.proofs.Laws.{tidy-size, tidy-items}
 use Rattle.bay.proofs.SoundLaws.{compact-sound}
-use Rattle.structure.specs.Structure.{Block, Structure, sizes, start, encode, cell}
-use Rattle.structure.specs.Valid.{handlesOf, Valid}
+use Rattle.structure.specs.Structure.{Block, Structure, sizes, start, encode, cell, handlesOf}
+use Rattle.structure.specs.Valid.{Valid}
 use Rattle.surgery.proofs.Replace.{sizes-parts}
 use Rattle.slide.specs.ZoneBay.{settled}
 use Rattle.settle.proofs.Cells.{all-sizes, handles-items}

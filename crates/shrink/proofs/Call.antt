@@ -12,8 +12,6 @@ use Rattle.format.specs.WellFormed.{firstField}
 use Rattle.structure.specs.Structure.{Structure, fixed, sizes, start, len, decodeZone, encode}
 use Rattle.structure.proofs.Table.{encode-zone}
 use Rattle.structure.proofs.Sound.{valid-zone}
-use Rattle.access.specs.Edit.{IsZone}
-use Rattle.access.proofs.Zone.{whole-of}
 use Rattle.calls.specs.Calls.{told, shrink}
 use Rattle.calls.specs.Bays.{Bays, last, more, onLast, lastS}
 use Rattle.calls.specs.State.{Fixed, Out, done}
@@ -36,6 +34,8 @@ use Rattle.call_laws.proofs.Frame.{frame-ready, frame-cut, frame-same}
 use Rattle.shrink.specs.Stripped.{strips, stripped, Site}
 use Rattle.shrink.specs.Ready.{ReadyIn}
 use Rattle.shrink.proofs.Placed.{ask-sub, ask-end}
+use Rattle.structure.specs.IsZone.{IsZone}
+use Rattle.structure.proofs.IsZone.{whole-of}
 
 -- ---- how much is stripped
 

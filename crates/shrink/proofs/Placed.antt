@@ -13,8 +13,8 @@ use Rattle.kinds.specs.Kinds.{Item}
 use Rattle.bay.specs.Bay.{Cell, baySize, items, gap, packed, takeHigh}
 use Rattle.bay.proofs.Laws.{cut-less, items-append, items-gap}
 use Rattle.bay.proofs.BayBytes.{gap-none}
-use Rattle.structure.specs.Structure.{Block, cell, Structure, sizes, start, join, encode, decodeZone}
-use Rattle.structure.specs.Valid.{handlesOf, Valid}
+use Rattle.structure.specs.Structure.{Block, cell, Structure, sizes, start, join, encode, decodeZone, handlesOf}
+use Rattle.structure.specs.Valid.{Valid}
 use Rattle.row.specs.Row as Row
 use Rattle.row.proofs.Laws.{sound-append, sound-left}
 use Rattle.calls.specs.Bays.{lastS}

@@ -3,9 +3,9 @@ use mathlib.Core.Path.{_≡_}
 use mathlib.Core.List.{List}
 use Prim.Native.Nat.{ℕ, _<_}
 use Rattle.structure.specs.Structure.{decodeZone}
-use Rattle.access.specs.Edit.{IsZone}
 use Rattle.shrink.specs.Stripped.{strips, Site}
 use Rattle.shrink.specs.declared.Plan.{Plan}
+use Rattle.structure.specs.IsZone.{IsZone}
 
 pub record ReadyIn (z : List ℕ) (k n a e sum tail : ℕ) : Type 0 where
   pub zone : IsZone z

@@ -4,12 +4,12 @@ use mathlib.Core.List.{List}
 use Prim.Native.Nat.{ℕ, _*_, _/_, _%_, _≤_, min}
 use Rattle.block_type.specs.Limits.{freeHeader}
 use Rattle.structure.specs.Structure.{Structure, start, len, decodeZone}
-use Rattle.access.specs.Edit.{IsZone}
 use Rattle.calls.specs.Bays.{onLast, lastS}
 use Rattle.bay.specs.Bay.{baySum, takeHigh}
 use Rattle.zone.specs.Group.{flatten}
 use Rattle.bays.specs.Places.{baysOf}
 use Rattle.bays.specs.Found.{FoundLast}
+use Rattle.structure.specs.IsZone.{IsZone}
 
 -- "the lesser of k rounded down to a multiple of 4 and the last bay's sum"
 abbrev pub strips : Structure → ℕ → ℕ

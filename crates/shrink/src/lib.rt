@@ -4,13 +4,13 @@ ghost use mathlib.Core.List.{_++_};
 ghost use Prim.Native.Nat.{min};
 ghost use lib.ListN.{take, replicate};
 ghost use Rattle.structure.specs.Structure.{encode, decodeZone};
-ghost use Rattle.access.specs.Edit.{IsZone};
 ghost use Rattle.calls.specs.Calls.{told, shrink};
 ghost use Rattle.zone.specs.Call.{result, call};
 ghost use Rattle.call_laws.specs.Frame.{PlannedIn, Planned};
 ghost use Rattle.shrink.specs.Stripped.{stripped, Site};
 ghost use Rattle.shrink.specs.Ready.{Ready};
 use calls::Told;
+ghost use Rattle.structure.specs.IsZone.{IsZone};
 
 // Strips n bytes off the last bay, from a to e; they are zero then, and the length falls by n.
 fn strip(z: &mut [u8], n: usize, a: usize, e: usize, sum: usize, tail: usize)

@@ -16,8 +16,8 @@ use Rattle.calls.specs.Bays.{Bays, last, more, mapS, onFixed}
 use Rattle.calls.specs.State.{Fixed, alter, alterFixed}
 use Rattle.bay.specs.Bay as Bay
 use Rattle.bay.specs.Bay.{Cell, free, held, cellSize}
-use Rattle.structure.specs.Structure.{Block, fixed, cell, Structure, size, sizes, count, start}
-use Rattle.structure.specs.Valid.{handlesOf, Valid}
+use Rattle.structure.specs.Structure.{Block, fixed, cell, Structure, size, sizes, count, start, handlesOf}
+use Rattle.structure.specs.Valid.{Valid}
 use Rattle.structure.proofs.Round.{offset-le}
 use Rattle.zone.specs.Work.{rewrite}
 use Rattle.zone.specs.Group.{inFront, group, flatten}

@@ -10,8 +10,8 @@ use Rattle.bigendian.proofs.Overwrite.{write-right, write-left}
 use Rattle.kinds.specs.Kinds.{is}
 use Rattle.calls.specs.Calls.{Target}
 use Rattle.bay.specs.Bay.{free, held}
-use Rattle.structure.specs.Structure.{Block, fixed, cell, Structure, size, sizes, start, len, placeOf, encode, encodeBlock, join}
-use Rattle.structure.specs.Valid.{handlesOf, Valid}
+use Rattle.structure.specs.Structure.{Block, fixed, cell, Structure, size, sizes, start, len, placeOf, encode, encodeBlock, join, handlesOf}
+use Rattle.structure.specs.Valid.{Valid}
 use Rattle.structure.proofs.Append.{sizes-append}
 use Rattle.structure.proofs.Round.{rest-is, length-is}
 use Rattle.structure.proofs.ZoneLayout.{write-mid}

@@ -14,7 +14,6 @@ use Rattle.kinds.specs.Kinds.{headerOf, masterOf, itemSize}
 use Rattle.bay.specs.Bay.{free, held}
 use Rattle.format.proofs.Count.{one, one-same, one-other}
 use Rattle.structure.specs.Structure.{Block, fixed, sizes, placeOf, cell, handlesOf}
-use Rattle.structure.specs.Valid.{handlesOf}
 
 pub sizes-append : (a b : List Block) → sizes (a ++ b) ≡ sizes a + sizes b
 unfolding sizes

@@ -17,13 +17,13 @@ use Rattle.format.proofs.Walk.{Good, is-good, size-used}
 use Rattle.format.proofs.Masters.{Master}
 use Rattle.format.proofs.Count.{occurs-offset, all-at}
 use Rattle.format.proofs.Live.{handles, owned, handles-high, chain-low}
-use Rattle.structure.specs.Structure.{Block, fixed, decodeBlock, byType, join, decodeZone, decode, cell}
+use Rattle.structure.specs.Structure.{Block, fixed, decodeBlock, byType, join, decodeZone, decode, cell, handlesOf}
 use Rattle.kinds.specs.Kinds.{itemIn}
 use Rattle.bay.specs.Bay.{free, held}
 use Rattle.structure.proofs.Codec.{bytes-drop, bytes-left, bytes-right, join-blocks}
 use Rattle.structure.proofs.Table.{Whole, whole, by, count-is, len-is}
 use Rattle.structure.proofs.Round.{offset-is}
-use Rattle.structure.specs.Valid.{handlesOf, Tiled, Valid}
+use Rattle.structure.specs.Valid.{Tiled, Valid}
 
 module _ (z : List ℕ) (first : ℕ) where
   handle-dec : (prev : Bool) (at : ℕ) (b : List ℕ) (bs : List Block) → blockOk z first prev at b ≡ true

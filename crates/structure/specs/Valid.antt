@@ -8,8 +8,7 @@ use Rattle.block_type.specs.Limits.{fixedHeader, fixedLimit, largestBlock, long
 use Rattle.bigendian.specs.BigEndian.{Bytes}
 use Rattle.format.specs.WellFormed.{offsets}
 use Rattle.format.specs.Occurs.{occurs}
-use Rattle.structure.specs.Structure.{Block, fixed, Structure, count, len, cell}
-unfoldable pub use Rattle.structure.specs.Structure.{handlesOf}
+use Rattle.structure.specs.Structure.{Block, fixed, Structure, count, len, cell, handlesOf}
 use Rattle.kinds.specs.Kinds.{itemSize}
 use Rattle.bay.specs.Bay.{free, held}
 

@@ -14,10 +14,9 @@ use Rattle.format.specs.WellFormed.{offsets}
 use Rattle.block_type.specs.Limits.{fixedHeader, masterSize, zoneHeader, chainAt}
 use Rattle.bigendian.specs.BigEndian.{toBE, overwrite}
 use Rattle.format.proofs.Count.{one, one-same, length-offsets}
-use Rattle.structure.specs.Structure.{Block, fixed, Structure, size, count, start, len, headOf, placeOf, value, encode, cell}
+use Rattle.structure.specs.Structure.{Block, fixed, Structure, size, count, start, len, headOf, placeOf, value, encode, cell, handlesOf}
 use Rattle.kinds.specs.Kinds.{headerOf, masterOf, itemSize}
 use Rattle.bay.specs.Bay.{free, held}
-use Rattle.structure.specs.Valid.{handlesOf}
 use Rattle.structure.proofs.Round.{offset-is}
 use Rattle.row.specs.Row.{bytesOf}
 use Rattle.structure.proofs.ZoneLayout.{lay, encode-lay, lay-chain, lay-master, lay-rest, values-set}

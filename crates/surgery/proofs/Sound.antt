@@ -7,9 +7,9 @@ use native.Mathlib.Omega.{arith}
 use Rattle.format.specs.Occurs.{occurs}
 use Rattle.format.specs.WellFormed.{offsets}
 use Rattle.block_type.specs.Limits.{zoneHeader}
-use Rattle.structure.specs.Structure.{Block, fixed, Structure, count, cell}
+use Rattle.structure.specs.Structure.{Block, fixed, Structure, count, cell, handlesOf}
 use Rattle.bay.specs.Bay.{free, held}
-use Rattle.structure.specs.Valid.{handlesOf, Tiled, Valid}
+use Rattle.structure.specs.Valid.{Tiled, Valid}
 use Rattle.structure.proofs.Round.{offset-le}
 pub use Rattle.surgery.specs.Bays.{lastFree, firstFree}
 

@@ -4,8 +4,8 @@ use mathlib.Core.List.{List, _++_}
 use Prim.Native.Nat.{ℕ, _+_}
 use lib.ListN.{length}
 use Rattle.bigendian.specs.BigEndian.{overwrite}
-use Rattle.structure.specs.Structure.{Block, Structure, sizes, count, start, len, headOf, placeOf, nextOf, value, encode}
-use Rattle.structure.specs.Valid.{handlesOf, Valid}
+use Rattle.structure.specs.Structure.{Block, Structure, sizes, count, start, len, headOf, placeOf, nextOf, value, encode, handlesOf}
+use Rattle.structure.specs.Valid.{Valid}
 use Rattle.structure.proofs.Append.{place-append}
 use Rattle.row.specs.Row.{bytesOf, Sound}
 use Rattle.surgery.proofs.Image.{encode-img, img-rest}

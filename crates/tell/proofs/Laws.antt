@@ -14,10 +14,10 @@ use Rattle.calls.specs.State.{Fixed}
 use Rattle.calls.specs.Calls.{sums, length-of, told, toldTwo}
 use Rattle.bay.specs.Bay.{Cell, baySum}
 use Rattle.zone.specs.Call.{call}
-use Rattle.access.specs.Edit.{is-zone}
 use Rattle.access.proofs.Checked.{is-well, length-is}
 use Rattle.bays.proofs.Zone.{zone-bays}
 use Rattle.tell.specs.Sums.{SumsFrom, sums-from, SumsIn}
+use Rattle.structure.specs.IsZone.{is-zone}
 
 -- ---- sum
 

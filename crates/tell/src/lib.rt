@@ -5,11 +5,11 @@ ghost use Prim.Native.Nat.{_≤_, max};
 ghost use lib.ListN.{length, drop};
 ghost use Rattle.block_type.specs.Limits.{longestZone};
 ghost use Rattle.row.specs.Row.{Row};
-ghost use Rattle.access.specs.Edit.{IsZone};
 ghost use Rattle.zone.specs.Call.{call};
 ghost use Rattle.calls.specs.Calls.{told, toldTwo, sums, length-of, check};
 ghost use Rattle.tell.specs.Sums.{SumsFrom, SumsIn};
 use calls::Told;
+ghost use Rattle.structure.specs.IsZone.{IsZone};
 
 fn larger(a: usize, b: usize) -> usize
     ensures { λ r. ⌜ r ≡ max a b ⌝ }

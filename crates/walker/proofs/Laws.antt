@@ -9,8 +9,6 @@ use lib.ListN.{length, getD, take, drop}
 use mir.Val.{Fits}
 use mir.Syntax.{w8}
 use Rattle.block_type.specs.Limits.{longestZone}
-use Rattle.access.specs.Edit.{IsZone}
-use Rattle.access.proofs.Zone.{whole-of}
 use Rattle.bigendian.specs.BigEndian.{Bytes}
 use Rattle.format.specs.WellFormed.{typeOf, wellFormed, firstField, zoneOf, lengthField}
 use Rattle.structure.specs.Structure.{Block, fixed, cell, decode, start, code}
@@ -22,6 +20,8 @@ use Rattle.row.proofs.Zone.{blocks-are}
 use Rattle.zone.specs.Walker.{describe, walkStart, walkStep}
 use Rattle.access.proofs.Checked.{is-well}
 use Rattle.walker.specs.Found.{described, walked, FoundFrom, Found, found}
+use Rattle.structure.specs.IsZone.{IsZone}
+use Rattle.structure.proofs.IsZone.{whole-of}
 
 -- ---- the search
 

@@ -4,9 +4,9 @@ ghost use Prim.Native.Nat.{_+_, _≤_, max};
 ghost use lib.ListN.{length, drop};
 ghost use Rattle.block_type.specs.Limits.{longestZone};
 ghost use Rattle.row.specs.Row.{Row};
-ghost use Rattle.access.specs.Edit.{IsZone};
 ghost use Rattle.zone.specs.Walker.{walkStart, walkStep};
 ghost use Rattle.walker.specs.Found.{walked, FoundFrom, Found};
+ghost use Rattle.structure.specs.IsZone.{IsZone};
 
 pub struct Walker {
     pub at: usize,

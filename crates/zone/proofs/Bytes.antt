@@ -6,8 +6,8 @@ use Prim.Native.Nat.{ℕ, zero, suc, _+_, _-_, _/_, _%_, _^_, _*_}
 use lib.ListN.{replicate}
 use lib.Dec.{eqb}
 use Rattle.calls.specs.Bays.{Bays, last, more, orElse}
-use Rattle.kinds.specs.Kinds.{Item, itemSize}
-use Rattle.calls.specs.State.{is, Fixed, fsize, handlesFrom}
+use Rattle.kinds.specs.Kinds.{Item, itemSize, is}
+use Rattle.calls.specs.State.{Fixed, fsize, handlesFrom}
 use Rattle.bay.specs.Bay.{Cell, free, held, baySize}
 use Rattle.block_type.specs.Limits.{relocHeader, firstBlock, relocCode, typeUnit, zoneHeader, fixedCode, freeHeader}
 use Rattle.zone.specs.Work.{Zone}

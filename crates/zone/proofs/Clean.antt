@@ -11,8 +11,8 @@ use borrow.Author.Tests.{leb-true}
 use Rattle.bigendian.specs.BigEndian.{Bytes}
 use Rattle.calls.specs.Bays.{Bays, last, more, mapS, onFixed, onLast, lastS, findS}
 use Rattle.zone.specs.PickBays.{onLow, onHigh, onJoin}
-use Rattle.kinds.specs.Kinds.{Item, itemSize}
-use Rattle.calls.specs.State.{is, get, alter, sized, Fixed, fsize, pointer, alterFixed, newItem, newFixed}
+use Rattle.kinds.specs.Kinds.{Item, itemSize, is}
+use Rattle.calls.specs.State.{get, alter, sized, Fixed, fsize, pointer, alterFixed, newItem, newFixed}
 use Rattle.bay.specs.Bay.{Cell, baySum, items, gap, joinBays, compactBay, put, takeHigh, release, edit, resized, reshape}
 use Rattle.bay.specs.Counted.{remove}
 use Rattle.bay.proofs.Each.{Each, nothing, just, each-cond, each-over, each-orElse, each-weaken}

@@ -6,8 +6,8 @@ use mathlib.Core.List.{List, [], _∷_, _++_, map, List·Permᴰ, List·Permᴰ�
 use Prim.Native.Nat.{ℕ, suc, _+_, _%_, _≤_}
 use native.Mathlib.Omega.{arith}
 use lib.ListN.{length}
-use Rattle.kinds.specs.Kinds.{Item, itemSize}
-use Rattle.calls.specs.State.{is, alter, get, sized, Fixed, fsize}
+use Rattle.kinds.specs.Kinds.{Item, itemSize, is}
+use Rattle.calls.specs.State.{alter, get, sized, Fixed, fsize}
 use Rattle.ledger.specs.Ledger.{Bay, bay, sumOf, onEntries, without, less}
 use Rattle.ledger.proofs.Space.{countIn}
 use Rattle.bay.specs.Bay.{Cell, baySize, baySum, items, gap, joinBays, compactBay, put, takeHigh, release, edit, reshape}

@@ -11,8 +11,8 @@ use lib.Dec.{eqb, leb}
 use borrow.Author.Tests.{leb-true, leb-false, le-leb, lt-leb, eqb-true}
 use Rattle.block_type.specs.Limits.{relocHeader}
 use Rattle.calls.specs.Bays.{Bays, last, more, over, orElse, onLowest, mapS, findS, findF, maxS}
-use Rattle.kinds.specs.Kinds.{Item, itemSize}
-use Rattle.calls.specs.State.{is, total, get, Fixed, fsize, pointer, newFixed, cutHigh, joinOver, joinAt, ownSum}
+use Rattle.kinds.specs.Kinds.{Item, itemSize, is}
+use Rattle.calls.specs.State.{total, get, Fixed, fsize, pointer, newFixed, cutHigh, joinOver, joinAt, ownSum}
 use Rattle.calls.specs.Table.{below, isNone}
 use Rattle.zone.specs.PickBays.{onLow, onHigh, glue, onJoin}
 use Rattle.bay.specs.Bay.{Cell, baySum, items, put, release, reshape, resized}

@@ -7,8 +7,8 @@ use native.Mathlib.Omega.{arith}
 use lib.ListN.{length}
 use Rattle.format.specs.Occurs.{occurs}
 use Rattle.block_type.specs.Limits.{fixedHeader, relocHeader, zoneHeader}
-use Rattle.structure.specs.Structure.{Structure, Block, fixed, sizes, count, start, len, cell}
-use Rattle.structure.specs.Valid.{handlesOf, Tiled, Valid}
+use Rattle.structure.specs.Structure.{Structure, Block, fixed, sizes, count, start, len, cell, handlesOf}
+use Rattle.structure.specs.Valid.{Tiled, Valid}
 use Rattle.calls.specs.Bays.{Bays, last, more}
 use Rattle.zone.specs.PickBays.{AllS}
 use Rattle.kinds.specs.Kinds.{Item, itemSize}

@@ -10,8 +10,8 @@ use borrow.Author.Tests.{leb-true, eqb-true, eqb-false, ne-eqb}
 use Rattle.block_type.specs.Limits.{zoneHeader, masterSize}
 use Rattle.calls.specs.Bays.{Bays, last, more, mapS, lastS}
 use Rattle.zone.specs.PickBays.{onLow, AllS}
-use Rattle.kinds.specs.Kinds.{Item, itemSize}
-use Rattle.calls.specs.State.{is, alter, get, sized, alterFixed, Fixed, fsize, newItem, handlesFrom}
+use Rattle.kinds.specs.Kinds.{Item, itemSize, is}
+use Rattle.calls.specs.State.{alter, get, sized, alterFixed, Fixed, fsize, newItem, handlesFrom}
 use Rattle.bay.specs.Bay.{Cell, baySum, items, gap, joinBays, compactBay, takeHigh, release, edit, reshape, resized}
 use Rattle.bay.specs.Counted.{remove, count, live}
 use Rattle.bay.proofs.Each.{Each, nothing, just, each-cond, each-weaken, each-and, each-orElse}

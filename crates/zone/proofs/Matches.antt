@@ -78,7 +78,7 @@ facts-same o (matches {buf = buf} {len = len} {chain = chain} k) = λ i. record 
   well = true;
   buf = buf;
   len = len;
-  handles = chain;
+  chain = chain;
   size = λ t. over length (content-same k o t i);
   largest = largest-same k i;
   own = λ h. own-sum-same k o h i;

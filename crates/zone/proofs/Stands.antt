@@ -11,8 +11,8 @@ use Rattle.calls.specs.Bays.{Bays, last, more, findS}
 use Rattle.zone.specs.PickBays.{AllS}
 use Rattle.zone.proofs.BaysLaws.{Both, absent, present, cond-both, orElse-both}
 use Rattle.bay.proofs.Each.{Each, nothing, just}
-use Rattle.kinds.specs.Kinds.{Item, itemSize}
-use Rattle.calls.specs.State.{is, get, Fixed, fsize, pointer, handlesFrom}
+use Rattle.kinds.specs.Kinds.{Item, itemSize, is}
+use Rattle.calls.specs.State.{get, Fixed, fsize, pointer, handlesFrom}
 use Rattle.bay.specs.Bay.{Cell, held, baySize, items}
 use Rattle.bay.proofs.Sound.{Block, Sound, s-nil, s-end, s-free, s-held}
 use Rattle.block_type.specs.Limits.{fixedHeader, firstBlock, masterSize, relocCode, typeUnit, zoneHeader, relocHeader}

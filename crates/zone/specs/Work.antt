@@ -9,7 +9,7 @@ use lib.Dec.{leb, eqb}
 use Rattle.block_type.specs.Limits.{up4, fixedNeed, zoneHeader, firstBlock, recordSize}
 use Rattle.calls.specs.Calls.{Target, by-handle, by-pointer, Call, allocate-relocatable, allocate-fixed, free-handle, free-pointer, resize, size, read, write, view, compact, sums, check, length-of, enlarge, shrink, roster, Card, toldTwo, shows, lists}
 use Rattle.calls.specs.Bays.{Bays, last, onLowest, mapS, onFixed, onLast, concatS, sumS, maxS, lastS}
-use Rattle.kinds.specs.Kinds.{Item, itemSize}
+use Rattle.kinds.specs.Kinds.{Item, item, itemSize}
 use Rattle.calls.specs.State.{get, newItem, sized, card, handlesFrom, Fixed, pointer, alterFixed, State, Out, says, done, withBays, cutHigh, joinAt, dataOf, ownSum, liveCount, top, rest}
 use Rattle.calls.specs.Table.{Facts, factsOf, isNone}
 use Rattle.bay.specs.Bay.{Cell, baySum, items, gap, joinBays, compactBay, put, takeHigh, release, edit, reshape}
@@ -60,7 +60,7 @@ abbrev pub resizeIn : ℕ → ℕ → List ℕ → Bays (List Cell) Fixed → Ba
 resizeIn h a d s =
     cond (leb (a - length d) (ownSum items baySum h s))
     (onLowest (has h) (reshape h a) s)
-    (placeLow (record { handle = h; bytes = sized a d }) (mapS (release h) s))
+    (placeLow (item h (sized a d)) (mapS (release h) s))
 
 -- ---- write, enlarge, shrink
 
@@ -88,6 +88,7 @@ work (allocate-fixed c) z = allocateFixed c z
 work (free-handle h) z = freeHandle h z
 work (free-pointer p) z = done 0 (withBays (freePointer p (z .bays)) z)
 work (resize h c) z = done 0 (withBays (resizeIn h (up4 c) (dataOf items (by-handle h) z) (z .bays)) z)
+-- "Size takes the block alone and answers its data size"
 work (size t) z = done (length (dataOf items t z)) z
 -- "copy count bytes to .. the start of a second buffer; read leaves its later bytes"
 work (read t i n second) z = says (shows 0 (take n (drop i (dataOf items t z)) ++ drop n second)) z
@@ -99,7 +100,9 @@ work (view t i n) z = says (shows 0 (take n (drop i (dataOf items t z)))) z
 work compact z = done (maxS baySum (z .bays)) (withBays (mapS compactBay (z .bays)) z)
 -- "total of free bytes and the largest bay's sum"
 work sums z = says (toldTwo 0 (sumS baySum (z .bays)) (maxS baySum (z .bays))) z
+-- "yes or no, and the number of relocatable blocks": yes, where nothing refuses it
 work check z = says (toldTwo 0 1 (liveCount items z)) z
+-- "Length: L"
 work length-of z = done (z .len) z
 work (enlarge k) z = enlargeBy k z
 -- "strips s, the lesser of k rounded down to a multiple of 4 and the last bay's sum"
