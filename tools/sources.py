@@ -226,9 +226,9 @@ def public_items(root, crate, wanted):
 
 
 def passed_on(root, crate):
-    """What a crate's `pub use` lines pass on: pairs of a crate and a name."""
-    paths = [path for file in sources(root, crate) for path, public in code_imports(read(root, file)).values() if public]
-    return sorted(tuple(path.split("::", 1)) for path in paths)
+    """What a crate's `pub use` lines pass on: pairs of a crate and a name, whatever module of the crate has it."""
+    paths = [path.split("::") for file in sources(root, crate) for path, public in code_imports(read(root, file)).values() if public]
+    return sorted((path[0], path[-1]) for path in paths)
 
 
 def exported(root):

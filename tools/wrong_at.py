@@ -39,12 +39,18 @@ def libraries():
     return [(name, uses.split()) for name, uses in rows if (ROOT / "crates" / name / "src" / "lib.rt").is_file()]
 
 
+def module(crate, file, uses, changed):
+    """A file of code as a module's text, with the files that its `mod` lines name inside."""
+    name = f"crates/{crate}/src/{file}.rt"
+    text = rust(changed.get(name) or sources.read(ROOT, name))
+    inner = lambda found: f"pub mod {found[1]} {{\n{module(crate, found[1], uses, changed)}\n}}"
+    return f"use crate::{{{', '.join(uses)}}};\n" + re.sub(r"^(?:pub )?mod (\w+);", inner, text, flags=re.M)
+
+
 def program(changed):
     """All libraries as one program, the changed files in the place of the tree's."""
     parts = ["#![allow(warnings)]"]
-    for name, uses in libraries():
-        text = changed.get(name) or sources.read(ROOT, f"crates/{name}/src/lib.rt")
-        parts.append(f"pub mod {name} {{\nuse crate::{{{', '.join(uses)}}};\n{rust(text)}\n}}")
+    parts += [f"pub mod {name} {{\n{module(name, 'lib', uses, changed)}\n}}" for name, uses in libraries()]
     return "\n".join([*parts, (ROOT / "tools" / "wrong_at.rs").read_text(encoding="utf-8")])
 
 
@@ -67,14 +73,15 @@ def last_step(binary, calls):
 
 
 def edited(path):
-    """The text of the one file of code that an edit changes; nothing for an edit of definitions."""
+    """The one file of code that an edit changes, with its text; nothing for an edit of definitions."""
     said = edits.read_edit(path)
-    if said["file"] != "src/lib.rt":
-        return None
-    text = (path.parent.parent / said["file"]).read_text(encoding="utf-8")
+    if not said["file"].startswith("src/"):
+        return {}
+    file = path.parent.parent / said["file"]
+    text = file.read_text(encoding="utf-8")
     for old, new in zip(said["old"], said["new"]):
         text = text.replace(old, new, 1)
-    return text
+    return {file.relative_to(ROOT).as_posix(): text}
 
 
 def fault(said, with_edit, without):
@@ -91,10 +98,10 @@ def fault(said, with_edit, without):
 
 def tested(folder, without, path, number):
     """A fault of an edit, with its name; nothing for an edit of definitions or one that says nothing."""
-    crate, said, text = path.parent.parent.name, edits.read_edit(path)["wrong"], edited(path)
-    if not text or not said:
+    crate, said, changed = path.parent.parent.name, edits.read_edit(path)["wrong"], edited(path)
+    if not changed or not said:
         return None
-    wrong = fault(said, built(folder, f"edit_{number}", {crate: text}), without)
+    wrong = fault(said, built(folder, f"edit_{number}", changed), without)
     return f"{crate}/{path.stem}: {wrong}: {said}" if wrong else None
 
 

@@ -175,7 +175,7 @@ def faults_of(root, name, meanings, allowed, used):
 def faults(root, meanings=tuple(MEANINGS), allowed=tuple(ALLOWED)):
     used = set()
     faults = [fault for name in files(root) for fault in faults_of(root, name, meanings, allowed, used)]
-    return faults + [f"tools/numbers.py: allows nothing: {' : '.join(entry)}" for entry in [*meanings, *allowed] if entry not in used]
+    return faults + [f"tools/by_name.py: allows nothing: {' : '.join(entry)}" for entry in [*meanings, *allowed] if entry not in used]
 
 
 def main():

@@ -1,28 +1,23 @@
-"""Tests of tools/numbers.py: a number of document 01 in digits is noticed wherever it stands, and so is an entry that allows nothing."""
-import importlib.util
+"""Tests of tools/by_name.py: a number of document 01 in digits is noticed wherever it stands, and so is an entry that allows nothing."""
 import unittest
 
+import by_name
 import sources
 from trial import ROOT, Trial
-
-# by its path: the toolchain's library has a module of the same name
-SPEC = importlib.util.spec_from_file_location("numbers_by_name", ROOT / "tools/numbers.py")
-numbers = importlib.util.module_from_spec(SPEC)
-SPEC.loader.exec_module(numbers)
 
 DEFINITION = "crates/zone/specs/Inner.antt"
 PROOF = "crates/zone/proofs/deep/Inner.antt"
 CODE = "crates/zone/src/inner.rt"
 
 
-class Numbers(Trial):
-    files = numbers.files(ROOT)
+class ByName(Trial):
+    files = by_name.files(ROOT)
 
     def found(self, name, text):
         """The faults of a text in a file of its own."""
         self.put(name, text)
-        self.assertIn(name, numbers.files(self.root))
-        return numbers.faults_of(self.root, name, numbers.MEANINGS, numbers.ALLOWED, set())
+        self.assertIn(name, by_name.files(self.root))
+        return by_name.faults_of(self.root, name, by_name.MEANINGS, by_name.ALLOWED, set())
 
     def noticed_in(self, name, lines):
         for line in lines:
@@ -32,18 +27,18 @@ class Numbers(Trial):
         self.assertEqual(self.found(name, "".join(f"{line}\n" for line in lines)), [])
 
     def test_tree_as_it_is(self):
-        self.assertEqual(numbers.faults(self.root), [])
+        self.assertEqual(by_name.faults(self.root), [])
 
     def test_each_number_in_a_definition(self):
-        lines = [f"x = at + {number}" for number in numbers.NUMBERS]
+        lines = [f"x = at + {number}" for number in by_name.NUMBERS]
         self.assertEqual(len(self.found(DEFINITION, "\n".join(lines))), len(lines))
 
     def test_each_number_in_a_proof(self):
-        lines = [f"  x = omega ({number} ≤ n)" for number in numbers.NUMBERS]
+        lines = [f"  x = omega ({number} ≤ n)" for number in by_name.NUMBERS]
         self.assertEqual(len(self.found(PROOF, "\n".join(lines))), len(lines))
 
     def test_each_number_in_code(self):
-        lines = [f"    f(z, {number});" for number in numbers.NUMBERS]
+        lines = [f"    f(z, {number});" for number in by_name.NUMBERS]
         self.assertEqual(len(self.found(CODE, "\n".join(lines))), len(lines))
 
     def test_definition_and_law(self):
@@ -83,20 +78,20 @@ class Numbers(Trial):
     def test_allowed_form_only(self):
         name = "crates/records/specs/Records.antt"
         self.put(name, sources.read(self.root, name) + "\nx = 16\n")
-        self.noticed(numbers, [name, "16 is to be named"])
+        self.noticed(by_name, [name, "16 is to be named"])
 
     def test_entry_that_allows_nothing(self):
-        for entries in ({"meanings": [*numbers.MEANINGS, (r"nowhere 4\b", "why")]}, {"allowed": [*numbers.ALLOWED, ("crates/zone/", r"nowhere 4\b", "why")]}):
-            faults = numbers.faults(self.root, **entries)
+        for entries in ({"meanings": [*by_name.MEANINGS, (r"nowhere 4\b", "why")]}, {"allowed": [*by_name.ALLOWED, ("crates/zone/", r"nowhere 4\b", "why")]}):
+            faults = by_name.faults(self.root, **entries)
             self.assertEqual([fault for fault in faults if "allows nothing" not in fault], [])
             self.assertEqual(len(faults), 1)
 
     def test_entry_that_another_covers(self):
-        faults = numbers.faults(self.root, allowed=[*numbers.ALLOWED, ("crates/", r"\btoBE 4\b", "why")])
+        faults = by_name.faults(self.root, allowed=[*by_name.ALLOWED, ("crates/", r"\btoBE 4\b", "why")])
         self.assertEqual(len(faults), 1)
 
     def test_each_has_a_reason(self):
-        for entry in [*numbers.MEANINGS, *numbers.ALLOWED]:
+        for entry in [*by_name.MEANINGS, *by_name.ALLOWED]:
             self.assertTrue(len(entry[-1].split()) > 1, entry)
 
 
