@@ -52,7 +52,7 @@ class ByName(Trial):
         self.noticed_in(CODE, lines)
 
     def test_type_codes(self):
-        lines = ["x : typeOf b ≡ 0", "x : typeOf (encodeBlock (fixed d)) ≡ 1", "x : typeOf b ≡ 2", "x = eqb (kindB b) 1", "kindB (fixed d) = 1"]
+        lines = ["x : typeOf b ≡ 0", "x : typeOf (encodeBlock (fixed d)) ≡ 1", "x : typeOf b ≡ 2", "x = eqb (code b) 1", "code (fixed d) = 1"]
         self.noticed_in(DEFINITION, [*lines, "x : (k : ℕ) → k ≡ typeOf r → eqb k 0 ≡ isFree r"])
 
     def test_length_at_0(self):
