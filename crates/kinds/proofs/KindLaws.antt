@@ -13,7 +13,7 @@ use Rattle.kinds.specs.Kinds.{Item, item, codeOf, headerOf, tagOf, maste
 
 -- type and size take 2 bytes of a header, the tag the others
 pub tag-long : (e : Item) → length (tagOf e) + tagAt ≡ headerOf e
-tag-long e = omega (arith, length-toBE 2 (e .handle))
+tag-long e = simp length-toBE
 
 -- codes are neither free nor fixed and have two bits; headers have room for a free block's
 pub record Facts (e : Item) : Type 0 where
