@@ -15,7 +15,7 @@ use Rattle.bigendian.proofs.Laws.{length-toBE, be-front}
 use Rattle.block_type.specs.Limits.{freeCode, fixedCode, fixedHeader, fixedLimit, relocCode, relocHeader, typeUnit, zoneHeader, freeHeader, handleRange, masterSize, smallestBlock, tagAt, argumentRange}
 use Rattle.memory.specs.Zeros.{allZero}
 use Rattle.format.specs.WellFormed.{typeOf, sizeOf, handleOf, isFree, isReloc, isMaster, masterAt, relocs, offsets, chain}
-use Rattle.format.specs.OneWalk.{links, typeRule, freeRule, relocRule, blockOk, blocksOk}
+use Rattle.format.specs.OneWalk.{links, typeRule, freeRule, relocRule, blockOk, blocksOk, ruleOf}
 use Rattle.format.proofs.Walk.{size-used}
 use Rattle.format.proofs.Masters.{Master}
 use Rattle.format.proofs.Count.{one-same}
@@ -85,7 +85,7 @@ handle-enc h d u = rw (drop-at (toBE 2 (relocCode * typeUnit + (relocHeader + le
 -- ---- the test of a block, from facts
 
 good-of : (z : List ℕ) (first : ℕ) (prev : Bool) (at : ℕ) (b : Block) → Enc b → smallestBlock ≤ size b → size b % 4 ≡ 0
-    → typeRule (typeOf (encodeBlock b)) (freeRule prev (encodeBlock b)) (relocRule z first at (handleOf (encodeBlock b))) ≡ true → blockOk z first prev at (encodeBlock b) ≡ true
+    → ruleOf (typeOf (encodeBlock b)) z first prev at (encodeBlock b) (encodeBlock b) ≡ true → blockOk z first prev at (encodeBlock b) ≡ true
 unfolding blockOk
 good-of z first prev at b e l q r =
     rw (le-leb smallestBlock (sizeOf (encodeBlock b)) (omega (arith, e .same)), eq-eqb (sizeOf (encodeBlock b) % 4) 0 (rw (e .same) q), eq-eqb (sizeOf (encodeBlock b)) (length (encodeBlock b)) (omega (arith, e .same, e .long))) r

@@ -14,7 +14,7 @@ use Rattle.bigendian.proofs.Laws.{toBE-be, be2-at}
 use Rattle.memory.specs.Zeros.{allZero}
 use Rattle.format.proofs.Bool.{and-left, and-right}
 use Rattle.format.specs.WellFormed.{typeOf, sizeOf, handleOf, isFree, splitBlocks, splitFrom}
-use Rattle.format.specs.OneWalk.{typeRule, freeRule, relocRule, blockOk, blocksOk}
+use Rattle.format.specs.OneWalk.{typeRule, freeRule, blockOk, blocksOk, ruleOf}
 use Rattle.format.proofs.Walk.{is-good, size-free, size-used, size-take, blocks-cons, blocks-nil}
 use Rattle.structure.specs.Structure.{fixed, encodeBlock, decodeBlock, byType, join, cell}
 use Rattle.kinds.specs.Kinds.{itemIn}
@@ -113,7 +113,7 @@ enc-dec z first prev at b g y =
     let gb = is-good z first prev at b g in
     go (typeOf b) refl (gb .low) (gb .whole) (gb .rule)
   where
-    go : (k : ℕ) → typeOf b ≡ k → smallestBlock ≤ sizeOf b → sizeOf b ≡ length b → typeRule k (freeRule prev b) (relocRule z first at (handleOf b)) ≡ true
+    go : (k : ℕ) → typeOf b ≡ k → smallestBlock ≤ sizeOf b → sizeOf b ≡ length b → ruleOf k z first prev at b b ≡ true
         → encodeBlock (byType k (cell (free (sizeOf b))) (fixed (drop fixedHeader b)) (cell (held (itemIn b)))) ≡ b
     go zero e l w r = enc-free b e l w (and-right (not prev) _ r) y
     go (suc zero) e l w r = enc-fixed b e l w y
