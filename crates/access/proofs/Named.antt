@@ -14,7 +14,7 @@ use Rattle.kinds.specs.Kinds.{Item, codeOf, tagOf, itemSize}
 use Rattle.kinds.proofs.KindLaws.{tag-long}
 use Rattle.calls.specs.Calls.{Target, by-handle, by-pointer}
 use Rattle.bay.specs.Bay.{free, held}
-use Rattle.structure.specs.Structure.{Block, fixed, cell, size, sizes, encodeBlock, join}
+use Rattle.structure.specs.Structure.{Block, fixed, cell, size, sizes, fixedTag, encodeBlock, join}
 use Rattle.structure.proofs.Append.{sizes-append}
 use Rattle.row.specs.Row.{Sound, bytesOf}
 use Rattle.row.proofs.Laws.{bytes-append, bytes-long, sound-left}
@@ -61,15 +61,18 @@ pub record Parts (b : Block) : Type 0 where
   pub other : (f : List ℕ → List ℕ) → length (f (heldBy b)) ≡ length (heldBy b) → encodeBlock (refill f b) ≡ head ++ f (heldBy b)
   pub whole : size b ≡ headerOfBlock b + length (heldBy b)
 
+-- type and size, the rest of the header, the data
 fixed-parts : (d : List ℕ) → Parts (fixed d)
 unfolding encodeBlock
-fixed-parts d = record {
-  head = toBE 2 (fixedCode * typeUnit + (fixedHeader + length d) / 2);
-  bytes = refl;
-  long = length-toBE 2 (fixedCode * typeUnit + (fixedHeader + length d) / 2);
-  other = λ f q. rw q;
-  whole = refl;
-}
+fixed-parts d =
+    let w = toBE 2 (fixedCode * typeUnit + (fixedHeader + length d) / 2) in
+    record {
+      head = w ++ fixedTag;
+      bytes = sym (append-assoc w fixedTag d);
+      long = omega (arith, length-append w fixedTag, length-toBE 2 (fixedCode * typeUnit + (fixedHeader + length d) / 2));
+      other = λ f q. rw q (sym (append-assoc w fixedTag (f d)));
+      whole = refl;
+    }
 
 held-parts : (e : Item) → Parts (cell (held e))
 unfolding encodeBlock

@@ -1,13 +1,13 @@
 -- The new block is in its place: the bytes are those of the structure with it.
 use mathlib.Core.Path.{_≡_, refl, sym, ap, ap₂, _∙_}
 use mathlib.Core.List.{List, [], _∷_, _++_, map, append-assoc, append-nil}
-use Prim.Native.Nat.{ℕ, suc, _+_, _-_, _*_, _/_, _<_, _≤_}
+use Prim.Native.Nat.{ℕ, _+_, _-_, _*_, _/_, _<_, _≤_}
 use native.Mathlib.Omega.{arith}
-use lib.ListN.{length, replicate, length-replicate}
+use lib.ListN.{length, replicate, length-replicate, replicate-append-replicate}
 use mir.Val.{Fits}
 use mir.Syntax.{w32}
 use Rattle.structure.proofs.Append.{sizes-append, handles-append}
-use Rattle.block_type.specs.Limits.{fixedCode, fixedHeader, longestZone, typeUnit, zoneHeader}
+use Rattle.block_type.specs.Limits.{fixedCode, fixedHeader, longestZone, typeUnit, zoneHeader, tagAt}
 use Rattle.bigendian.specs.BigEndian.{toBE, overwrite}
 use Rattle.bigendian.proofs.Laws.{length-toBE}
 use Rattle.format.proofs.Count.{occurs}
@@ -16,7 +16,7 @@ use Rattle.bay.specs.Bay.{Cell, baySize, packed, takeHigh}
 use Rattle.bay.specs.Sound.{bytesOf}
 use Rattle.bay.proofs.Laws.{cut-less}
 use Rattle.bay.proofs.BayBytes.{bytes-long}
-use Rattle.structure.specs.Structure.{Block, cell, fixed, Structure, size, sizes, count, start, encodeBlock, join, encode, decodeZone, handlesOf}
+use Rattle.structure.specs.Structure.{Block, cell, fixed, Structure, size, sizes, count, start, fixedTag, encodeBlock, join, encode, decodeZone, handlesOf}
 use Rattle.structure.specs.Valid.{Valid}
 use Rattle.structure.proofs.Round.{offset-is}
 use Rattle.row.specs.Row as Row
@@ -37,15 +37,15 @@ use Rattle.allocate_fixed.specs.Placed.{placed, Site}
 
 -- ---- the block's bytes
 
--- its header over zeros
-two-zeros : (n : ℕ) → fixedHeader ≤ n → replicate {A = ℕ} n 0 ≡ (0 ∷ 0 ∷ []) ++ replicate (n - fixedHeader) 0
-two-zeros n l = let e : n ≡ suc (suc (n - fixedHeader)) = omega arith in ap (λ (k : ℕ). replicate {A = ℕ} k 0) e
+-- its header over zeros: type and size are written, the rest is there
+two-zeros : (n : ℕ) → fixedHeader ≤ n → replicate {A = ℕ} n 0 ≡ (0 ∷ 0 ∷ []) ++ (fixedTag ++ replicate (n - fixedHeader) 0)
+two-zeros n l = let e : n ≡ fixedHeader + (n - fixedHeader) = omega arith in ap (λ (k : ℕ). replicate {A = ℕ} k 0) e ∙ sym (replicate-append-replicate fixedHeader (n - fixedHeader) 0)
 
-fixed-bytes : (n : ℕ) → fixedHeader ≤ n → Row.bytesOf (fixed (replicate (n - fixedHeader) 0) ∷ []) ≡ toBE 2 (fixedCode * typeUnit + n / 2) ++ replicate (n - fixedHeader) 0
+fixed-bytes : (n : ℕ) → fixedHeader ≤ n → Row.bytesOf (fixed (replicate (n - fixedHeader) 0) ∷ []) ≡ toBE 2 (fixedCode * typeUnit + n / 2) ++ (fixedTag ++ replicate (n - fixedHeader) 0)
 unfolding join encodeBlock
 fixed-bytes n l =
     let e : fixedHeader + length (replicate {A = ℕ} (n - fixedHeader) 0) ≡ n = omega (arith, length-replicate {A = ℕ} (n - fixedHeader) 0) in
-    append-nil _ ∙ ap (λ (k : ℕ). toBE 2 (fixedCode * typeUnit + k / 2) ++ replicate (n - fixedHeader) 0) e
+    append-nil _ ∙ ap (λ (k : ℕ). toBE 2 (fixedCode * typeUnit + k / 2) ++ (fixedTag ++ replicate (n - fixedHeader) 0)) e
 
 -- it has no master
 set-fixed : (at : ℕ) (bs : List Block) (d z : List ℕ) → Masters.setAll at (bs ++ (fixed d ∷ [])) z ≡ Masters.setAll at bs z
@@ -137,7 +137,7 @@ module _ (z : List ℕ) (need a e sum tail : ℕ) (x : Site z need a e sum tail)
       sym (all-write a (e - need) (omega (arith, ends)) a ds (body z need a e sum tail run) h (kept .low) (omega (arith, body-long z need a e sum tail run, ends)))
       ∙ ap (setAll a ds)
       (ap (λ (x : List ℕ). overwrite (overwrite y a (bytesOf ds ++ x)) (e - need) h) (two-zeros need (omega (arith, x .low)))
-      ∙ write-in y (bytesOf ds) (0 ∷ 0 ∷ []) h zs a (e - need) (omega (arith, ends)) spot (sym (length-toBE 2 (fixedCode * typeUnit + need / 2)))
+      ∙ write-in y (bytesOf ds) (0 ∷ 0 ∷ []) h (fixedTag ++ zs) a (e - need) (omega (arith, ends)) spot (sym (length-toBE 2 (fixedCode * typeUnit + need / 2)))
       ∙ ap (overwrite y a) (ap₂ _++_ (all-bytes ds) (sym (fixed-bytes need (omega (arith, x .low)))) ∙ sym (bytes-append (map cell ds) (fixed zs ∷ []))))
       ∙ all-set a ds (overwrite y a (Row.bytesOf new)) masters
       ∙ sym (set-fixed a (map cell ds) zs (overwrite y a (Row.bytesOf new)))
@@ -159,7 +159,7 @@ module _ (z : List ℕ) (need a e sum tail : ℕ) (x : Site z need a e sum tail)
   ask-word = record { fits = omega (arith, x .high) }
 
   module _ (y : List ℕ) (q : y ≡ beforeZeros z a (takeHigh need (bayCells z a e)) need) where
-    pub ask-put : e - need + fixedHeader ≤ length y
+    pub ask-put : e - need + tagAt ≤ length y
     ask-put = omega (arith, run-long z need a e sum tail run y q, ends, x .low)
 
     pub place-done : (y₂ : List ℕ) → y₂ ≡ overwrite y (e - need) (toBE 2 (fixedCode * typeUnit + need / 2)) → y₂ ≡ encode (placed need s)

@@ -1,13 +1,14 @@
 -- One block of a bay and its bytes, the same for every kind.
-use mathlib.Core.Path.{_≡_, ap, _∙_}
+use mathlib.Core.Path.{_≡_, refl, sym, ap, _∙_}
 use mathlib.Core.List.{List, _++_}
 use Prim.Native.Nat.{ℕ, zero, suc, _+_, _*_, _-_, _/_, _%_, _<_, _≤_}
 use native.Mathlib.Omega.{arith}
 use borrow.Author.Tests.{ne-eqb}
-use lib.ListN.{length, take, replicate, length-append, length-replicate}
+use lib.ListN.{length, take, drop, replicate, length-append, length-replicate}
+use lib.Seq.{drop-drop, drop-at}
 use Rattle.bigendian.specs.BigEndian.{fromBE, toBE}
 use Rattle.bigendian.proofs.Laws.{length-toBE, be-front}
-use Rattle.block_type.specs.Limits.{freeCode, freeHeader, longestZone, typeUnit}
+use Rattle.block_type.specs.Limits.{freeCode, freeHeader, longestZone, typeUnit, tagAt}
 use Rattle.format.specs.WellFormed.{typeOf, sizeOf}
 use Rattle.format.proofs.Walk.{size-free, size-used}
 use Rattle.kinds.specs.Kinds.{codeOf, tagOf, itemSize, itemIn}
@@ -29,15 +30,34 @@ type-free : (n : ℕ) (t : List ℕ) → n ≤ longestZone → typeOf (toBE 4 (n
 unfolding typeOf toBE
 type-free n t l = omega arith
 
-pub low-part : (c w : ℕ) → w < typeUnit → (c * typeUnit + w) % typeUnit ≡ w
+low-part : (c w : ℕ) → w < typeUnit → (c * typeUnit + w) % typeUnit ≡ w
 low-part c w l = omega arith
 
-pub half : (n : ℕ) → n % 4 ≡ 0 → n / 2 * 2 ≡ n
+half : (n : ℕ) → n % 4 ≡ 0 → n / 2 * 2 ≡ n
 half n q = omega arith
 
 size-code : (b : List ℕ) (k : ℕ) → 0 < k → typeOf b ≡ k → sizeOf b ≡ fromBE (take 2 b) % typeUnit * 2
 size-code b zero l e = let x : ⊥ = omega arith in absurd x
 size-code b (suc k) l e = size-used b k e
+
+-- what the bytes b of a block say that is not free: type c, size n; the rest of its header, tag, stands before its data d
+pub record Used (c n : ℕ) (tag d b : List ℕ) : Type 0 where
+  pub long : length b ≡ n
+  pub same : sizeOf b ≡ n
+  pub code : typeOf b ≡ c
+  pub holds : drop (tagAt + length tag) b ≡ d
+
+pub used : (c n : ℕ) (tag d : List ℕ) → 0 < c → c ≤ 3 → tagAt + length tag + length d ≡ n → n % 4 ≡ 0 → n / 2 < typeUnit → Used c n tag d (toBE 2 (c * typeUnit + n / 2) ++ (tag ++ d))
+used c n tag d l m s q u =
+    let v = c * typeUnit + n / 2 in
+    let b = toBE 2 v ++ (tag ++ d) in
+    let k = type-of c (n / 2) (tag ++ d) m u in
+    record {
+      long = omega (arith, length-append (toBE 2 v) (tag ++ d), length-append tag d, length-toBE 2 v);
+      same = size-code b c l k ∙ (rw (be-front 2 v (tag ++ d) (omega arith), low-part c (n / 2) u) (half n q));
+      code = k;
+      holds = sym (drop-drop (length tag) tagAt b) ∙ ap (drop (length tag)) (drop-at (toBE 2 v) (tag ++ d) tagAt (length-toBE 2 v)) ∙ drop-at tag d (length tag) refl;
+    }
 
 dec-held : (b : List ℕ) (k : ℕ) → 0 < k → typeOf b ≡ k → decodeCell b ≡ held (itemIn b)
 unfolding decodeCell
@@ -58,17 +78,14 @@ enc (free n) s =
     }
 enc (held e) s =
     let f = facts e in
-    let w = itemSize e / 2 in
-    let t = tagOf e ++ e .bytes in
-    let v = codeOf e * typeUnit + w in
-    let b = encodeCell (held e) in
-    let u : w < typeUnit = omega (arith, s .1) in
-    let k = type-of (codeOf e) w t (f .small) u in
+    let n = itemSize e in
+    let l : n / 2 < typeUnit = omega (arith, s .1) in
+    let u = used (codeOf e) n (tagOf e) (e .bytes) (f .used) (f .small) (omega (arith, tag-long e)) (s .0) l in
     record {
-      long = omega (arith, length-append (toBE 2 v) t, length-append (tagOf e) (e .bytes), length-toBE 2 v, tag-long e);
-      same = size-code b (codeOf e) (f .used) k ∙ (rw (be-front 2 v t (omega (arith, f .small)), low-part (codeOf e) w u) (half (itemSize e) (s .0)));
-      back = dec-held b (codeOf e) (f .used) k ∙ ap held (item-back e w u (s .2));
-      code = k;
+      long = u .long;
+      same = u .same;
+      back = dec-held (encodeCell (held e)) (codeOf e) (f .used) (u .code) ∙ ap held (item-back e (n / 2) l (s .2));
+      code = u .code;
       low = omega (arith, f .low);
       four = s .0;
     }

@@ -1,5 +1,5 @@
 -- Which hole is taken, when a block grows where it stands, when a bay is compacted: the laws of `specs/Choice` hold.
-use mathlib.Core.Path.{_≡_, refl, ap, ap₂, _∙_}
+use mathlib.Core.Path.{_≡_, refl, sym, ap, ap₂, _∙_}
 use mathlib.Core.Bool.{Bool, true, false, cond, false≢true}
 use mathlib.Core.Option.{Option, none, some, Option·getD}
 use mathlib.Core.List.{List, [], _∷_, _++_, map, append-nil}
@@ -13,8 +13,10 @@ use Rattle.kinds.specs.Kinds.{Item, itemSize, is}
 use Rattle.calls.specs.State.{get}
 use Rattle.calls.specs.Table.{isNone}
 use Rattle.bay.specs.Bay.{Cell, free, held, baySum, items, gap, packed, Hole, behind, holes, choose, fill, trim, takeHigh, resized, inPlace, growHere}
+use Rattle.bay.proofs.Each.{cond-ap}
+use Rattle.bay.proofs.Holes.{All, a-nil, a-cons, all-map}
 use Rattle.bay.proofs.Laws.{items-append, bsum-append}
-use Rattle.bay.specs.Choice.{Smaller, no-cell, a-hole, a-block, inOrder, WhichHole, GrowsInPlace, TakesTheEnd, FreeAtTheEnd}
+use Rattle.bay.specs.Choice.{EachFree, Smaller, no-cell, a-hole, a-block, inOrder, WhichHole, GrowsInPlace, TakesTheEnd, FreeAtTheEnd}
 
 pub packed-is : (es : List Item) (t : List Cell) → packed es t ≡ map held es ++ t
 packed-is [] t = refl
@@ -32,14 +34,16 @@ over-cons c before (some cs) = refl
 
 pub choose-behind : (n : ℕ) (c : Cell) (xs : List Hole) → choose n (map (behind c) xs) ≡ over (behind c) (choose n xs)
 choose-behind n c [] = refl
-choose-behind n c (x ∷ xs) = go (leb n (x .size)) (choose-behind n c xs)
-  where
-    go : (t : Bool) → choose n (map (behind c) xs) ≡ over (behind c) (choose n xs) → cond t (some (behind c x)) (choose n (map (behind c) xs)) ≡ over (behind c) (cond t (some x) (choose n xs))
-    go true q = refl
-    go false q = q
+choose-behind n c (x ∷ xs) = sym (cond-ap (over (behind c)) (leb n (x .size)) refl (sym (choose-behind n c xs)))
 
 abbrev hole : List Cell → ℕ → List Cell → Hole
 hole a n b = record { before = a; size = n; after = b }
+
+-- each hole has a free block's size
+holes-sizes : {P : ℕ → Type 0} {cs : List Cell} → EachFree P cs → All (λ (x : Hole). P (x .size)) (holes cs)
+holes-sizes no-cell = a-nil
+holes-sizes (a-hole {k = k} p s) = a-cons p (all-map (behind (free k)) (λ x q. q) (holes-sizes s))
+holes-sizes (a-block {e = e} s) = all-map (behind (held e)) (λ x q. q) (holes-sizes s)
 
 -- smaller holes do not count
 choose-after : (n : ℕ) {before : List Cell} (k : ℕ) (after : List Cell) → Smaller n before → n ≤ k → choose n (holes (before ++ (free k ∷ after))) ≡ some (hole before k after)
@@ -49,10 +53,9 @@ choose-after n {before = free j ∷ before} k after (a-hole m s) l =
 choose-after n {before = held d ∷ before} k after (a-block s) l =
     choose-behind n (held d) (holes (before ++ (free k ∷ after))) ∙ ap (over (behind (held d))) (choose-after n k after s l)
 
-choose-none : (n : ℕ) {cs : List Cell} → Smaller n cs → choose n (holes cs) ≡ none
-choose-none n no-cell = refl
-choose-none n (a-hole {k = k} {cs = cs} m s) = rw (lt-leb n k m) (choose-behind n (free k) (holes cs) ∙ ap (over (behind (free k))) (choose-none n s))
-choose-none n (a-block {e = d} {cs = cs} s) = choose-behind n (held d) (holes cs) ∙ ap (over (behind (held d))) (choose-none n s)
+choose-none : (n : ℕ) {xs : List Hole} → All (λ (x : Hole). x .size < n) xs → choose n xs ≡ none
+choose-none n a-nil = refl
+choose-none n (a-cons {a = x} l q) = rw (lt-leb n (x .size) l) (choose-none n q)
 
 pub which-hole : WhichHole
 which-hole = record {
@@ -60,7 +63,7 @@ which-hole = record {
       ap (λ (o : Option Hole). Option·getD (over (fill e) o) (packed (items (before ++ (free k ∷ after))) (held e ∷ gap (baySum (before ++ (free k ∷ after)) - itemSize e) [])))
       (choose-after (itemSize e) k after s l);
   compacted = λ e cs s.
-      ap (λ (o : Option Hole). Option·getD (over (fill e) o) (packed (items cs) (held e ∷ gap (baySum cs - itemSize e) []))) (choose-none (itemSize e) s)
+      ap (λ (o : Option Hole). Option·getD (over (fill e) o) (packed (items cs) (held e ∷ gap (baySum cs - itemSize e) []))) (choose-none (itemSize e) (holes-sizes s))
       ∙ packed-is (items cs) (held e ∷ gap (baySum cs - itemSize e) []);
 }
 

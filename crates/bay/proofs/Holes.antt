@@ -18,7 +18,7 @@ pub data All {A : Type 0} (P : A → Type 0) : List A → Type 0 where
   a-nil : All P []
   a-cons : {a : A} {l : List A} → P a → All P l → All P (a ∷ l)
 
-all-map : {A B : Type 0} {P : A → Type 0} {Q : B → Type 0} (f : A → B) → ((a : A) → P a → Q (f a)) → {l : List A} → All P l → All Q (map f l)
+pub all-map : {A B : Type 0} {P : A → Type 0} {Q : B → Type 0} (f : A → B) → ((a : A) → P a → Q (f a)) → {l : List A} → All P l → All Q (map f l)
 all-map f h a-nil = a-nil
 all-map f h (a-cons {a = a} p q) = a-cons (h a p) (all-map f h q)
 

@@ -9,11 +9,15 @@ use Rattle.kinds.specs.Kinds.{Item, itemSize}
 use Rattle.calls.specs.State.{get}
 use Rattle.bay.specs.Bay.{Cell, free, held, baySum, items, gap, compactBay, put, takeHigh, resized, reshape}
 
+-- P holds of every free block's size
+pub data EachFree (P : ℕ → Type 0) : List Cell → Type 0 where
+  no-cell : EachFree P []
+  a-hole : {k : ℕ} {cs : List Cell} → P k → EachFree P cs → EachFree P (free k ∷ cs)
+  a-block : {e : Item} {cs : List Cell} → EachFree P cs → EachFree P (held e ∷ cs)
+
 -- every free block is smaller than n
-pub data Smaller (n : ℕ) : List Cell → Type 0 where
-  no-cell : Smaller n []
-  a-hole : {k : ℕ} {cs : List Cell} → k < n → Smaller n cs → Smaller n (free k ∷ cs)
-  a-block : {e : Item} {cs : List Cell} → Smaller n cs → Smaller n (held e ∷ cs)
+abbrev pub Smaller : ℕ → List Cell → Type 0
+Smaller n cs = EachFree (λ (k : ℕ). k < n) cs
 
 -- relocatable blocks one after the other, and one free block at the end (none for 0)
 abbrev pub inOrder : List Item → ℕ → List Cell

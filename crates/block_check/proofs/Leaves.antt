@@ -15,7 +15,7 @@ use Rattle.bigendian.specs.BigEndian.{fromBE, slice}
 use Rattle.memory.specs.Zeros.{allZero}
 use Rattle.format.proofs.Bool.{and-left, and-right, is-false, not-both}
 use Rattle.format.specs.WellFormed.{headerOk, lengthField, firstField, mastersField, typeOf, sizeOf, handleOf, isFree, isReloc, splitBlocks, isMaster, relocs}
-use Rattle.format.specs.OneWalk.{links, typeRule, freeRule, relocRule, blockOk, blocksOk}
+use Rattle.format.specs.OneWalk.{links, typeRule, freeRule, relocRule, blockOk, blocksOk, ruleOf}
 use Rattle.format.proofs.Masters.{is-master}
 use Rattle.format.proofs.Walk.{is-first, first-rule, drop-take, turn, stop, end, end-count}
 use Rattle.format.specs.Steps.{GoodSize}
@@ -129,7 +129,7 @@ module _ (z : List ℕ) (first : ℕ) (prev : Bool) (at n : ℕ) (e : n ≡ size
       let p = not-true (tiles n (length z - at)) q in
       not-both (rw (le-leb smallestBlock n (omega arith), eq-eqb (n % 4) 0 (rw e (f .four)), le-leb n (length z - at) (omega arith))) p))
 
-  module _ (t : Bool) (q : not (tiles n (length z - at)) ≡ false) (et : t ≡ typeRule (typeOf (drop at z)) (freeRule prev (take n (drop at z))) (relocRule z first at (handleOf (drop at z)))) where
+  module _ (t : Bool) (q : not (tiles n (length z - at)) ≡ false) (et : t ≡ ruleOf (typeOf (drop at z)) z first prev at (take n (drop at z)) (drop at z)) where
     by-rule : test ≡ t
     by-rule =
         let low = tiles-low n (length z - at) q in

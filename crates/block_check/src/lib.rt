@@ -6,7 +6,7 @@ ghost use Prim.Native.Nat.{_+_, _*_, _/_, _%_, _<_, _≤_};
 ghost use lib.ListN.{length, take, drop};
 ghost use Rattle.block_type.specs.Limits.{longestZone, relocCode, masterSize, typeUnit, handleRange, smallestBlock, argumentRange};
 ghost use Rattle.format.specs.WellFormed.{typeOf, sizeOf, handleOf, isFree, isReloc, isMaster};
-ghost use Rattle.format.specs.OneWalk.{typeRule, freeRule, relocRule};
+ghost use Rattle.format.specs.OneWalk.{freeRule, relocRule, ruleOf};
 ghost use Rattle.format.specs.Steps.{GoodSize, Turn};
 ghost use Rattle.block_check.specs.Word.{IsWord, held, GoodBlock};
 
@@ -87,7 +87,7 @@ fn reloc_ok(z: &[u8], first: usize, at: usize) -> bool
 // Whether a block of n bytes at `at` obeys the rule of its type.
 fn rule_ok(z: &[u8], first: usize, prev: bool, at: usize, n: usize) -> bool
     requires { ⌜ (smallestBlock ≤ n) × (at + n ≤ length (now z)) × (first ≤ length (now z)) × (length (now z) ≤ longestZone) ⌝ }
-    ensures { λ r. ⌜ r ≡ typeRule (typeOf (drop at (now (z .entry)))) (freeRule prev (take n (drop at (now (z .entry))))) (relocRule (now (z .entry)) first at (handleOf (drop at (now (z .entry))))) ⌝ }
+    ensures { λ r. ⌜ r ≡ ruleOf (typeOf (drop at (now (z .entry)))) (now (z .entry)) first prev at (take n (drop at (now (z .entry)))) (drop at (now (z .entry))) ⌝ }
 {
     let k = type_at(z, at);
     if k == BlockType::RELOCATABLE_CODE {

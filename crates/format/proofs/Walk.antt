@@ -15,7 +15,7 @@ use Rattle.bigendian.specs.BigEndian.{fromBE, slice}
 use Rattle.format.proofs.Bool.{and-left, and-right}
 pub use Rattle.format.specs.Steps.{Turn}
 use Rattle.format.specs.WellFormed.{typeOf, sizeOf, handleOf, isFree, isReloc, splitFrom, splitBlocks, relocs}
-use Rattle.format.specs.OneWalk.{typeRule, freeRule, relocRule, blockOk, blocksOk}
+use Rattle.format.specs.OneWalk.{ruleOf, blockOk, blocksOk}
 
 from-drop : (k : ℕ) (s : List ℕ) → splitFrom k s ≡ splitBlocks (drop k s)
 unfolding splitFrom
@@ -83,7 +83,7 @@ pub record Good (z : List ℕ) (first : ℕ) (prev : Bool) (at : ℕ) (b : List 
   pub low : smallestBlock ≤ sizeOf b
   pub four : sizeOf b % 4 ≡ 0
   pub whole : sizeOf b ≡ length b
-  pub rule : typeRule (typeOf b) (freeRule prev b) (relocRule z first at (handleOf b)) ≡ true
+  pub rule : ruleOf (typeOf b) z first prev at b b ≡ true
 
 module _ (z : List ℕ) (first : ℕ) (prev : Bool) (at : ℕ) where
   pub is-good : (b : List ℕ) → blockOk z first prev at b ≡ true → Good z first prev at b
@@ -113,7 +113,7 @@ module _ (z : List ℕ) (first : ℕ) (prev : Bool) (at : ℕ) where
       record { low = n4; four = (rw e at (g .four)); fits = omega arith }
 
   pub first-rule : (r : List ℕ) → smallestBlock ≤ sizeOf r → sizeOf r % 4 ≡ 0 → sizeOf r ≤ length r
-      → blockOk z first prev at (take (sizeOf r) r) ≡ typeRule (typeOf r) (freeRule prev (take (sizeOf r) r)) (relocRule z first at (handleOf r))
+      → blockOk z first prev at (take (sizeOf r) r) ≡ ruleOf (typeOf r) z first prev at (take (sizeOf r) r) r
   unfolding blockOk
   first-rule r h f l =
       rw (

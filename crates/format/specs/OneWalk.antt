@@ -28,12 +28,16 @@ freeRule prev b = not prev && allZero (drop freeHeader b)
 unfoldable pub relocRule : List ℕ → ℕ → ℕ → ℕ → Bool
 relocRule z first at h = isMaster first h && eqb (masterAt z h) (at + relocHeader)
 
+-- the rule of a block b of type k at offset `at`, whose header is read from r: the block, or the bytes from it on
+abbrev pub ruleOf : ℕ → List ℕ → ℕ → Bool → ℕ → List ℕ → List ℕ → Bool
+ruleOf k z first prev at b r = typeRule k (freeRule prev b) (relocRule z first at (handleOf r))
+
 -- the block b at offset `at`
 unfoldable pub blockOk : List ℕ → ℕ → Bool → ℕ → List ℕ → Bool
 blockOk z first prev at b =
     leb smallestBlock (sizeOf b)
     && (eqb (sizeOf b % 4) 0
-    && (eqb (sizeOf b) (length b) && typeRule (typeOf b) (freeRule prev b) (relocRule z first at (handleOf b))))
+    && (eqb (sizeOf b) (length b) && ruleOf (typeOf b) z first prev at b b))
 
 unfoldable pub blocksOk : List ℕ → ℕ → Bool → ℕ → List (List ℕ) → Bool
 blocksOk z first prev at [] = true

@@ -1,7 +1,7 @@
--- The search for a free block in a bay: what one step over a block leaves to search. The choice is known by three laws alone.
+-- The search for a free block in a bay: what one step over a block leaves to search. Which one is chosen, `chosen-cons` alone asks.
 use mathlib.Core.Path.{_≡_, refl, sym, ap, _∙_}
-use mathlib.Core.List.{List, [], _∷_, map}
-use mathlib.Core.Bool.{Bool, true, false, _&&_}
+use mathlib.Core.List.{List, _∷_, map}
+use mathlib.Core.Bool.{true, false, cond, _&&_}
 use mathlib.Core.Option.{Option, none, some}
 use Prim.Native.Nat.{ℕ, _+_, _≤_}
 use native.Mathlib.Nat.{add-zero, zero-add}
@@ -17,15 +17,8 @@ use Rattle.bay.specs.Bay.{Cell, free, held, cellSize, baySize, Hole, behind, ho
 use Rattle.bay.specs.Sound.{cellsOf, cellAt, Stepped}
 use Rattle.bay.proofs.BayBytes.{bay-end}
 use Rattle.bay.proofs.Choice.{choose-behind}
+use Rattle.bay.proofs.Each.{cond-ap}
 use Rattle.place.specs.Hole.{HoleN, holeN, holeAt}
-
--- ---- the choice: the lowest that is big enough (that it goes by sizes is `choose-behind`)
-
-choose-yes : (n : ℕ) (x : Hole) (xs : List Hole) → leb n (x .size) ≡ true → choose n (x ∷ xs) ≡ some x
-choose-yes n x xs e = rw e
-
-choose-no : (n : ℕ) (x : Hole) (xs : List Hole) → leb n (x .size) ≡ false → choose n (x ∷ xs) ≡ choose n xs
-choose-no n x xs e = rw e
 
 -- ---- a hole by its offset, the bay beginning at p
 
@@ -54,32 +47,21 @@ behind-all need p c cs = ap (from p) (choose-behind need c (holes cs)) ∙ from-
 
 -- ---- a block of type k and n bytes in front
 
-hit : (need p k n : ℕ) (c : Cell) (cs : List Cell) → cellCode c ≡ k → cellSize c ≡ n → (eqb k freeCode && leb need n) ≡ true → chosen need p (c ∷ cs) ≡ holeN true p n
-hit need p k n (free m) cs ek en t =
-    let l : leb need m ≡ true = rw (← ek, ← en) at t in
-    ap (from p) (choose-yes need (record { before = []; size = m; after = cs }) (map (behind (free m)) (holes cs)) l) ∙ (rw (add-zero p, en))
-hit need p k n (held e) cs ek en t = absurd (no (rw (ne-eqb k freeCode (λ y. omega (arith, facts e .used))) at t))
-  where
-    no : _≡_ {A = Bool} false true → ⊥
-    no q = let x : _≡_ {A = ℕ} 0 1 = cc in omega arith
-
-miss : (need p k n : ℕ) (c : Cell) (cs : List Cell) → cellCode c ≡ k → cellSize c ≡ n → (eqb k freeCode && leb need n) ≡ false → chosen need p (c ∷ cs) ≡ chosen need (p + n) cs
-miss need p k n (free m) cs ek en t =
-    let l : leb need m ≡ false = rw (← ek, ← en) at t in
-    ap (from p) (choose-no need (record { before = []; size = m; after = cs }) (map (behind (free m)) (holes cs)) l) ∙ behind-all need p (free m) cs ∙ ap (λ (a : ℕ). chosen need (p + a) cs) en
-miss need p k n (held e) cs ek en t = behind-all need p (held e) cs ∙ ap (λ (a : ℕ). chosen need (p + a) cs) en
+chosen-cons : (need p k n : ℕ) (c : Cell) (cs : List Cell) → cellCode c ≡ k → cellSize c ≡ n → chosen need p (c ∷ cs) ≡ cond (eqb k freeCode && leb need n) (holeN true p n) (chosen need (p + n) cs)
+chosen-cons need p k n (free m) cs ek en = rw (← ek, ← en) (cond-ap (from p) (leb need m) (rw (add-zero p)) (behind-all need p (free m) cs))
+chosen-cons need p k n (held e) cs ek en = rw (ne-eqb k freeCode (λ y. omega (arith, facts e .used)), ← en) (behind-all need p (held e) cs)
 
 -- ---- the loop
 
 module _ (s : List ℕ) (at n k need : ℕ) (st : Stepped s at n) (ek : k ≡ typeOf (drop at s)) (w : HoleN) (inv : chosen need at (cellsOf (drop at s)) ≡ w) where
-  here : chosen need at (cellAt s at ∷ cellsOf (drop (at + n) s)) ≡ w
-  here = ap (chosen need at) (sym (st .cells)) ∙ inv
+  here : cond (eqb k freeCode && leb need n) (holeN true at n) (chosen need (at + n) (cellsOf (drop (at + n) s))) ≡ w
+  here = sym (ap (chosen need at) (st .cells) ∙ chosen-cons need at k n (cellAt s at) (cellsOf (drop (at + n) s)) (st .code ∙ sym ek) (st .bytes)) ∙ inv
 
   pub hole-hit : (eqb k freeCode && leb need n) ≡ true → holeN true at n ≡ w
-  hole-hit t = sym (hit need at k n (cellAt s at) (cellsOf (drop (at + n) s)) (st .code ∙ sym ek) (st .bytes) t) ∙ here
+  hole-hit t = rw t at here
 
   pub hole-next : (eqb k freeCode && leb need n) ≡ false → chosen need (at + n) (cellsOf (drop (at + n) s)) ≡ w
-  hole-next t = sym (miss need at k n (cellAt s at) (cellsOf (drop (at + n) s)) (st .code ∙ sym ek) (st .bytes) t) ∙ here
+  hole-next t = rw t at here
 
 pub hole-end : (s : List ℕ) (at need : ℕ) (w : HoleN) → length s ≤ at → chosen need at (cellsOf (drop at s)) ≡ w → holeN false 0 0 ≡ w
 hole-end s at need w h inv = rw (bay-end s at h) at inv

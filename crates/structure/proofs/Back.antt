@@ -15,17 +15,16 @@ use Rattle.bigendian.proofs.Laws.{length-toBE, be-front}
 use Rattle.block_type.specs.Limits.{freeCode, fixedCode, fixedHeader, fixedLimit, relocCode, relocHeader, typeUnit, zoneHeader, freeHeader, handleRange, masterSize, smallestBlock, tagAt, argumentRange}
 use Rattle.memory.specs.Zeros.{allZero}
 use Rattle.format.specs.WellFormed.{typeOf, sizeOf, handleOf, isFree, isReloc, isMaster, masterAt, relocs, offsets, chain}
-use Rattle.format.specs.OneWalk.{links, typeRule, freeRule, relocRule, blockOk, blocksOk}
-use Rattle.format.proofs.Walk.{size-used}
+use Rattle.format.specs.OneWalk.{links, typeRule, freeRule, relocRule, blockOk, blocksOk, ruleOf}
 use Rattle.format.proofs.Masters.{Master}
 use Rattle.format.proofs.Count.{one-same}
-use Rattle.structure.specs.Structure.{Block, fixed, size, code, encodeBlock, decodeBlock, byType, sizes, headOf, placeOf, nextOf, words, join, cell, handlesOf}
+use Rattle.structure.specs.Structure.{Block, fixed, size, code, fixedTag, encodeBlock, decodeBlock, byType, sizes, headOf, placeOf, nextOf, words, join, cell, handlesOf}
 use Rattle.kinds.specs.Kinds.{item, itemIn, itemSize}
-use Rattle.kinds.proofs.KindLaws.{facts, type-of}
+use Rattle.kinds.proofs.KindLaws.{facts}
 use Rattle.bay.specs.Bay.{Cell, free, held, cellCode}
 use Rattle.bay.specs.Bytes.{encodeCell}
 use Rattle.bay.specs.Sound.{decodeCell, Sound1}
-use Rattle.bay.proofs.CellBytes.{enc, low-part, half}
+use Rattle.bay.proofs.CellBytes.{enc, used}
 use Rattle.structure.specs.Valid.{Tiled}
 
 -- ---- one block
@@ -68,15 +67,8 @@ enc-cell c s =
 pub enc-fixed : (d : List ℕ) → (fixedHeader + length d) % 4 ≡ 0 → length d ≤ fixedLimit → Enc (fixed d)
 unfolding encodeBlock
 enc-fixed d q u =
-    let w = (fixedHeader + length d) / 2 in
-    let v = fixedCode * typeUnit + w in
-    let k = type-of fixedCode w d (omega arith) (omega arith) in
-    record {
-      long = simp (length-append, length-toBE) (omega arith);
-      same = size-used (encodeBlock (fixed d)) 0 k ∙ (rw (be-front 2 v d (omega arith), low-part fixedCode w (omega arith)) (half (fixedHeader + length d) q));
-      kind = k;
-      back = dec-fixed (encodeBlock (fixed d)) d k (drop-at (toBE 2 v) d fixedHeader (length-toBE 2 v));
-    }
+    let w = used fixedCode (fixedHeader + length d) fixedTag d (omega arith) (omega arith) (omega arith) q (omega arith) in
+    record { long = w .long; same = w .same; kind = w .code; back = dec-fixed (encodeBlock (fixed d)) d (w .code) (w .holds) }
 
 handle-enc : (h : ℕ) (d : List ℕ) → h < handleRange → handleOf (encodeBlock (cell (held (item h d)))) ≡ h
 unfolding encodeBlock handleOf
@@ -85,7 +77,7 @@ handle-enc h d u = rw (drop-at (toBE 2 (relocCode * typeUnit + (relocHeader + le
 -- ---- the test of a block, from facts
 
 good-of : (z : List ℕ) (first : ℕ) (prev : Bool) (at : ℕ) (b : Block) → Enc b → smallestBlock ≤ size b → size b % 4 ≡ 0
-    → typeRule (typeOf (encodeBlock b)) (freeRule prev (encodeBlock b)) (relocRule z first at (handleOf (encodeBlock b))) ≡ true → blockOk z first prev at (encodeBlock b) ≡ true
+    → ruleOf (typeOf (encodeBlock b)) z first prev at (encodeBlock b) (encodeBlock b) ≡ true → blockOk z first prev at (encodeBlock b) ≡ true
 unfolding blockOk
 good-of z first prev at b e l q r =
     rw (le-leb smallestBlock (sizeOf (encodeBlock b)) (omega (arith, e .same)), eq-eqb (sizeOf (encodeBlock b) % 4) 0 (rw (e .same) q), eq-eqb (sizeOf (encodeBlock b)) (length (encodeBlock b)) (omega (arith, e .same, e .long))) r

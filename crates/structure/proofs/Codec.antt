@@ -9,12 +9,12 @@ use borrow.Author.Tests.{eqb-true}
 use lib.ListN.{length, take, drop, replicate, length-append, length-take, length-drop, take-append-drop}
 use lib.Seq.{getD-drop, drop-drop, take-append-seam, drop-append-seam, length-take-le}
 use Rattle.block_type.specs.Limits.{fixedHeader, relocHeader, typeUnit, fixedCode, freeHeader, relocCode, smallestBlock, freeCode, tagAt}
-use Rattle.bigendian.specs.BigEndian.{fromBE, toBE, Bytes}
+use Rattle.bigendian.specs.BigEndian.{fromBE, toBE, slice, Bytes}
 use Rattle.bigendian.proofs.Laws.{toBE-be, be2-at}
 use Rattle.memory.specs.Zeros.{allZero}
 use Rattle.format.proofs.Bool.{and-left, and-right}
 use Rattle.format.specs.WellFormed.{typeOf, sizeOf, handleOf, isFree, splitBlocks, splitFrom}
-use Rattle.format.specs.OneWalk.{typeRule, freeRule, relocRule, blockOk, blocksOk}
+use Rattle.format.specs.OneWalk.{typeRule, freeRule, blockOk, blocksOk, ruleOf}
 use Rattle.format.proofs.Walk.{is-good, size-free, size-used, size-take, blocks-cons, blocks-nil}
 use Rattle.structure.specs.Structure.{fixed, encodeBlock, decodeBlock, byType, join, cell}
 use Rattle.kinds.specs.Kinds.{itemIn}
@@ -91,21 +91,24 @@ enc-free b e l w zs y =
     let e₂ : replicate (sizeOf b - freeHeader) 0 ≡ drop freeHeader b = rw (w, ← length-drop freeHeader b) (sym (all-zero-is (drop freeHeader b) zs)) in
     rw (e₁, part-bytes 4 b y (omega arith), e₂) (take-append-drop freeHeader b)
 
+-- a block that is not free: type and size, the rest of its header of h bytes, its data
+used-back : (b : List ℕ) (k h : ℕ) → typeOf b ≡ suc k → sizeOf b ≡ length b → tagAt ≤ h → h ≤ length b → Bytes b
+    → toBE 2 (suc k * typeUnit + (h + length (drop h b)) / 2) ++ (slice b tagAt (h - tagAt) ++ drop h b) ≡ b
+used-back b k h e w m l y =
+    let e₁ : suc k * typeUnit + (h + length (drop h b)) / 2 ≡ fromBE (take 2 b) = omega (arith, size-used b k e, head-word b (suc k) e (omega arith) y, length-drop h b) in
+    let e₂ : tagAt + (h - tagAt) ≡ h = omega arith in
+    rw (e₁, part-bytes 2 b y (omega arith)) (tail (drop-drop (h - tagAt) tagAt b ∙ ap (λ (n : ℕ). drop n b) e₂))
+  where
+    tail : drop (h - tagAt) (drop tagAt b) ≡ drop h b → take 2 b ++ (slice b tagAt (h - tagAt) ++ drop h b) ≡ b
+    tail q = rw (← q, take-append-drop (h - tagAt) (drop tagAt b)) (take-append-drop tagAt b)
+
 enc-fixed : (b : List ℕ) → typeOf b ≡ fixedCode → smallestBlock ≤ sizeOf b → sizeOf b ≡ length b → Bytes b → encodeBlock (fixed (drop fixedHeader b)) ≡ b
 unfolding encodeBlock
-enc-fixed b e l w y =
-    let e₁ : fixedCode * typeUnit + (fixedHeader + length (drop fixedHeader b)) / 2 ≡ fromBE (take 2 b) = omega (arith, size-used b 0 e, head-word b fixedCode e (omega arith) y, length-drop fixedHeader b) in
-    rw (e₁, part-bytes 2 b y (omega arith)) (take-append-drop fixedHeader b)
+enc-fixed b e l w y = used-back b 0 fixedHeader e w (omega arith) (omega arith) y
 
 enc-reloc : (b : List ℕ) → typeOf b ≡ relocCode → smallestBlock ≤ sizeOf b → sizeOf b ≡ length b → Bytes b → encodeBlock (cell (held (itemIn b))) ≡ b
 unfolding encodeBlock handleOf
-enc-reloc b e l w y =
-    let e₁ : relocCode * typeUnit + (relocHeader + length (drop relocHeader b)) / 2 ≡ fromBE (take 2 b) = omega (arith, size-used b 1 e, head-word b relocCode e (omega arith) y, length-drop relocHeader b) in
-    rw (e₁, part-bytes 2 b y (omega arith), part-bytes 2 (drop tagAt b) (bytes-drop tagAt b y) (omega (arith, length-drop tagAt b)))
-    (tail (drop-drop 2 tagAt b))
-  where
-    tail : drop 2 (drop tagAt b) ≡ drop relocHeader b → take 2 b ++ (take 2 (drop tagAt b) ++ drop relocHeader b) ≡ b
-    tail q = rw (← q, take-append-drop 2 (drop tagAt b)) (take-append-drop tagAt b)
+enc-reloc b e l w y = rw (part-bytes 2 (drop tagAt b) (bytes-drop tagAt b y) (omega (arith, length-drop tagAt b))) (used-back b 1 relocHeader e w (omega arith) (omega arith) y)
 
 pub enc-dec : (z : List ℕ) (first : ℕ) (prev : Bool) (at : ℕ) (b : List ℕ) → blockOk z first prev at b ≡ true → Bytes b → encodeBlock (decodeBlock b) ≡ b
 unfolding decodeBlock typeRule freeRule
@@ -113,7 +116,7 @@ enc-dec z first prev at b g y =
     let gb = is-good z first prev at b g in
     go (typeOf b) refl (gb .low) (gb .whole) (gb .rule)
   where
-    go : (k : ℕ) → typeOf b ≡ k → smallestBlock ≤ sizeOf b → sizeOf b ≡ length b → typeRule k (freeRule prev b) (relocRule z first at (handleOf b)) ≡ true
+    go : (k : ℕ) → typeOf b ≡ k → smallestBlock ≤ sizeOf b → sizeOf b ≡ length b → ruleOf k z first prev at b b ≡ true
         → encodeBlock (byType k (cell (free (sizeOf b))) (fixed (drop fixedHeader b)) (cell (held (itemIn b)))) ≡ b
     go zero e l w r = enc-free b e l w (and-right (not prev) _ r) y
     go (suc zero) e l w r = enc-fixed b e l w y

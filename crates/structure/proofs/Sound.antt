@@ -12,7 +12,7 @@ use Rattle.block_type.specs.Limits.{longestZone, zoneHeader, fixedHeader, reloc
 use Rattle.bigendian.specs.BigEndian.{Bytes}
 use Rattle.format.proofs.Bool.{and-left, and-right}
 use Rattle.format.specs.WellFormed.{firstField, mastersField, chainField, typeOf, sizeOf, handleOf, isFree, isReloc, splitBlocks, relocs, wellFormed, zoneOf, offsets, chain}
-use Rattle.format.specs.OneWalk.{typeRule, freeRule, relocRule, blockOk, blocksOk}
+use Rattle.format.specs.OneWalk.{typeRule, freeRule, blockOk, blocksOk, ruleOf}
 use Rattle.format.proofs.Walk.{Good, is-good, size-used}
 use Rattle.format.proofs.Masters.{Master}
 use Rattle.format.proofs.Count.{occurs-offset, all-at}
@@ -50,7 +50,7 @@ module _ (z : List ℕ) (first : ℕ) where
       go (typeOf b) refl gb (gb .rule) (bytes-left b (join bs) y) (omega arith)
       (tiled-decs (isFree b) (at + length b) bs (and-right (blockOk z first prev at b) _ g) (bytes-right b (join bs) y) (omega arith))
     where
-      go : (k : ℕ) → typeOf b ≡ k → Good z first prev at b → typeRule k (freeRule prev b) (relocRule z first at (handleOf b)) ≡ true → Bytes b → length b ≤ longestZone
+      go : (k : ℕ) → typeOf b ≡ k → Good z first prev at b → ruleOf k z first prev at b b ≡ true → Bytes b → length b ≤ longestZone
           → Tiled (eqb k freeCode) (map decodeBlock bs) → Tiled prev (byType k (cell (free (sizeOf b))) (fixed (drop fixedHeader b)) (cell (held (itemIn b))) ∷ map decodeBlock bs)
       go zero e gb r y u t = (not-true prev (and-left (not prev) _ r), gb .low, gb .four, omega (arith, gb .whole), t)
       go (suc zero) e gb r y u t = (omega (arith, gb .low, gb .four, gb .whole, length-drop fixedHeader b), omega (arith, gb .four, gb .whole, length-drop fixedHeader b, size-used b 0 e), bytes-drop fixedHeader b y, t)

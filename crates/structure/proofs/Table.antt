@@ -15,7 +15,7 @@ use Rattle.bigendian.specs.BigEndian.{fromBE, toBE, slice, Bytes}
 use Rattle.format.proofs.Bool.{and-left, and-right}
 use Rattle.format.specs.WellFormed.{headerOk, lengthField, firstField, mastersField, chainField, typeOf, sizeOf, handleOf, isFree, isReloc, splitBlocks, isMaster, masterAt, relocs, zoneOf, wellFormed, offsets, chain}
 use Rattle.format.proofs.OneWalk.{one-walk}
-use Rattle.format.specs.OneWalk.{links, typeRule, freeRule, relocRule, blockOk, blocksOk, bodyOk}
+use Rattle.format.specs.OneWalk.{links, typeRule, blockOk, blocksOk, bodyOk, ruleOf}
 use Rattle.format.proofs.Walk.{is-good, slice-take}
 use Rattle.format.proofs.Masters.{Master}
 use Rattle.format.proofs.Header.{header-facts}
@@ -58,7 +58,7 @@ module _ (z : List ℕ) (first : ℕ) (prev : Bool) (at : ℕ) (b : List ℕ) (g
   unfolding typeRule
   by P a₀ a₁ a₂ = go (typeOf b) refl (is-good z first prev at b g .rule)
     where
-      go : (k : ℕ) → typeOf b ≡ k → typeRule k (freeRule prev b) (relocRule z first at (handleOf b)) ≡ true → P k
+      go : (k : ℕ) → typeOf b ≡ k → ruleOf k z first prev at b b ≡ true → P k
       go zero e r = a₀ e
       go (suc zero) e r = a₁ e
       go (suc (suc zero)) e r = a₂ e

@@ -34,10 +34,14 @@ abbrev pub code : Block → ℕ
 code (cell c) = cellCode c
 code (fixed d) = fixedCode
 
+-- what a fixed block's header has behind type and size: nothing
+abbrev pub fixedTag : List ℕ
+fixedTag = []
+
 -- "Fixed: 14-bit size in words, data from byte 2"
 unfoldable pub encodeBlock : Block → List ℕ
 encodeBlock (cell c) = encodeCell c
-encodeBlock (fixed d) = toBE 2 (fixedCode * typeUnit + (fixedHeader + length d) / 2) ++ d
+encodeBlock (fixed d) = toBE 2 (fixedCode * typeUnit + (fixedHeader + length d) / 2) ++ (fixedTag ++ d)
 
 unfoldable pub sizes : List Block → ℕ
 sizes [] = 0

@@ -10,6 +10,7 @@ use Rattle.kinds.specs.Kinds.{Item, itemSize, is}
 use Rattle.calls.specs.State.{Fixed, fsize, handlesFrom}
 use Rattle.bay.specs.Bay.{Cell, free, held, baySize}
 use Rattle.block_type.specs.Limits.{relocHeader, firstBlock, relocCode, typeUnit, zoneHeader, fixedCode, freeHeader}
+use Rattle.structure.specs.Structure.{fixedTag}
 use Rattle.zone.specs.Work.{Zone}
 
 -- w bytes, high byte first
@@ -30,7 +31,7 @@ cellBytes (held e ∷ cs) = itemBytes e ++ cellBytes cs
 
 -- a fixed block's header: fixedHeader bytes
 abbrev pub fixedHead : Fixed → List ℕ
-fixedHead x = big 2 (fixedCode * typeUnit + fsize x / 2)
+fixedHead x = big 2 (fixedCode * typeUnit + fsize x / 2) ++ fixedTag
 
 abbrev pub fixedBytes : Fixed → List ℕ
 fixedBytes x = fixedHead x ++ x .bytes

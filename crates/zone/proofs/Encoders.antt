@@ -13,7 +13,7 @@ use Rattle.format.specs.WellFormed.{offsets}
 use Rattle.block_type.specs.Limits.{masterSize, relocCode, typeUnit, zoneHeader, fixedCode, freeHeader, relocHeader}
 use Rattle.bigendian.specs.BigEndian.{toBE}
 use Rattle.structure.specs.Structure as Shape
-use Rattle.structure.specs.Structure.{Block, fixed, count, len, encodeBlock, placeOf, headOf, value, words, join, encode}
+use Rattle.structure.specs.Structure.{Block, fixed, count, len, fixedTag, encodeBlock, placeOf, headOf, value, words, join, encode}
 use Rattle.calls.specs.Bays.{Bays, last, more, orElse}
 use Rattle.bay.specs.Counted as Counted
 use Rattle.bay.specs.Counted.{live}
@@ -47,7 +47,7 @@ strip-bytes : (s : Bays (List Cell) Fixed) → blockBytes s ≡ join (map encode
 unfolding join encodeBlock
 strip-bytes (last b) = sym (append-nil (cellBytes b)) ∙ bay-bytes b []
 strip-bytes (more b x s) =
-    ap (λ (l : List ℕ). cellBytes b ++ l) (ap₂ _++_ (ap (_++ x .bytes) (big-is 2 (fixedCode * typeUnit + fsize x / 2))) (strip-bytes s))
+    ap (λ (l : List ℕ). cellBytes b ++ l) (ap₂ _++_ (append-assoc (big 2 (fixedCode * typeUnit + fsize x / 2)) fixedTag (x .bytes) ∙ ap (_++ (fixedTag ++ x .bytes)) (big-is 2 (fixedCode * typeUnit + fsize x / 2))) (strip-bytes s))
     ∙ bay-bytes b (fixed (x .bytes) ∷ flatten s)
 
 -- ---- masters
