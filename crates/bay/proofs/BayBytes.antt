@@ -1,9 +1,9 @@
 -- A bay and its bytes: the bytes of cells say the cells, and a walk meets them block by block.
 use mathlib.Core.Path.{_≡_, refl, sym, ap, ap₂, _∙_}
 use mathlib.Core.List.{List, [], _∷_, _++_, append-assoc, append-nil}
-use Prim.Native.Nat.{ℕ, zero, suc, _+_, _-_, _<_, _≤_}
+use Prim.Native.Nat.{ℕ, zero, suc, _+_, _<_, _≤_}
 use native.Mathlib.Omega.{arith}
-use lib.ListN.{length, take, drop, replicate, length-append, length-drop, drop-of-length-le}
+use lib.ListN.{length, take, drop, length-append, length-drop, drop-of-length-le}
 use lib.Seq.{drop-drop, take-at, drop-at}
 use Rattle.block_type.specs.Limits.{smallestBlock}
 use Rattle.format.specs.WellFormed.{typeOf, sizeOf}
@@ -13,12 +13,6 @@ use Rattle.bay.specs.Bay.{Cell, free, held, cellSize, baySize, gap, pack
 use Rattle.bay.specs.Bytes.{encodeCell}
 use Rattle.bay.specs.Sound.{bytesOf, cellsOf, Sound1, Sound, IsBay, is-bay, cellAt, Stepped}
 use Rattle.bay.proofs.CellBytes.{Enc, enc}
-
--- the zeros of a free block, less some
-pub drop-zeros : (k n : ℕ) → drop {A = ℕ} k (replicate n 0) ≡ replicate (n - k) 0
-drop-zeros zero n = let e : n - 0 ≡ n = omega arith in rw e
-drop-zeros (suc k) zero = let e : 0 - suc k ≡ 0 = omega arith in rw e
-drop-zeros (suc k) (suc n) = let e : suc n - suc k ≡ n - k = omega arith in rw e (drop-zeros k n)
 
 -- ---- a block in front
 

@@ -6,7 +6,8 @@ use Prim.Native.Nat.{ℕ, zero, suc, _+_, _*_}
 use native.Mathlib.Omega.{arith}
 use lib.Dec.{eqb}
 use lib.ListN.{length, length-append}
-use Rattle.structure.proofs.ZoneLayout.{lay, write-mid, lay-same}
+use Rattle.structure.proofs.ZoneLayout.{lay, lay-same}
+use Rattle.bigendian.proofs.Overwrite.{write-mid}
 use Rattle.structure.proofs.Append.{sizes-append, place-append, handles-append}
 use Rattle.block_type.specs.Limits.{masterSize, zoneHeader, lengthAt}
 use Rattle.bigendian.specs.BigEndian.{toBE, overwrite}

@@ -4,13 +4,13 @@ use mathlib.Core.List.{List, [], _++_, append-assoc}
 use Prim.Native.Nat.{ℕ, zero, suc, _+_, _-_, _/_, _%_, _≤_}
 use native.Mathlib.Nat.{zero-add}
 use native.Mathlib.Omega.{arith}
-use lib.ListN.{length, take, drop, replicate, length-append, length-take, length-drop, take-append-drop, replicate-append-replicate}
+use lib.ListN.{length, take, drop, replicate, length-append, replicate-append-replicate}
 use lib.Seq.{drop-drop, drop-append-add, length-take-le}
-use Rattle.structure.proofs.ZoneLayout.{write-mid}
+use Rattle.bigendian.proofs.Overwrite.{write-mid, write-pad}
 use Rattle.block_type.specs.Limits.{freeHeader}
 use Rattle.bigendian.specs.BigEndian.{toBE, slice, overwrite}
 use Rattle.bigendian.proofs.Laws.{length-toBE}
-use Rattle.format.proofs.Walk.{drop-take}
+use Rattle.bigendian.proofs.Parts.{drop-take}
 use Rattle.bay.specs.Bay.{free, gap}
 use Rattle.bay.specs.Bytes.{encodeCell}
 use Rattle.bay.specs.Sound.{bytesOf}
@@ -18,15 +18,6 @@ use Rattle.bay.proofs.BayBytes.{gap-some}
 use Rattle.bay_end.specs.Taken.{trimmed, FreeEnd}
 
 -- ---- writes
-
--- what stands behind a write may be counted to it
-write-pad : (z u v : List ℕ) (at k n : ℕ) → k ≡ at + length u → slice z k n ≡ v → k + n ≤ length z → overwrite z at u ≡ overwrite z at (u ++ v)
-write-pad z u v at k n e ev l =
-    let lv : length v ≡ n = rw (← ev) (simp (length-take, length-drop) (omega arith)) in
-    let f : at + length (u ++ v) ≡ k + n = rw length-append (omega arith) in
-    let s : drop (at + length u) z ≡ v ++ drop (k + n) z =
-    sym (take-append-drop n (drop (at + length u) z)) ∙ (rw (← e, ev, drop-drop)) in
-    rw (s, f) (simp append-assoc)
 
 regroup : {A : Type 0} (a g x t d : List A) → (a ++ (g ++ (x ++ t))) ++ d ≡ (a ++ g) ++ (x ++ (t ++ d))
 regroup a g x t d = simp append-assoc

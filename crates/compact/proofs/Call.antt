@@ -22,7 +22,7 @@ use Rattle.zone.proofs.GroupLaws.{flatten-group}
 use Rattle.bays.proofs.At.{bay-sizes}
 use Rattle.call_laws.specs.Frame.{Does, PlannedIn, goes, Planned}
 use Rattle.access.proofs.Checked.{zone-8}
-use Rattle.format.proofs.Walk.{slice-take}
+use Rattle.bigendian.proofs.Parts.{slice-take}
 use Rattle.call_laws.proofs.Outcome.{none-lent}
 use Rattle.call_laws.proofs.Frame.{frame-ready, frame-done}
 use Rattle.compact.specs.Compacted.{largest, compacted}

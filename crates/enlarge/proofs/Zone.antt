@@ -15,7 +15,7 @@ use Rattle.bigendian.specs.BigEndian.{slice, toBE, overwrite}
 use Rattle.block_type.specs.Limits.{freeHeader, longestZone, lengthAt}
 use Rattle.format.specs.WellFormed.{firstField}
 use Rattle.format.proofs.Bool.{and-left, and-right}
-use Rattle.format.proofs.Walk.{slice-take}
+use Rattle.bigendian.proofs.Parts.{slice-take}
 use Rattle.structure.specs.Structure.{Block, Structure, sizes, start, len, encodeBlock, join, encode, decodeZone, cell}
 use Rattle.structure.specs.Valid.{Valid, Tiled}
 use Rattle.structure.proofs.Table.{Whole, len-is, encode-zone}

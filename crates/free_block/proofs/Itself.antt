@@ -8,7 +8,7 @@ use lib.Seq.{drop-drop, drop-at}
 use borrow.Author.Tests.{eq-eqb}
 use Rattle.format.specs.Occurs.{occurs}
 use Rattle.format.proofs.Count.{one-same, occurs-append}
-use Rattle.format.proofs.Walk.{drop-take}
+use Rattle.bigendian.proofs.Parts.{drop-take}
 use Rattle.block_type.specs.Limits.{typeUnit}
 use Rattle.bigendian.specs.BigEndian.{toBE, slice}
 use Rattle.bigendian.proofs.Laws.{length-toBE}

@@ -15,7 +15,7 @@ use Rattle.bay.proofs.Sound.{Sound}
 use Rattle.bay.proofs.Free.{release-none, Released, released}
 use Rattle.zone.specs.PickBays.{AllS}
 use Rattle.zone.specs.Group.{flatBay, flatten}
-use Rattle.zone.proofs.Found.{often, count-get}
+use Rattle.zone.proofs.Once.{often, count-get}
 use Rattle.free_block.specs.Around.{firstPart, Around}
 use Rattle.free_block.proofs.Parts.{map-append}
 use Rattle.free_block.proofs.Around.{around-here, around-same, around-later}

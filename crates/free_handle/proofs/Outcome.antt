@@ -25,7 +25,7 @@ use Rattle.bay.proofs.Each.{Each, nothing, just}
 use Rattle.bay.proofs.Laws.{release-items}
 use Rattle.zone.proofs.Sums.{find-sum}
 use Rattle.zone.proofs.Handles.{get-count}
-use Rattle.zone.proofs.Found.{taken, sum-released}
+use Rattle.zone.proofs.Once.{taken, sum-released}
 use Rattle.zone.proofs.Grouped.{single-live}
 use Rattle.zone.proofs.Run.{well-whole}
 use Rattle.call_laws.proofs.Outcome.{step, stepAs, none-lent, call-ill, call-of, after-call}

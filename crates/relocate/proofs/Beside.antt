@@ -17,7 +17,7 @@ use Rattle.bay.proofs.Sound.{Sound}
 use Rattle.bay.proofs.Free.{release-none, released}
 use Rattle.zone.specs.PickBays.{AllS}
 use Rattle.zone.specs.Group.{flatBay, flatten}
-use Rattle.zone.proofs.Found.{often, count-get}
+use Rattle.zone.proofs.Once.{often, count-get}
 use Rattle.bays.proofs.At.{no-sizes, later-sizes}
 use Rattle.free_block.specs.Around.{Around}
 use Rattle.free_block.proofs.Around.{around-same, around-later}

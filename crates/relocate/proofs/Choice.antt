@@ -12,7 +12,7 @@ use Rattle.kinds.specs.Kinds.{Item, itemSize}
 use Rattle.calls.specs.State.{get, Fixed, ownSum}
 use Rattle.bay.specs.Bay.{Cell, baySum, items, release}
 use Rattle.bay.specs.Counted.{count, live}
-use Rattle.zone.proofs.Found.{often, taken, count-get, sum-released}
+use Rattle.zone.proofs.Once.{often, taken, count-get, sum-released}
 use Rattle.relocate.specs.Slot.{Slot, at-end, at-fixed, behind, plug, others, Under}
 use Rattle.relocate.proofs.Slots.{plug-live}
 

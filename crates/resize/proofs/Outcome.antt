@@ -28,7 +28,8 @@ use Rattle.bay.proofs.Laws.{release-items}
 use Rattle.zone.proofs.Sums.{mapS-zero}
 use Rattle.bay.proofs.Resize.{length-sized}
 use Rattle.zone.proofs.Own.{own-shaped}
-use Rattle.zone.proofs.Found.{often, count-get, resize-found, Named, unnamed, named, block-named}
+use Rattle.zone.proofs.Found.{resize-found, Named, unnamed, named, block-named}
+use Rattle.zone.proofs.Once.{often, count-get}
 use Rattle.zone.proofs.Walk.{each-got}
 use Rattle.zone.proofs.Handles.{count-remove-same}
 use Rattle.zone.proofs.Grouped.{single-live}

@@ -14,13 +14,12 @@ use mir.Syntax.{w8, w32}
 use Rattle.block_type.specs.Limits.{masterSize, zoneHeader, argumentRange, firstBlock, mostMasters, mastersAt, recordSize, amountAt}
 use Rattle.bigendian.specs.BigEndian.{toBE, overwrite, Bytes}
 use Rattle.bigendian.proofs.Laws.{length-toBE, be-toBE}
-use Rattle.memory.proofs.Writes.{write-none}
 use Rattle.format.specs.WellFormed.{wellFormed, zoneOf, mastersField, countOf, offsets, lengthField}
 use Rattle.structure.specs.Structure.{decode, decodeZone, start}
 use Rattle.structure.proofs.Table.{len-is}
 use Rattle.access.specs.Edit.{placeIn, dataIn}
 use Rattle.access.proofs.Size.{size-none, data-fits}
-use Rattle.bigendian.proofs.Overwrite.{len-write, write-write}
+use Rattle.bigendian.proofs.Overwrite.{len-write, write-more, write-none}
 use Rattle.calls.specs.Calls.{Card, Answer, roster, shows, lists}
 use Rattle.zone.specs.Call.{call}
 use Rattle.calls.specs.Bays.{Bays}
@@ -55,8 +54,7 @@ pub put-two : (s y₁ y₂ : List ℕ) (at h n : ℕ) → at + recordSize ≤ le
 put-two s y₁ y₂ at h n l e₁ e₂ =
     let a = length-toBE 4 h in
     let b = length-toBE 4 n in
-    let q : at + amountAt ≡ at + length (toBE 4 h) = omega arith in
-    e₂ ∙ (rw (e₁, q) (write-write s (toBE 4 h) (toBE 4 n) at (omega arith)))
+    e₂ ∙ (rw e₁ (write-more s (toBE 4 h) (toBE 4 n) at (at + amountAt) (omega arith) (omega arith)))
 
 length-bytes : (cs : List Card) → length (cardBytes cs) ≡ recordSize * length cs
 length-bytes [] = refl
@@ -103,8 +101,7 @@ module _ (z : List ℕ) (h p : ℕ) (e : p ≡ placeIn z h) where
             let b : List ℕ = cardBytes (cardsOf z hs) in
             let lb = length-bytes (cardsOf z hs) in
             let lc = ap length (cards-live q hs) in
-            let k : at + recordSize ≡ at + length x = omega arith in
-            (rw (ey, k) (write-write s x b at (omega arith)))
+            (rw ey (write-more s x b at (at + recordSize) (omega arith) (omega arith)))
             ∙ ap (overwrite s at) (append-assoc (toBE 4 h) (toBE 4 n) b ∙ (rw (cards-live q hs, en)));
       }
 

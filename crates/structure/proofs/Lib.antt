@@ -2,6 +2,8 @@ pub mod Back
 pub mod Codec
 pub mod Round
 pub mod Sound
+pub mod Words
+pub mod Decoded
 pub mod Table
 pub mod Append
 pub mod ZoneLayout
