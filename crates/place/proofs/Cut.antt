@@ -3,30 +3,18 @@ use mathlib.Core.Path.{_≡_, refl, sym, ap, ap₂, _∙_}
 use mathlib.Core.List.{List, [], _∷_, _++_, append-assoc, append-nil}
 use Prim.Native.Nat.{ℕ, _+_, _-_, _*_, _/_, _<_, _≤_}
 use native.Mathlib.Omega.{arith}
-use lib.ListN.{length, drop, replicate, length-replicate, length-append}
-use lib.Seq.{drop-drop, take-take, drop-append-add}
+use lib.ListN.{length, replicate, length-replicate, length-append}
 use Rattle.block_type.specs.Limits.{freeHeader, relocCode, relocHeader, typeUnit, tagAt}
-use Rattle.bigendian.specs.BigEndian.{toBE, slice, overwrite}
+use Rattle.bigendian.specs.BigEndian.{toBE, overwrite}
 use Rattle.bigendian.proofs.Laws.{length-toBE}
 use Rattle.bigendian.proofs.Overwrite.{write-more, write-pad}
-use Rattle.bigendian.proofs.Parts.{drop-take, drop-zeros, take-zeros}
 use Rattle.kinds.specs.Kinds.{Item, codeOf, headerOf, tagOf, itemSize}
 use Rattle.kinds.proofs.KindLaws.{tag-long, facts}
-use Rattle.bay.specs.Bay.{free, held, gap}
+use Rattle.bay.specs.Bay.{held, gap}
 use Rattle.bay.specs.Bytes.{encodeCell}
 use Rattle.bay.specs.Sound.{bytesOf}
-use Rattle.bay.proofs.BayBytes.{gap-some, gap-none}
+use Rattle.bay.proofs.BayBytes.{gap-some, gap-none, free-zeros}
 use Rattle.place.specs.Fit.{blank, Fit}
-
--- a free block is zero behind its header
-free-zeros : (z : List ℕ) (at n i k : ℕ) → slice z at n ≡ encodeCell (free n) → freeHeader ≤ i → i + k ≤ n → slice z (at + i) k ≡ replicate k 0
-free-zeros z at n i k e h l =
-    let t = toBE 4 (n / 2) in
-    let lt = length-toBE 4 (n / 2) in
-    let j : i ≡ length t + (i - freeHeader) = omega arith in
-    let d : drop i (encodeCell (free n)) ≡ replicate (n - freeHeader - (i - freeHeader)) 0 =
-    ap (λ (x : ℕ). drop x (encodeCell (free n))) j ∙ drop-append-add t (replicate (n - freeHeader) 0) (i - freeHeader) ∙ drop-zeros (i - freeHeader) (n - freeHeader) in
-    rw (← drop-drop i at z, ← take-take k (n - i) (drop i (drop at z)) (omega arith), ← drop-take i n (drop at z), e, d) (take-zeros k (n - freeHeader - (i - freeHeader)) (omega arith))
 
 -- ---- a block of any kind
 

@@ -6,5 +6,6 @@ pub mod Words
 pub mod Decoded
 pub mod Table
 pub mod Append
+pub mod Cells
 pub mod ZoneLayout
 pub mod IsZone

@@ -10,7 +10,7 @@ use lib.ListN.{length}
 use lib.Dec.{eqb, leb}
 use borrow.Author.Tests.{eqb-true}
 use Rattle.block_type.specs.Limits.{relocHeader}
-use Rattle.calls.specs.Bays.{Bays, last, more, over, orElse, onLowest, mapS, findS, findF, maxS}
+use Rattle.calls.specs.Bays.{Bays, last, more, over, orElse, onLowest, mapS, findF, maxS}
 use Rattle.kinds.specs.Kinds.{Item, is}
 use Rattle.calls.specs.State.{get, Fixed, fsize, pointer, newFixed, cutHigh, joinOver, joinAt, ownSum}
 use Rattle.calls.specs.Table.{below, isNone}
@@ -22,7 +22,7 @@ use Rattle.zone.specs.Work.{has}
 use Rattle.zone.specs.Search as Search
 use Rattle.zone.specs.Search.{own, resizeIn}
 use Rattle.zone.proofs.Missing.{Missing, gone, there, low-missing, high-missing, join-missing}
-use Rattle.zone.proofs.Once.{often, count-get}
+use Rattle.zone.proofs.Once.{often, count-get, blockOf}
 use Rattle.zone.proofs.ResizeMissing.{own-absent, own-missing, resize-missing}
 
 -- ---- nothing, or this
@@ -102,9 +102,6 @@ module _ (h a : ℕ) where
           alone : (t : Bool) {o : Option (Bays (List Cell) Fixed)} → Missing true o → Only (more (reshape h a b) x s) (cond t (some (more (reshape h a b) x s)) (over (more b x) o))
           alone true m = yes
           alone false gone = no
-
-abbrev pub blockOf : ℕ → Bays (List Cell) Fixed → Option Item
-blockOf h s = findS (λ (b : List Cell). get h (items b)) s
 
 -- what is found has the handle
 pub data Named (h : ℕ) : Option Item → Type 0 where

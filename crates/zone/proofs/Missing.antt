@@ -1,15 +1,13 @@
 -- A search that may find nothing finds nothing exactly where the table's cause holds: the lowest and the highest bay that reach a size, and the fixed
 -- block that a pointer names.
-use mathlib.Core.Path.{_≡_, refl, ap}
 use mathlib.Core.Bool.{Bool, true, false, cond, _&&_, not, and-comm}
 use mathlib.Core.Option.{Option, none, some}
-use Prim.Native.Nat.{ℕ, max}
-use native.Mathlib.Omega.{arith}
+use Prim.Native.Nat.{ℕ}
 use lib.Dec.{leb}
-use borrow.Author.Tests.{leb-true, leb-false, le-leb, lt-leb}
 use Rattle.calls.specs.Bays.{Bays, last, more, over, orElse, findF, maxS}
 use Rattle.calls.specs.Table.{below, isNone}
 use Rattle.zone.specs.PickBays.{onLow, onHigh, glue, onJoin}
+use Rattle.calls.proofs.Reach.{below-max}
 
 -- whether nothing is there: a DATA type, so that its implicit arguments are found
 pub data Missing {A : Type 0} : Bool → Option A → Type 0 where
@@ -31,15 +29,6 @@ over-missing f there = there
 pub else-missing : {A : Type 0} {t u : Bool} {o p : Option A} → Missing t o → Missing u p → Missing (t && u) (orElse o p)
 else-missing gone q = q
 else-missing there q = there
-
--- the larger of two is below n where both are
-pub below-max : (a b n : ℕ) → below (max a b) n ≡ below a n && below b n
-below-max a b n = go (leb n a) (leb n b) refl refl
-  where
-    go : (t u : Bool) → leb n a ≡ t → leb n b ≡ u → below (max a b) n ≡ not t && not u
-    go true u p q = ap not (le-leb n (max a b) (omega (arith, leb-true n a p)))
-    go false true p q = ap not (le-leb n (max a b) (omega (arith, leb-true n b q)))
-    go false false p q = ap not (lt-leb n (max a b) (omega (arith, leb-false n a p, leb-false n b q)))
 
 -- ---- the lowest and the highest bay that reach n, and the fixed block that a pointer names
 

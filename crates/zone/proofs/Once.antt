@@ -6,10 +6,15 @@ use mathlib.Core.Option.{Option, none, some}
 use Prim.Native.Nat.{ℕ, suc, _+_, _≤_}
 use native.Mathlib.Omega.{arith}
 use Rattle.kinds.specs.Kinds.{Item, itemSize, is}
-use Rattle.calls.specs.State.{total, get}
+use Rattle.calls.specs.State.{total, get, Fixed}
 use Rattle.bay.specs.Bay.{Cell, baySum, items, release}
 use Rattle.bay.specs.Counted.{remove, count}
 use Rattle.bay.proofs.Laws.{bsize-split, release-size, release-items}
+use Rattle.calls.specs.Bays.{Bays, findS}
+
+-- the block of a handle among the bays
+abbrev pub blockOf : ℕ → Bays (List Cell) Fixed → Option Item
+blockOf h s = findS (λ (b : List Cell). get h (items b)) s
 
 -- how often it stands there, by what is found, and what its block takes
 abbrev pub often : Option Item → ℕ

@@ -18,14 +18,12 @@ use Rattle.bay.specs.Bay.{Cell, baySum, items, put, release, reshape, resized}
 use Rattle.bay.specs.Counted.{count, roomFor, live}
 use Rattle.zone.specs.Search.{own, resizeIn}
 use Rattle.bay.proofs.Resize.{length-sized}
-use Rattle.zone.proofs.Missing.{Missing, gone, there, one-missing, over-missing, else-missing, below-max, low-missing}
-use Rattle.zone.proofs.Once.{often, taken, count-get, sum-absent, sum-released}
+use Rattle.zone.proofs.Missing.{Missing, gone, there, one-missing, over-missing, else-missing, low-missing}
+use Rattle.zone.proofs.Once.{often, taken, count-get, sum-absent, sum-released, blockOf}
+use Rattle.calls.proofs.Reach.{below-max}
 
 module _ (h a : ℕ) where
-  -- the block, and the sum of the bay that has it
-  abbrev pub block : Bays (List Cell) Fixed → Option Item
-  block s = findS (λ (b : List Cell). get h (items b)) s
-
+  -- the sum of the bay that has the block
   abbrev pub sumOfOwn : Bays (List Cell) Fixed → ℕ
   sumOfOwn s = ownSum items baySum h s
 
@@ -42,7 +40,7 @@ module _ (h a : ℕ) where
   max-absent (more b x s) n = ap₂ max (sum-absent h b (omega arith)) (max-absent s (omega arith))
 
   -- the own bay is chosen exactly where its sum reaches a − b
-  pub own-missing : (s : Bays (List Cell) Fixed) → live h s ≤ 1 → Missing (not (roomFor a (sumOfOwn s) (block s))) (ownChanged s)
+  pub own-missing : (s : Bays (List Cell) Fixed) → live h s ≤ 1 → Missing (not (roomFor a (sumOfOwn s) (blockOf h s))) (ownChanged s)
   own-missing (last b) n = go (count h (items b)) (get h (items b)) (count-get h (items b) n)
     where
       go : (k : ℕ) (o : Option Item) → k ≡ often o
@@ -51,8 +49,8 @@ module _ (h a : ℕ) where
       go k (some i) e = rw e (one-missing (leb (a - length (i .bytes)) (baySum b)) _)
   own-missing (more b x s) n = go (count h (items b)) (get h (items b)) (count-get h (items b) (omega arith)) n (λ l. own-missing s l)
     where
-      go : (k : ℕ) (o : Option Item) → k ≡ often o → k + live h s ≤ 1 → (live h s ≤ 1 → Missing (not (roomFor a (sumOfOwn s) (block s))) (ownChanged s))
-          → Missing (not (roomFor a (Option·getD (orElse (over (λ (i : Item). baySum b) o) (findS (λ (b : List Cell). over (λ (i : Item). baySum b) (get h (items b))) s)) 0) (orElse o (block s))))
+      go : (k : ℕ) (o : Option Item) → k ≡ often o → k + live h s ≤ 1 → (live h s ≤ 1 → Missing (not (roomFor a (sumOfOwn s) (blockOf h s))) (ownChanged s))
+          → Missing (not (roomFor a (Option·getD (orElse (over (λ (i : Item). baySum b) o) (findS (λ (b : List Cell). over (λ (i : Item). baySum b) (get h (items b))) s)) 0) (orElse o (blockOf h s))))
           (cond (cond (eqb k 1) (roomFor a (baySum b) o) false) (some (more (reshape h a b) x s)) (over (more b x) (ownChanged s)))
       go k none e n r = rw e (over-missing (more b x) (r (omega arith)))
       go k (some i) e n r = rw e (alone (leb (a - length (i .bytes)) (baySum b)))
@@ -69,7 +67,7 @@ module _ (h a : ℕ) where
       let l = leb-false (a - length (i .bytes)) (baySum b) r in
       ap not (lt-leb (relocHeader + a) (baySum (release h b)) (omega (arith, q, l)) ∙ sym (lt-leb (relocHeader + a) (baySum b) (omega (arith, l))))
 
-  pub max-same : (s : Bays (List Cell) Fixed) → live h s ≤ 1 → roomFor a (sumOfOwn s) (block s) ≡ false
+  pub max-same : (s : Bays (List Cell) Fixed) → live h s ≤ 1 → roomFor a (sumOfOwn s) (blockOf h s) ≡ false
       → below (maxS baySum (mapS (release h) s)) (relocHeader + a) ≡ below (maxS baySum s) (relocHeader + a)
   max-same (last b) n r = go (get h (items b)) (sum-released h b n) r
     where
@@ -83,8 +81,8 @@ module _ (h a : ℕ) where
       ∙ sym (below-max (baySum b) (maxS baySum s) (relocHeader + a))
     where
       go : (o : Option Item) → count h (items b) ≡ often o → baySum (release h b) ≡ baySum b + taken o
-          → roomFor a (Option·getD (orElse (over (λ (i : Item). baySum b) o) (findS (λ (b : List Cell). over (λ (i : Item). baySum b) (get h (items b))) s)) 0) (orElse o (block s)) ≡ false
-          → (roomFor a (sumOfOwn s) (block s) ≡ false → below (maxS baySum (mapS (release h) s)) (relocHeader + a) ≡ below (maxS baySum s) (relocHeader + a))
+          → roomFor a (Option·getD (orElse (over (λ (i : Item). baySum b) o) (findS (λ (b : List Cell). over (λ (i : Item). baySum b) (get h (items b))) s)) 0) (orElse o (blockOf h s)) ≡ false
+          → (roomFor a (sumOfOwn s) (blockOf h s) ≡ false → below (maxS baySum (mapS (release h) s)) (relocHeader + a) ≡ below (maxS baySum s) (relocHeader + a))
           → below (baySum (release h b)) (relocHeader + a) && below (maxS baySum (mapS (release h) s)) (relocHeader + a) ≡ below (baySum b) (relocHeader + a) && below (maxS baySum s) (relocHeader + a)
       go none c q r f = ap₂ _&&_ (sum-same b none q refl) (f r)
       go (some i) c q r f = ap₂ _&&_ (sum-same b (some i) q r) (ap (λ (k : ℕ). below k (relocHeader + a)) (max-absent s (omega (arith, c, n))))
@@ -94,10 +92,10 @@ module _ (h a : ℕ) where
       → Missing (below (Option·getD (findS (λ (b : List Cell). over (λ (i : Item). baySum b) (get h (items b))) s) 0) (a - length (e .bytes)) && below (maxS baySum s) (relocHeader + a)) (resizeIn h a e s)
   resize-missing e s n q =
       subst (λ (t : Bool). Missing t (resizeIn h a e s))
-      (same (roomFor a (sumOfOwn s) (block s)) refl ∙ ap (λ (o : Option Item). not (roomFor a (sumOfOwn s) o) && below (maxS baySum s) (relocHeader + a)) q)
+      (same (roomFor a (sumOfOwn s) (blockOf h s)) refl ∙ ap (λ (o : Option Item). not (roomFor a (sumOfOwn s) o) && below (maxS baySum s) (relocHeader + a)) q)
       (else-missing (own-missing s n) (low-missing baySum (itemSize (resized a e)) (put (resized a e)) (mapS (release h) s)))
     where
-      same : (t : Bool) → roomFor a (sumOfOwn s) (block s) ≡ t
+      same : (t : Bool) → roomFor a (sumOfOwn s) (blockOf h s) ≡ t
           → not t && below (maxS baySum (mapS (release h) s)) (itemSize (resized a e)) ≡ not t && below (maxS baySum s) (relocHeader + a)
       same true r = refl
       same false r = ap (λ (k : ℕ). below (maxS baySum (mapS (release h) s)) (relocHeader + k)) (length-sized a (e .bytes)) ∙ max-same s n r

@@ -130,7 +130,7 @@ pub record Same (o : Out (List Cell)) (p : Out Bay) : Type 0 where
   pub answer : Alike (o .answer) (p .answer)
   pub next : Matches (o .next) (p .next)
 
-equal : {a b : Answer} → a ≡ b → Alike a b
+pub equal : {a b : Answer} → a ≡ b → Alike a b
 equal e = record {
   number = ap (λ (x : Answer). x .number) e;
   value = ap (λ (x : Answer). x .value) e;
