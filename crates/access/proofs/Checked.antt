@@ -14,7 +14,7 @@ use Rattle.format.specs.WellFormed.{wellFormed, zoneOf, lengthField, firstField
 use Rattle.format.specs.Steps.{Fields}
 use Rattle.format.proofs.Bool.{and-left}
 use Rattle.format.proofs.Header.{header-facts}
-use Rattle.format.proofs.Walk.{slice-take}
+use Rattle.bigendian.proofs.Parts.{slice-take}
 use Rattle.structure.specs.Structure.{decode, len}
 use Rattle.structure.proofs.Table.{whole, len-is}
 use Rattle.structure.specs.IsZone.{IsZone, is-zone}

@@ -14,9 +14,11 @@ use Rattle.format.specs.WellFormed.{firstField, mastersField, chainField, isMas
 use Rattle.format.proofs.Bool.{not-both}
 use Rattle.format.proofs.Masters.{is-master}
 use Rattle.format.proofs.Count.{all-at}
-use Rattle.format.proofs.Live.{handles, live-of, live-high, handles-high}
+use Rattle.format.proofs.Live.{live-of, live-high}
+use Rattle.format.proofs.Handles.{handles, handles-high}
 use Rattle.structure.specs.Structure.{placeOf, decodeZone, decodeBlock}
-use Rattle.structure.proofs.Table.{Whole, places, start-is}
+use Rattle.structure.proofs.Table.{Whole, start-is}
+use Rattle.structure.proofs.Decoded.{places}
 use Rattle.structure.proofs.Back.{master-of}
 use Rattle.access.specs.Edit.{placeIn}
 use Rattle.structure.specs.IsZone.{IsZone}

@@ -13,18 +13,17 @@ use Rattle.block_type.specs.Limits.{fixedHeader, fixedNeed, fixedLimit}
 use Rattle.format.specs.WellFormed.{firstField}
 use Rattle.structure.specs.Structure.{Structure, start, len, decodeZone, encode}
 use Rattle.calls.specs.Calls.{told, allocate-fixed}
-use Rattle.calls.specs.Bays.{Bays, maxS}
+use Rattle.calls.specs.Bays.{maxS}
 use Rattle.calls.specs.State.{Fixed, pointer}
 use Rattle.calls.specs.Table.{cause, first, order, refusalOf}
-use Rattle.bay.specs.Bay.{Cell, baySum, takeHigh}
-use Rattle.zone.specs.Group.{group}
+use Rattle.bay.specs.Bay.{baySum, takeHigh}
 use Rattle.zone.specs.Work.{facts}
 use Rattle.zone.specs.Call.{result, call}
-use Rattle.bays.specs.Places.{BayN, bayN, baysAt, highBay}
+use Rattle.bays.specs.Places.{BayN, bayN, baysAt, highBay, baysOf}
 use Rattle.bays.proofs.High.{high-is, high-found}
 use Rattle.bay_end.proofs.Found.{zone-tiled, zone-high}
 use Rattle.call_laws.specs.Frame.{zoneAt, Does, PlannedIn, refuses, goes, Planned}
-use Rattle.call_laws.proofs.Outcome.{none-lent}
+use Rattle.bigendian.proofs.Bytes.{bytes-none}
 use Rattle.call_laws.proofs.Frame.{frame-ready, frame-done}
 use Rattle.allocate_fixed.specs.Placed.{room, placed, Site}
 use Rattle.allocate_fixed.specs.Ready.{ReadyIn}
@@ -33,11 +32,8 @@ use Rattle.structure.specs.IsZone.{IsZone}
 
 -- ---- the refusals
 
-abbrev bays : List ℕ → Bays (List Cell) Fixed
-bays z = group (start (decodeZone z)) (decodeZone z .blocks)
-
 -- by whether c is small, and whether a bay reaches the need
-number-of : (z : List ℕ) (c : ℕ) (t u : Bool) → leb c fixedLimit ≡ t → leb (fixedNeed c) (maxS baySum (bays z)) ≡ u
+number-of : (z : List ℕ) (c : ℕ) (t u : Bool) → leb c fixedLimit ≡ t → leb (fixedNeed c) (maxS baySum (baysOf (decodeZone z))) ≡ u
     → (buf : ℕ) → refusalOf (allocate-fixed c) (facts true (zoneAt buf z)) ≡ cond t (cond u 0 5) 3
 number-of z c t u et eu buf = ap₂ (λ (a b : Bool). first order (cause 1 false ∷ cause 3 (not a) ∷ cause 5 (not b) ∷ [])) et eu ∙ go t u
   where
@@ -56,18 +52,18 @@ module _ (z : List ℕ) (i : IsZone z) (first : ℕ) (ef : first ≡ firstField 
   abbrev d : Structure
   d = decodeZone z
 
-  numbers : bayN f a e sum tail ≡ highBay need (start d) (bays z)
+  numbers : bayN f a e sum tail ≡ highBay need (start d) (baysOf (decodeZone z))
   numbers = zone-high z i first ef need _ q
 
-  reach : (t : Bool) → f ≡ t → leb (fixedNeed c) (maxS baySum (bays z)) ≡ t
-  reach t x = ap (λ (n : ℕ). leb n (maxS baySum (bays z))) (sym en) ∙ sym (high-is need (start d) (bays z)) ∙ sym (ap (λ (n : BayN). n .found) numbers) ∙ x
+  reach : (t : Bool) → f ≡ t → leb (fixedNeed c) (maxS baySum (baysOf (decodeZone z))) ≡ t
+  reach t x = ap (λ (n : ℕ). leb n (maxS baySum (baysOf (decodeZone z)))) (sym en) ∙ sym (high-is need (start d) (baysOf (decodeZone z))) ∙ sym (ap (λ (n : BayN). n .found) numbers) ∙ x
 
   pub in-0 : (number : ℕ) → number ≡ 0 → f ≡ true → PlannedIn (allocate-fixed c) z number (ReadyIn z c need a e sum tail)
   in-0 number qn t =
       goes qn (record {
         need-is = en;
         passed = number-of z c true true (le-leb c fixedLimit l) (reach true t);
-        site = record { zone = i; found = high-found need (len d) (takeHigh need) f a e sum tail t (bays z) (start d) (zone-tiled z i first ef) numbers; low = omega arith; four = omega arith; high = omega arith };
+        site = record { zone = i; found = high-found need (len d) (takeHigh need) f a e sum tail t (baysOf (decodeZone z)) (start d) (zone-tiled z i first ef) numbers; low = omega arith; four = omega arith; high = omega arith };
       })
 
   pub in-5 : (number : ℕ) (R : Type 0) → number ≡ 5 → f ≡ false → PlannedIn (allocate-fixed c) z number R
@@ -99,4 +95,4 @@ module _ (s : List ℕ) (c number l need a e sum tail : ℕ) (p : Planned (alloc
   call-word = record { fits = omega (arith, ask-end (take l s) need a e sum tail call-site) }
 
   pub call-end : (y : List ℕ) → ((i : ℕ) → Fits w8 (getD s i 0)) → y ≡ encode (placed need (decodeZone (take l s))) → result (told 0 (e - need + fixedHeader)) (y ++ drop l s) ≡ call (allocate-fixed c) s
-  call-end y g q = frame-done (allocate-fixed c) s number l _ p g z (does (take l s) (length s) c need a e sum tail r) none-lent refl y q
+  call-end y g q = frame-done (allocate-fixed c) s number l _ p g z (does (take l s) (length s) c need a e sum tail r) bytes-none refl y q

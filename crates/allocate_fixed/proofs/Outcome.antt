@@ -25,7 +25,8 @@ use Rattle.zone.proofs.Places.{Tiled, tile-last, tile-more}
 use Rattle.zone.proofs.Found.{high-found}
 use Rattle.zone.proofs.Walk.{each-got}
 use Rattle.zone.proofs.Run.{well-whole}
-use Rattle.call_laws.proofs.Outcome.{step, none-lent}
+use Rattle.call_laws.proofs.Outcome.{step}
+use Rattle.bigendian.proofs.Bytes.{bytes-none}
 use Rattle.call_laws.proofs.Accepted.{Accepted, accepted, cleared, answered, after}
 use Rattle.call_laws.proofs.Named.{size-there, view-there}
 
@@ -92,7 +93,7 @@ module _ (s : List ℕ) (c : ℕ) (y : Bytes s) (e : (call (allocate-fixed c) s)
   held = ap (over (λ (x : Fixed). x .bytes)) (stands .found) ∙ ap some (stands .zeros)
 
   tell : (b : ℕ → Call) → asked c s b ≡ (step (b (pointer (r .0))) (withBays (r .1) z)) .answer
-  tell b = ap (λ (g : Answer). (call (b (g .value)) ((call (allocate-fixed c) s) .bytes)) .answer) (answered a y) ∙ after a y none-lent (b (pointer (r .0)))
+  tell b = ap (λ (g : Answer). (call (b (g .value)) ((call (allocate-fixed c) s) .bytes)) .answer) (answered a y) ∙ after a y bytes-none (b (pointer (r .0)))
 
   long : length zs ≡ need - fixedHeader
   long = length-replicate (need - fixedHeader) 0

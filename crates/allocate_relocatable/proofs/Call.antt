@@ -18,7 +18,7 @@ use Rattle.zone.specs.Call.{result, call}
 use Rattle.bays.specs.Places.{baysOf}
 use Rattle.place.specs.Fit.{blank}
 use Rattle.call_laws.specs.Frame.{Does, Planned}
-use Rattle.call_laws.proofs.Outcome.{none-lent}
+use Rattle.bigendian.proofs.Bytes.{bytes-none}
 use Rattle.call_laws.proofs.Frame.{frame-ready, frame-done}
 use Rattle.allocate_relocatable.specs.Ready.{allocated, GoingIn, ReadyIn}
 use Rattle.allocate_relocatable.proofs.Placed.{below-end}
@@ -51,4 +51,4 @@ module _ (s : List ℕ) (c number l need h next a e at n : ℕ) (t : Bool)
       }
 
   pub call-end : (y : List ℕ) → ((i : ℕ) → Fits w8 (getD s i 0)) → y ≡ encode (allocated need (decodeZone (take l s))) → result (told 0 h) (y ++ drop l s) ≡ call (allocate-relocatable c) s
-  call-end y g q = frame-done (allocate-relocatable c) s number l _ p g z does none-lent refl y q
+  call-end y g q = frame-done (allocate-relocatable c) s number l _ p g z does bytes-none refl y q

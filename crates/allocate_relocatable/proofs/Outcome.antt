@@ -23,7 +23,8 @@ use Rattle.zone.proofs.Found.{low-found as total-low}
 use Rattle.zone.proofs.Walk.{each-got}
 use Rattle.zone.proofs.Handles.{occurs, occurs-once}
 use Rattle.zone.proofs.Run.{well-whole}
-use Rattle.call_laws.proofs.Outcome.{step, none-lent}
+use Rattle.call_laws.proofs.Outcome.{step}
+use Rattle.bigendian.proofs.Bytes.{bytes-none}
 use Rattle.call_laws.proofs.Accepted.{Accepted, accepted, cleared, answered, after}
 use Rattle.call_laws.proofs.Named.{size-there, view-there}
 use Rattle.call_laws.proofs.Placed.{low-found}
@@ -70,7 +71,7 @@ module _ (s : List ℕ) (c : ℕ) (y : Bytes s) (e : (call (allocate-relocatable
       ap (over (λ (i : Item). i .bytes)) (each-got {Q = λ (u : Bays (List Cell) Fixed). findS (λ (b : List Cell). get h (items b)) u ≡ some i} (total-low baySum (itemSize i) (put i) (z .bays)) need (low-found i (z .bays) fresh))
 
   tell : (b : ℕ → Call) → asked c s b ≡ (step (b h) next) .answer
-  tell b = ap (λ (g : Answer). (call (b (g .value)) ((call (allocate-relocatable c) s) .bytes)) .answer) (answered a y) ∙ after a y none-lent (b h)
+  tell b = ap (λ (g : Answer). (call (b (g .value)) ((call (allocate-relocatable c) s) .bytes)) .answer) (answered a y) ∙ after a y bytes-none (b h)
 
   long : length (i .bytes) ≡ up4 c
   long = length-replicate (up4 c) 0

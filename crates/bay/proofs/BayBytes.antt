@@ -1,11 +1,11 @@
 -- A bay and its bytes: the bytes of cells say the cells, and a walk meets them block by block.
 use mathlib.Core.Path.{_≡_, refl, sym, ap, ap₂, _∙_}
 use mathlib.Core.List.{List, [], _∷_, _++_, append-assoc, append-nil}
-use Prim.Native.Nat.{ℕ, zero, suc, _+_, _-_, _<_, _≤_}
+use Prim.Native.Nat.{ℕ, zero, suc, _+_, _<_, _≤_, _-_, _/_}
 use native.Mathlib.Omega.{arith}
-use lib.ListN.{length, take, drop, replicate, length-append, length-drop, drop-of-length-le}
-use lib.Seq.{drop-drop, take-at, drop-at}
-use Rattle.block_type.specs.Limits.{smallestBlock}
+use lib.ListN.{length, take, drop, length-append, length-drop, drop-of-length-le, replicate}
+use lib.Seq.{drop-drop, take-at, drop-at, take-take, drop-append-add}
+use Rattle.block_type.specs.Limits.{smallestBlock, freeHeader}
 use Rattle.format.specs.WellFormed.{typeOf, sizeOf}
 use Rattle.format.proofs.Walk.{blocks-cons, blocks-nil, kind-take, size-take}
 use Rattle.kinds.specs.Kinds.{Item}
@@ -13,12 +13,9 @@ use Rattle.bay.specs.Bay.{Cell, free, held, cellSize, baySize, gap, pack
 use Rattle.bay.specs.Bytes.{encodeCell}
 use Rattle.bay.specs.Sound.{bytesOf, cellsOf, Sound1, Sound, IsBay, is-bay, cellAt, Stepped}
 use Rattle.bay.proofs.CellBytes.{Enc, enc}
-
--- the zeros of a free block, less some
-pub drop-zeros : (k n : ℕ) → drop {A = ℕ} k (replicate n 0) ≡ replicate (n - k) 0
-drop-zeros zero n = let e : n - 0 ≡ n = omega arith in rw e
-drop-zeros (suc k) zero = let e : 0 - suc k ≡ 0 = omega arith in rw e
-drop-zeros (suc k) (suc n) = let e : suc n - suc k ≡ n - k = omega arith in rw e (drop-zeros k n)
+use Rattle.bigendian.proofs.Parts.{drop-zeros, take-zeros, drop-take}
+use Rattle.bigendian.specs.BigEndian.{toBE, slice}
+use Rattle.bigendian.proofs.Laws.{length-toBE}
 
 -- ---- a block in front
 
@@ -119,3 +116,13 @@ pub packed-bytes : (es : List Item) (t : List Cell) → bytesOf (packed es t) �
 unfolding bytesOf
 packed-bytes [] t = refl
 packed-bytes (e ∷ es) t = rw (packed-bytes es t) (sym (append-assoc (encodeCell (held e)) (bytesOf (packed es [])) (bytesOf t)))
+
+-- a free block is zero behind its header
+pub free-zeros : (z : List ℕ) (at n i k : ℕ) → slice z at n ≡ encodeCell (free n) → freeHeader ≤ i → i + k ≤ n → slice z (at + i) k ≡ replicate k 0
+free-zeros z at n i k e h l =
+    let t = toBE 4 (n / 2) in
+    let lt = length-toBE 4 (n / 2) in
+    let j : i ≡ length t + (i - freeHeader) = omega arith in
+    let d : drop i (encodeCell (free n)) ≡ replicate (n - freeHeader - (i - freeHeader)) 0 =
+    ap (λ (x : ℕ). drop x (encodeCell (free n))) j ∙ drop-append-add t (replicate (n - freeHeader) 0) (i - freeHeader) ∙ drop-zeros (i - freeHeader) (n - freeHeader) in
+    rw (← drop-drop i at z, ← take-take k (n - i) (drop i (drop at z)) (omega arith), ← drop-take i n (drop at z), e, d) (take-zeros k (n - freeHeader - (i - freeHeader)) (omega arith))

@@ -12,6 +12,7 @@ use Rattle.bay.specs.Bay.{Cell, free, held, items, gap, joinBays, releas
 use Rattle.bay.specs.Ends.{endFree, startFree}
 use Rattle.bay.specs.Counted.{count}
 use Rattle.bay.proofs.Sound.{Block, Sound, s-nil, s-end, s-free, s-held}
+use Rattle.bay.proofs.Laws.{gap-one}
 
 -- ---- releasing a handle
 
@@ -19,14 +20,10 @@ free-front : (n : ℕ) → Block n → (e : Item) (cs : List Cell) → gap n (he
 free-front zero b e cs = absurd (omega (arith, b))
 free-front (suc n) b e cs = refl
 
-free-alone : (n : ℕ) → Block n → gap n [] ≡ free n ∷ []
-free-alone zero b = absurd (omega (arith, b))
-free-alone (suc n) b = refl
-
 -- a handle that no block has
 pub release-none : (h : ℕ) {cs : List Cell} → Sound cs → count h (items cs) ≡ 0 → release h cs ≡ cs
 release-none h s-nil q = refl
-release-none h (s-end {n = n} b) q = free-alone n b
+release-none h (s-end {n = n} b) q = gap-one n (omega (arith, b))
 release-none h (s-free {n = n} {e = e} {cs = cs} b s) q = ap (gap n) (release-none h s q) ∙ free-front n b e cs
 release-none h (s-held {e = e} {cs = cs} b s) q = go (is h e) q (λ k. release-none h s k)
   where
@@ -78,7 +75,7 @@ upper (held e ∷ cs) = held e ∷ cs
 
 pub lower-is : {cs : List Cell} → Sound cs → lower cs ++ gap (endFree cs) [] ≡ cs
 lower-is s-nil = refl
-lower-is (s-end {n = n} b) = free-alone n b
+lower-is (s-end {n = n} b) = gap-one n (omega (arith, b))
 lower-is (s-free {n = n} b s) = ap (free n ∷_) (lower-is s)
 lower-is (s-held {e = e} b s-nil) = refl
 lower-is (s-held {e = e} b (s-end c)) = ap (held e ∷_) (lower-is (s-end c))
@@ -87,8 +84,8 @@ lower-is (s-held {e = e} b (s-held c s)) = ap (held e ∷_) (lower-is (s-held c 
 
 pub upper-is : {cs : List Cell} → Sound cs → gap (startFree cs) [] ++ upper cs ≡ cs
 upper-is s-nil = refl
-upper-is (s-end {n = n} b) = ap (_++ []) (free-alone n b)
-upper-is (s-free {n = n} {e = e} {cs = cs} b s) = ap (_++ (held e ∷ cs)) (free-alone n b)
+upper-is (s-end {n = n} b) = ap (_++ []) (gap-one n (omega (arith, b)))
+upper-is (s-free {n = n} {e = e} {cs = cs} b s) = ap (_++ (held e ∷ cs)) (gap-one n (omega (arith, b)))
 upper-is (s-held b s) = refl
 
 gap-is : (n : ℕ) (w : List Cell) → 0 < n → gap n w ≡ free (n + startFree w) ∷ upper w

@@ -51,6 +51,17 @@ items-weld [] t = refl
 items-weld (free n ∷ cs) t = items-gap n (joinBays cs t) ∙ items-weld cs t
 items-weld (held e ∷ cs) t = ap (e ∷_) (items-weld cs t)
 
+pub bsum-gap : (n : ℕ) (cs : List Cell) → baySum (gap n cs) ≡ n + baySum cs
+bsum-gap zero cs = omega arith
+bsum-gap (suc n) [] = refl
+bsum-gap (suc n) (free k ∷ cs) = omega arith
+bsum-gap (suc n) (held e ∷ cs) = refl
+
+pub bsum-weld : (b t : List Cell) → baySum (joinBays b t) ≡ baySum b + baySum t
+bsum-weld [] t = omega arith
+bsum-weld (free n ∷ b) t = omega (arith, bsum-gap n (joinBays b t), bsum-weld b t)
+bsum-weld (held e ∷ b) t = bsum-weld b t
+
 pub bsize-append : (a b : List Cell) → baySize (a ++ b) ≡ baySize a + baySize b
 bsize-append [] b = omega arith
 bsize-append (c ∷ a) b = omega (arith, bsize-append a b)

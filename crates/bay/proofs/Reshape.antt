@@ -14,7 +14,7 @@ use Rattle.calls.specs.State.{total, alter, sized}
 use Rattle.bay.specs.Bay.{Cell, free, held, baySize, baySum, items, gap, packed, resized, inPlace, growHere, reshape}
 use Rattle.bay.specs.Counted.{count}
 use Rattle.bay.specs.Ends.{startFree, pastStart}
-use Rattle.bay.proofs.Laws.{items-append, bsize-split}
+use Rattle.bay.proofs.Laws.{items-append, bsize-split, gap-one}
 use Rattle.bay.proofs.Sound.{Sound, s-nil, s-end, s-free, s-held}
 use Rattle.bay.proofs.Choice.{packed-is, here-after, at-handle, grows-in-place}
 use Rattle.bay.proofs.Resize.{length-sized, get-none, alter-none}
@@ -29,13 +29,9 @@ gap-apart : (n : ℕ) {k : ℕ} {cs : List Cell} → Sound (free k ∷ cs) → g
 gap-apart n (s-end b) = sym (append-nil (gap n []))
 gap-apart n (s-free {e = e} {cs = cs} b s) = gap-held n e cs
 
-gap-some : (n : ℕ) (cs : List Cell) → 0 < n → gap n [] ++ cs ≡ free n ∷ cs
-gap-some zero cs l = let x : ⊥ = omega arith in absurd x
-gap-some (suc n) cs l = refl
-
 gap-free : (n k : ℕ) (cs : List Cell) → 0 < k → gap n (free k ∷ cs) ≡ gap (n + k) [] ++ cs
-gap-free zero k cs l = let e : k ≡ 0 + k = omega arith in ap (λ (i : ℕ). free i ∷ cs) e ∙ sym (gap-some (0 + k) cs (omega arith))
-gap-free (suc n) k cs l = sym (gap-some (suc n + k) cs (omega arith))
+gap-free zero k cs l = let e : k ≡ 0 + k = omega arith in ap (λ (i : ℕ). free i ∷ cs) e ∙ sym (ap (_++ cs) (gap-one (0 + k) (omega arith)))
+gap-free (suc n) k cs l = sym (ap (_++ cs) (gap-one (suc n + k) (omega arith)))
 
 pub gap-lead : (n : ℕ) {cs : List Cell} → Sound cs → gap n cs ≡ gap (n + startFree cs) [] ++ pastStart cs
 gap-lead n s-nil = let e : n ≡ n + 0 = omega arith in ap (λ (k : ℕ). gap k []) e ∙ sym (append-nil (gap (n + 0) []))

@@ -1,25 +1,24 @@
 -- The free bytes at the end of a structure become more or fewer: one write there, and one of the length.
 use mathlib.Core.Path.{_≡_, refl, sym, ap, ap₂, _∙_, subst}
-use mathlib.Core.List.{List, [], _∷_, _++_, map, append-assoc, append-nil}
+use mathlib.Core.List.{List, [], _++_, map, append-assoc, append-nil, map-append}
 use mathlib.Core.Bool.{cond}
-use Prim.Native.Nat.{ℕ, zero, suc, _+_, _*_}
+use Prim.Native.Nat.{ℕ, _+_, _*_}
 use native.Mathlib.Omega.{arith}
 use lib.Dec.{eqb}
 use lib.ListN.{length, length-append}
-use Rattle.structure.proofs.ZoneLayout.{lay, write-mid, lay-same}
+use Rattle.structure.proofs.ZoneLayout.{lay, lay-same}
+use Rattle.bigendian.proofs.Overwrite.{write-mid}
 use Rattle.structure.proofs.Append.{sizes-append, place-append, handles-append}
 use Rattle.block_type.specs.Limits.{masterSize, zoneHeader, lengthAt}
 use Rattle.bigendian.specs.BigEndian.{toBE, overwrite}
 use Rattle.bigendian.proofs.Laws.{length-toBE}
 use Rattle.format.proofs.Count.{occurs, offsets}
 use Rattle.bay.specs.Bay.{Cell, gap}
-use Rattle.bay.proofs.Laws.{bsize-gap}
 use Rattle.structure.specs.Structure.{Block, cell, Structure, sizes, count, start, len, headOf, placeOf, nextOf, value, encode, handlesOf}
-use Rattle.structure.proofs.Round.{place-none}
 use Rattle.row.specs.Row.{bytesOf, Sound}
 use Rattle.row.proofs.Laws.{bytes-append, bytes-long, sound-left, sound-right}
 use Rattle.surgery.proofs.Image.{img, encode-img, img-rest, img-same}
-use Rattle.settle.proofs.Cells.{all-sizes}
+use Rattle.structure.proofs.Cells.{gap-handles, gap-sizes, gap-place}
 
 -- another length
 lay-length : (l l′ f m c : ℕ) (vs r : List ℕ) → overwrite (lay l f m c vs r) lengthAt (toBE 4 l′) ≡ lay l′ f m c vs r
@@ -39,28 +38,16 @@ rest n = map cell (gap n [])
 
 -- behind other cells
 pub rest-behind : (pre : List Block) (cs : List Cell) (n : ℕ) → pre ++ (map cell (cs ++ gap n []) ++ []) ≡ (pre ++ map cell cs) ++ rest n
-rest-behind pre cs n = ap (pre ++_) (append-nil (map cell (cs ++ gap n [])) ∙ split cs) ∙ sym (append-assoc pre (map cell cs) (rest n))
-  where
-    split : (cs : List Cell) → map cell (cs ++ gap n []) ≡ map cell cs ++ rest n
-    split [] = refl
-    split (c ∷ cs) = ap (cell c ∷_) (split cs)
-
-no-handle : (n : ℕ) → handlesOf (rest n) ≡ []
-unfolding handlesOf
-no-handle zero = refl
-no-handle (suc n) = refl
-
-pub rest-size : (n : ℕ) → sizes (rest n) ≡ n
-rest-size n = sym (all-sizes (gap n [])) ∙ bsize-gap n [] ∙ omega arith
+rest-behind pre cs n = rw (map-append cell cs (gap n [])) (simp (append-nil, append-assoc))
 
 with-rest : (pre : List Block) (n : ℕ) → length (handlesOf (pre ++ rest n)) ≡ length (handlesOf pre)
-with-rest pre n = ap length (handles-append pre (rest n) ∙ ap (handlesOf pre ++_) (no-handle n) ∙ append-nil (handlesOf pre))
+with-rest pre n = ap length (handles-append pre (rest n) ∙ ap (handlesOf pre ++_) (gap-handles n) ∙ append-nil (handlesOf pre))
 
 place-rest : (pre : List Block) (n h o : ℕ) → placeOf h o (pre ++ rest n) ≡ cond (eqb (occurs h (handlesOf pre)) 0) 0 (placeOf h o pre)
 unfolding occurs
 place-rest pre n h o =
     place-append h o pre (rest n)
-    ∙ ap (λ (x : ℕ). cond (eqb (occurs h (handlesOf pre)) 0) x (placeOf h o pre)) (place-none h (o + sizes pre) (rest n) (ap (occurs h) (no-handle n)))
+    ∙ ap (λ (x : ℕ). cond (eqb (occurs h (handlesOf pre)) 0) x (placeOf h o pre)) (gap-place h (o + sizes pre) n)
 
 -- ---- the structure s ends with p free bytes; with q instead, and other bytes behind it, as many in all
 
@@ -78,7 +65,7 @@ module _ (s : Structure) (pre : List Block) (p q : ℕ) (t t′ : List ℕ) (par
   values h = ap (λ (x : ℕ). x + nextOf h (s .chain)) (ap₂ (placeOf h) starts parts ∙ place-rest pre p h (start s′) ∙ sym (place-rest pre q h (start s′)))
 
   pub lens : len s + q ≡ len s′ + p
-  lens = omega (arith, counts, ap sizes parts, sizes-append pre (rest p), sizes-append pre (rest q), rest-size p, rest-size q)
+  lens = omega (arith, counts, ap sizes parts, sizes-append pre (rest p), sizes-append pre (rest q), gap-sizes p, gap-sizes q)
 
   sound-parts : Sound (pre ++ rest p)
   sound-parts = subst Sound parts so
@@ -91,7 +78,7 @@ module _ (s : Structure) (pre : List Block) (p q : ℕ) (t t′ : List ℕ) (par
       ∙ ap (bytesOf pre ++_) (sym (append-nil (bytesOf (rest p) ++ t))) in
       ap (λ (x : List ℕ). overwrite x (sizes pre) w) old
       ∙ write-mid (bytesOf pre) (bytesOf (rest p) ++ t) w [] (sizes pre) (bytes-long pre (sound-left pre (rest p) sound-parts))
-      (omega (arith, length-append (bytesOf (rest p)) t, length-append (bytesOf (rest q)) t′, bytes-long (rest p) (sound-right pre (rest p) sound-parts), bytes-long (rest q) so′, rest-size p, rest-size q))
+      (omega (arith, length-append (bytesOf (rest p)) t, length-append (bytesOf (rest q)) t′, bytes-long (rest p) (sound-right pre (rest p) sound-parts), bytes-long (rest q) so′, gap-sizes p, gap-sizes q))
       ∙ ap (bytesOf pre ++_) (append-nil w) ∙ sym (append-assoc (bytesOf pre) (bytesOf (rest q)) t′) ∙ ap (_++ t′) (sym (bytes-append pre (rest q)))
 
   pub end-changed : (l : ℕ) → l ≡ len s′ → overwrite (overwrite (encode s ++ t) (start s + sizes pre) (bytesOf (rest q) ++ t′)) lengthAt (toBE 4 l) ≡ encode s′ ++ t′

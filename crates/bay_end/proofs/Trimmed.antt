@@ -4,29 +4,18 @@ use mathlib.Core.List.{List, [], _++_, append-assoc}
 use Prim.Native.Nat.{ℕ, zero, suc, _+_, _-_, _/_, _%_, _≤_}
 use native.Mathlib.Nat.{zero-add}
 use native.Mathlib.Omega.{arith}
-use lib.ListN.{length, take, drop, replicate, length-append, length-take, length-drop, take-append-drop, replicate-append-replicate}
-use lib.Seq.{drop-drop, drop-append-add, length-take-le}
-use Rattle.structure.proofs.ZoneLayout.{write-mid}
+use lib.ListN.{length, take, drop, replicate, length-append, replicate-append-replicate}
+use lib.Seq.{length-take-le}
+use Rattle.bigendian.proofs.Overwrite.{write-mid, write-pad}
 use Rattle.block_type.specs.Limits.{freeHeader}
-use Rattle.bigendian.specs.BigEndian.{toBE, slice, overwrite}
+use Rattle.bigendian.specs.BigEndian.{toBE, overwrite}
 use Rattle.bigendian.proofs.Laws.{length-toBE}
-use Rattle.format.proofs.Walk.{drop-take}
-use Rattle.bay.specs.Bay.{free, gap}
-use Rattle.bay.specs.Bytes.{encodeCell}
+use Rattle.bay.specs.Bay.{gap}
 use Rattle.bay.specs.Sound.{bytesOf}
-use Rattle.bay.proofs.BayBytes.{gap-some}
+use Rattle.bay.proofs.BayBytes.{gap-some, free-zeros}
 use Rattle.bay_end.specs.Taken.{trimmed, FreeEnd}
 
 -- ---- writes
-
--- what stands behind a write may be counted to it
-write-pad : (z u v : List ℕ) (at k n : ℕ) → k ≡ at + length u → slice z k n ≡ v → k + n ≤ length z → overwrite z at u ≡ overwrite z at (u ++ v)
-write-pad z u v at k n e ev l =
-    let lv : length v ≡ n = rw (← ev) (simp (length-take, length-drop) (omega arith)) in
-    let f : at + length (u ++ v) ≡ k + n = rw length-append (omega arith) in
-    let s : drop (at + length u) z ≡ v ++ drop (k + n) z =
-    sym (take-append-drop n (drop (at + length u) z)) ∙ (rw (← e, ev, drop-drop)) in
-    rw (s, f) (simp append-assoc)
 
 regroup : {A : Type 0} (a g x t d : List A) → (a ++ (g ++ (x ++ t))) ++ d ≡ (a ++ g) ++ (x ++ (t ++ d))
 regroup a g x t d = simp append-assoc
@@ -43,15 +32,6 @@ write-in z g x y t at o l eo lx =
     ∙ ap (λ (k : ℕ). (take at z ++ (g ++ (y ++ t))) ++ drop (at + k) z) q
 
 -- ---- a free block
-
--- zeros behind its header
-free-zeros : (z : List ℕ) (at n : ℕ) → slice z at n ≡ encodeCell (free n) → freeHeader ≤ n → slice z (at + freeHeader) (n - freeHeader) ≡ replicate (n - freeHeader) 0
-free-zeros z at n e l =
-    let t = toBE 4 (n / 2) in
-    let j : freeHeader ≡ length t + 0 = omega (arith, length-toBE 4 (n / 2)) in
-    let d : drop freeHeader (encodeCell (free n)) ≡ replicate (n - freeHeader) 0 =
-    ap (λ (x : ℕ). drop x (encodeCell (free n))) j ∙ drop-append-add t (replicate (n - freeHeader) 0) 0 in
-    rw (← drop-drop freeHeader at z, ← drop-take freeHeader n (drop at z), e, d)
 
 four-zeros : (n : ℕ) → freeHeader ≤ n → replicate n 0 ≡ toBE 4 0 ++ replicate (n - freeHeader) 0
 unfolding toBE
@@ -72,5 +52,5 @@ module _ (z z₁ : List ℕ) (e k n : ℕ) (x : FreeEnd z e k n) (w : z₁ ≡ o
       let r = k - n in
       let j : r + n - freeHeader ≡ k - freeHeader = omega (arith, x .fits) in
       w ∙ write-pad z (toBE 4 (r / 2)) (replicate (k - freeHeader) 0) (e - k) (e - k + freeHeader) (k - freeHeader) (omega (arith, length-toBE 4 (r / 2)))
-      (free-zeros z (e - k) k (x .bytes) (omega (arith, x .low, x .fits))) (omega (arith, x .order, x .inside, x .low, x .fits))
+      (free-zeros z (e - k) k freeHeader (k - freeHeader) (x .bytes) (omega arith) (omega (arith, x .low, x .fits))) (omega (arith, x .order, x .inside, x .low, x .fits))
       ∙ ap (overwrite z (e - k)) (ap (λ (i : ℕ). toBE 4 (r / 2) ++ replicate i 0) (sym j) ∙ sym (gap-zeros r n (omega (arith, x .four, x .four-k, x .fits)) (x .low)))

@@ -2,7 +2,7 @@
 -- for a need of 0 it is the last bay.
 use mathlib.Core.Path.{_≡_, refl, sym, ap, ap₂, _∙_}
 use mathlib.Core.List.{List, [], _∷_, _++_, map}
-use mathlib.Core.Bool.{Bool, true, false, cond}
+use mathlib.Core.Bool.{Bool, true, false, cond, _||_}
 use Prim.Native.Nat.{ℕ, _+_, _≤_, max}
 use native.Mathlib.Omega.{arith}
 use lib.Dec.{leb, leb·zero}
@@ -18,14 +18,15 @@ use Rattle.bays.specs.Places.{BayN, bayN, noBay, bayAt, fitAt, orBay, hi
 use Rattle.bays.specs.At.{at-last, at-later}
 use Rattle.bays.specs.Found.{FoundHigh, FoundLast}
 use Rattle.bays.proofs.At.{flat-later, tiled-place, tiled-rest, tiled-last, tiled-long, numbers-first, numbers-later}
-use Rattle.bays.proofs.Low.{either, fit-is}
+use Rattle.bays.proofs.Low.{fit-is}
+use Rattle.calls.proofs.Reach.{leb-max}
 
 -- ---- whether there is one
 
-or-is : (u v : BayN) → (orBay u v) .found ≡ cond (u .found) true (v .found)
+or-is : (u v : BayN) → (orBay u v) .found ≡ u .found || v .found
 or-is u v = go (u .found) refl
   where
-    go : (t : Bool) → u .found ≡ t → (cond t u v) .found ≡ cond t true (v .found)
+    go : (t : Bool) → u .found ≡ t → (cond t u v) .found ≡ t || (v .found)
     go true e = e
     go false e = refl
 
@@ -40,8 +41,8 @@ high-is need p (last b) = fit-is need p b
 high-is need p (more b x s) =
     let e : max (maxS baySum s) (baySum b) ≡ max (baySum b) (maxS baySum s) = omega arith in
     or-is (highBay need (x .place + fsize x) s) (fitAt need p b)
-    ∙ ap₂ (λ (t u : Bool). cond t true u) (high-is need (x .place + fsize x) s) (fit-is need p b)
-    ∙ either need (maxS baySum s) (baySum b)
+    ∙ ap₂ _||_ (high-is need (x .place + fsize x) s) (fit-is need p b)
+    ∙ leb-max need (maxS baySum s) (baySum b)
     ∙ ap (leb need) e
 
 -- ---- it is the bay that makes room

@@ -1,11 +1,11 @@
 -- The lowest bay whose sum reaches a need: it is found where there is one, and it is the bay that a call on the bays changes.
-use mathlib.Core.Path.{_≡_, refl, sym, ap, _∙_}
+use mathlib.Core.Path.{_≡_, refl, ap, _∙_}
 use mathlib.Core.List.{List, []}
-use mathlib.Core.Bool.{Bool, true, false, cond}
-use Prim.Native.Nat.{ℕ, _+_, max}
+use mathlib.Core.Bool.{Bool, true, false, cond, _||_}
+use Prim.Native.Nat.{ℕ, _+_}
 use native.Mathlib.Omega.{arith}
 use lib.Dec.{leb}
-use borrow.Author.Tests.{leb-true, leb-false, le-leb, lt-leb}
+use borrow.Author.Tests.{leb-true}
 use Rattle.format.proofs.Bool.{not-both}
 use Rattle.structure.specs.Structure.{Block}
 use Rattle.calls.specs.Bays.{Bays, last, more, onLowest, maxS}
@@ -16,16 +16,9 @@ use Rattle.bays.specs.Places.{BayN, bayN, noBay, bayAt, fitAt, lowBay}
 use Rattle.bays.specs.At.{At, at-last, at-here, at-later}
 use Rattle.bays.specs.Found.{Found}
 use Rattle.bays.proofs.At.{at-within, tiled-rest, numbers-first, numbers-later}
+use Rattle.calls.proofs.Reach.{leb-max}
 
 -- ---- whether there is one
-
-pub either : (n a b : ℕ) → cond (leb n a) true (leb n b) ≡ leb n (max a b)
-either n a b = go (leb n a) (leb n b) refl refl
-  where
-    go : (t u : Bool) → leb n a ≡ t → leb n b ≡ u → cond t true u ≡ leb n (max a b)
-    go true u p q = sym (le-leb n (max a b) (omega (arith, leb-true n a p)))
-    go false true p q = sym (le-leb n (max a b) (omega (arith, leb-true n b q)))
-    go false false p q = sym (lt-leb n (max a b) (omega (arith, leb-false n a p, leb-false n b q)))
 
 pub fit-is : (need p : ℕ) (b : List Cell) → (fitAt need p b) .found ≡ leb need (baySum b)
 fit-is need p b = go (leb need (baySum b))
@@ -36,9 +29,9 @@ fit-is need p b = go (leb need (baySum b))
 
 pub low-is : (need p : ℕ) (s : Bays (List Cell) Fixed) → (lowBay need p s) .found ≡ leb need (maxS baySum s)
 low-is need p (last b) = fit-is need p b
-low-is need p (more b x s) = go (leb need (baySum b)) ∙ ap (cond (leb need (baySum b)) true) (low-is need (x .place + fsize x) s) ∙ either need (baySum b) (maxS baySum s)
+low-is need p (more b x s) = go (leb need (baySum b)) ∙ ap (leb need (baySum b) ||_) (low-is need (x .place + fsize x) s) ∙ leb-max need (baySum b) (maxS baySum s)
   where
-    go : (t : Bool) → (cond t (bayAt p b) (lowBay need (x .place + fsize x) s)) .found ≡ cond t true ((lowBay need (x .place + fsize x) s) .found)
+    go : (t : Bool) → (cond t (bayAt p b) (lowBay need (x .place + fsize x) s)) .found ≡ t || (lowBay need (x .place + fsize x) s) .found
     go true = refl
     go false = refl
 

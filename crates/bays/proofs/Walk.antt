@@ -19,6 +19,8 @@ use Rattle.row.proofs.Laws.{row-end}
 use Rattle.zone.specs.Group.{inFront, group}
 use Rattle.bays.specs.Places.{baysAt, freePart, endFree}
 use Rattle.bays.specs.Read.{at-end, at-fixed, Read}
+use Rattle.zone.proofs.GroupLaws.{front, front-nil}
+use Rattle.bay.proofs.Laws.{bsize-append, bsum-append}
 
 -- ---- the free part of a block
 
@@ -30,27 +32,13 @@ part-no k n e = rw (ne-eqb k freeCode e)
 
 -- ---- cells in front of the first bay
 
-abbrev front : List Cell → Bays (List Cell) Fixed → Bays (List Cell) Fixed
-front a (last b) = last (a ++ b)
-front a (more b x s) = more (a ++ b) x s
-
-front-nil : (s : Bays (List Cell) Fixed) → front [] s ≡ s
-front-nil (last b) = refl
-front-nil (more b x s) = refl
-
 front-one : (a : List Cell) (c : Cell) (s : Bays (List Cell) Fixed) → front a (inFront c s) ≡ front (a ++ c ∷ []) s
 front-one a c (last b) = ap last (sym (append-assoc a (c ∷ []) b))
 front-one a c (more b x s) = ap (λ (d : List Cell). more d x s) (sym (append-assoc a (c ∷ []) b))
 
-size-one : (a : List Cell) (c : Cell) → baySize (a ++ c ∷ []) ≡ baySize a + cellSize c
-size-one [] c = omega arith
-size-one (d ∷ a) c = omega (arith, size-one a c)
-
 sum-one : (a : List Cell) (c : Cell) → baySum (a ++ c ∷ []) ≡ baySum a + freePart c
-sum-one [] (free n) = omega arith
-sum-one [] (held e) = refl
-sum-one (free n ∷ a) c = omega (arith, sum-one a c)
-sum-one (held e ∷ a) c = sum-one a c
+sum-one a (free n) = omega (arith, bsum-append a (free n ∷ []))
+sum-one a (held e) = bsum-append a (held e ∷ [])
 
 end-one : (a : List Cell) (c : Cell) → endFree (a ++ c ∷ []) ≡ freePart c
 end-one [] c = refl
@@ -103,7 +91,7 @@ module _ (z : List ℕ) (p at n k sum tail : ℕ) (st : Stepped z at n) (ek : k 
       record {
         cells = sn .cells ++ i .c ∷ [];
         bays = sn .bays ∙ ap (front (sn .cells)) e ∙ front-one (sn .cells) (i .c) (baysAt z (at + n));
-        place = omega (arith, sn .place, size-one (sn .cells) (i .c), i .bytes);
+        place = omega (arith, sn .place, bsize-append (sn .cells) (i .c ∷ []), i .bytes);
         sum-is = omega (arith, sn .sum-is, sum-one (sn .cells) (i .c), i .part);
         tail-is = sym (end-one (sn .cells) (i .c) ∙ i .part);
       }

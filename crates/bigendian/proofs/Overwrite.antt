@@ -1,12 +1,13 @@
 -- What a write leaves: its length, and the bytes before it, in it and behind it.
-use mathlib.Core.Path.{_≡_, sym, ap, ap₂, _∙_}
-use mathlib.Core.List.{List, _++_, append-assoc}
+use mathlib.Core.Path.{_≡_, refl, sym, ap, ap₂, _∙_}
+use mathlib.Core.List.{List, [], _++_, append-assoc, append-nil}
 use Prim.Native.Nat.{ℕ, _+_, _-_, _≤_}
-use native.Mathlib.Nat.{zero-add, add-assoc}
+use native.Mathlib.Nat.{zero-add, add-zero, add-assoc}
 use native.Mathlib.Omega.{arith}
 use lib.ListN.{length, take, drop, length-append, length-take, length-drop, take-append-drop}
-use lib.Seq.{drop-drop, take-at, take-append-add, drop-append-add, take-append-le, drop-append-le, length-take-le}
+use lib.Seq.{drop-drop, take-at, drop-at, take-take, take-append-add, drop-append-add, take-append-le, drop-append-le, length-take-le}
 use Rattle.bigendian.specs.BigEndian.{slice, overwrite}
+use Rattle.bigendian.proofs.Parts.{slice-take}
 
 pub write-right : (a b src : List ℕ) (p : ℕ) → overwrite (a ++ b) (length a + p) src ≡ a ++ overwrite b p src
 write-right a b src p =
@@ -43,16 +44,6 @@ write-still s at n h =
 pub len-write : (s x y : List ℕ) (p : ℕ) → y ≡ overwrite s p x → p + length x ≤ length s → length y ≡ length s
 len-write s x y p e l = ap length e ∙ write-length s x p l
 
--- two writes, one behind the other
-pub write-write : (s a b : List ℕ) (p : ℕ) → p + length a + length b ≤ length s → overwrite (overwrite s p a) (p + length a) b ≡ overwrite s p (a ++ b)
-write-write s a b p l =
-    let r = drop (p + length a) s in
-    let q : p + length a ≡ length (take p s ++ a) + 0 = omega (arith, length-append (take p s) a, length-take-le p s (omega arith)) in
-    let e : p + length (a ++ b) ≡ p + length a + length b = omega (arith, length-append a b) in
-    ap (λ (i : ℕ). overwrite ((take p s ++ a) ++ r) i b) q
-    ∙ write-right (take p s ++ a) r b 0
-    ∙ (rw (e, zero-add, drop-drop (length b) (p + length a) s) (simp append-assoc))
-
 -- of two writes that do not meet either may be the first
 pub swap : (z x y : List ℕ) (p q : ℕ) → p + length x ≤ q → q ≤ length z → overwrite (overwrite z q y) p x ≡ overwrite (overwrite z p x) q y
 swap z x y p q l u =
@@ -67,3 +58,52 @@ swap z x y p q l u =
     ∙ write-left f (y ++ r) x p m
     ∙ ap (λ (s : List ℕ). g ++ (y ++ s)) (sym (drop-drop (length y) q z) ∙ ap (λ (j : ℕ). drop j (drop q z)) (sym (zero-add (length y))))
     ∙ sym (ap₂ (λ (s : List ℕ) (o : ℕ). overwrite s o y) e k ∙ write-right g (drop q z) y 0)
+
+pub write-none : (s : List ℕ) (i : ℕ) → overwrite s i [] ≡ s
+write-none s i = rw (add-zero, append-nil, take-append-drop)
+
+-- what lies before a write stays
+pub before-write : (s b : List ℕ) (p at : ℕ) → p ≤ at → at ≤ length s → take p (overwrite s at b) ≡ take p s
+before-write s b p at h l =
+    let lt = length-take-le at s l in
+    let e : take p (overwrite s at b) ≡ take p (take at s ++ b) = take-append-le p (take at s ++ b) (drop (at + length b) s) (omega (arith, length-append (take at s) b)) in
+    e ∙ take-append-le p (take at s) b (omega arith) ∙ take-take p at s h
+
+-- a write right behind a write
+pub write-more : (z u v : List ℕ) (at k : ℕ) → k ≡ at + length u → k + length v ≤ length z → overwrite (overwrite z at u) k v ≡ overwrite z at (u ++ v)
+write-more z u v at k e l =
+    let h : at ≤ length z = omega arith in
+    let f : k + length v ≡ at + length (u ++ v) = rw length-append (omega arith) in
+    rw (drop-write z at (k + length v) u (omega arith) l, f, e, take-write z at (length u) u h refl, append-assoc (take at z) u v)
+
+-- a write before one
+pub write-before : (s a b : List ℕ) (p : ℕ) → p + length a + length b ≤ length s → overwrite (overwrite s (p + length a) b) p a ≡ overwrite s p (a ++ b)
+write-before s a b p h =
+    let q = p + length a in
+    let r = drop (q + length b) s in
+    let t : take p (overwrite s q b) ≡ take p s = before-write s b p q (omega arith) (omega arith) in
+    let d : drop q (overwrite s q b) ≡ b ++ r = ap (drop q) (append-assoc (take q s) b r) ∙ drop-at (take q s) (b ++ r) q (length-take-le q s (omega arith)) in
+    let e : p + length (a ++ b) ≡ q + length b = omega (arith, length-append a b) in
+    rw (t, d, e) (simp append-assoc)
+
+-- what stands behind a write may be counted to it
+pub write-pad : (z u v : List ℕ) (at k n : ℕ) → k ≡ at + length u → slice z k n ≡ v → k + n ≤ length z → overwrite z at u ≡ overwrite z at (u ++ v)
+write-pad z u v at k n e ev l =
+    let lv : length v ≡ n = rw (← ev) (simp (length-take, length-drop) (omega arith)) in
+    let f : at + length (u ++ v) ≡ k + n = rw length-append (omega arith) in
+    let s : drop (at + length u) z ≡ v ++ drop (k + n) z =
+    sym (take-append-drop n (drop (at + length u) z)) ∙ (rw (← e, ev, drop-drop)) in
+    rw (s, f) (simp append-assoc)
+
+-- an overwrite of x′ over x, where a stands before it
+pub write-mid : (a x x′ r : List ℕ) (p : ℕ) → length a ≡ p → length x ≡ length x′ → overwrite (a ++ (x ++ r)) p x′ ≡ a ++ (x′ ++ r)
+write-mid a x x′ r p e l =
+    let e₁ : p + length x′ ≡ length a + length x = omega arith in
+    rw (take-at a (x ++ r) p e, e₁, drop-append-add a (x ++ r) (length x), drop-at x r (length x) refl) (append-assoc a x′ r)
+
+-- a stretch before a write stays, and one behind it
+pub slice-low : (s x : List ℕ) (p o n : ℕ) → o + n ≤ p → p ≤ length s → slice (overwrite s p x) o n ≡ slice s o n
+slice-low s x p o n l k = sym (slice-take (overwrite s p x) p o n l) ∙ ap (λ (y : List ℕ). slice y o n) (before-write s x p p (omega arith) k) ∙ slice-take s p o n l
+
+pub slice-high : (s x : List ℕ) (p o n : ℕ) → p + length x ≤ o → o ≤ length s → slice (overwrite s p x) o n ≡ slice s o n
+slice-high s x p o n l k = ap (take n) (drop-write s p o x l k)

@@ -11,7 +11,7 @@ use lib.Seq.{drop-drop, length-take-le}
 use Rattle.block_type.specs.Limits.{freeHeader}
 use Rattle.bigendian.specs.BigEndian.{toBE, slice, overwrite}
 use Rattle.bigendian.proofs.Laws.{length-toBE}
-use Rattle.bigendian.proofs.Overwrite.{write-right, write-write}
+use Rattle.bigendian.proofs.Overwrite.{write-right, write-more}
 use Rattle.structure.specs.Structure.{encodeBlock, cell}
 use Rattle.bay.specs.Bay.{free}
 use Rattle.blank.specs.Between.{Hole, nothing, zeros, Between}
@@ -22,8 +22,7 @@ unfolding encodeBlock
 blank-law z y₁ y₂ from to l u e₁ e₂ =
     let q : to - (from + freeHeader) ≡ to - from - freeHeader = omega arith in
     let n = length-toBE 4 ((to - from) / 2) in
-    let i : from + freeHeader ≡ from + length (toBE 4 ((to - from) / 2)) = omega arith in
-    e₂ ∙ (rw (e₁, q, i) (write-write z (toBE 4 ((to - from) / 2)) (replicate (to - from - freeHeader) 0) from (simp length-replicate (omega arith))))
+    e₂ ∙ (rw (e₁, q) (write-more z (toBE 4 ((to - from) / 2)) (replicate (to - from - freeHeader) 0) from (from + freeHeader) (omega arith) (simp length-replicate (omega arith))))
 
 -- b zeros over d, of which the a elements before and the c behind are 0
 fill : (d : List ℕ) (a b c : ℕ) → take a d ≡ replicate a 0 → take c (drop (a + b) d) ≡ replicate c 0

@@ -17,7 +17,8 @@ use Rattle.format.proofs.Bool.{and-left, and-right, is-false, not-both}
 use Rattle.format.specs.WellFormed.{headerOk, lengthField, firstField, mastersField, typeOf, sizeOf, handleOf, isFree, isReloc, splitBlocks, isMaster, relocs}
 use Rattle.format.specs.OneWalk.{links, typeRule, freeRule, relocRule, blockOk, blocksOk, ruleOf}
 use Rattle.format.proofs.Masters.{is-master}
-use Rattle.format.proofs.Walk.{is-first, first-rule, drop-take, turn, stop, end, end-count}
+use Rattle.format.proofs.Walk.{is-first, first-rule, turn, stop, end, end-count}
+use Rattle.bigendian.proofs.Parts.{drop-take}
 use Rattle.format.specs.Steps.{GoodSize}
 
 pub kind-law : (z : List ℕ) (at : ℕ) → getD z at 0 / typeByteUnit ≡ typeOf (drop at z)

@@ -12,7 +12,7 @@ use Rattle.calls.specs.Table.{refusalOf, causes, holdsIn, order}
 use Rattle.calls.proofs.First.{among, clear}
 use Rattle.zone.specs.Work.{facts, work}
 use Rattle.zone.specs.Call.{zoneIn, Result, numberOf, callWith, call}
-use Rattle.call_laws.proofs.Outcome.{step, stepAs, call-of, after-call}
+use Rattle.call_laws.proofs.Outcome.{step, call-of, after-call, step-work}
 
 pub record Accepted (c : Call) (s : List ℕ) : Type 0 where
   pub well : wellFormed s ≡ true
@@ -41,8 +41,8 @@ module _ {c : Call} {s : List ℕ} (a : Accepted c s) where
   pub cleared : (n : ℕ) → among n order ≡ true → holdsIn n (causes c (facts true (zoneIn s))) ≡ false
   cleared n m = clear (causes c (facts true (zoneIn s))) n m (a .passed)
 
-  is-work : step c (zoneIn s) ≡ work c (zoneIn s)
-  is-work = ap (λ (n : ℕ). stepAs n c (zoneIn s)) (a .passed)
+  abbrev is-work : step c (zoneIn s) ≡ work c (zoneIn s)
+  is-work = step-work c (zoneIn s) (a .passed)
 
   module _ (y : Bytes s) where
     -- what it answers, and what any call answers before it

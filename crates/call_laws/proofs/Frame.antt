@@ -21,7 +21,7 @@ use Rattle.zone.specs.Work.{facts, work}
 use Rattle.zone.specs.Call.{zoneIn, result, replacing, callWith, call}
 use Rattle.zone.proofs.Keep.{Whole, len-line}
 use Rattle.call_laws.specs.Frame.{zoneAt, Does, PlannedIn, refuses, goes, Planned, refusal, ready}
-use Rattle.call_laws.proofs.Outcome.{step, stepAs, call-of, next-whole}
+use Rattle.call_laws.proofs.Outcome.{step, call-of, next-whole, step-work}
 use Rattle.access.proofs.Checked.{bytes-of, has-zone}
 
 -- ---- the plan
@@ -90,7 +90,7 @@ module _ (c : Call) (s : List ℕ) (number l : ℕ) (R : Type 0) (p : Planned c 
 
     worked : step c (zoneIn s) ≡ work c (zoneIn s)
     unfolding decode
-    worked = ap (λ (n : ℕ). stepAs n c (zoneIn s)) (m .passed)
+    worked = step-work c (zoneIn s) (m .passed)
 
     written : call c s ≡ result a (replacing s (decode s) u)
     unfolding decode

@@ -2,5 +2,4 @@ pub mod Outcome
 pub mod Accepted
 pub mod Frame
 pub mod Named
-pub mod Sums
 pub mod Placed

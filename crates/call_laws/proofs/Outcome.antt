@@ -1,7 +1,7 @@
 -- A call on a well-formed buffer: the equations that a call's proof ends with, and what stands in the buffer after it.
 use mathlib.Core.Path.{_≡_, refl, sym, ap, _∙_, subst}
 use mathlib.Core.Bool.{true, false, cond}
-use mathlib.Core.List.{List, [], _++_}
+use mathlib.Core.List.{List, _++_}
 use Prim.Native.Nat.{ℕ, zero, suc, _-_, max}
 use native.Mathlib.Omega.{arith}
 use lib.ListN.{drop, replicate}
@@ -28,9 +28,9 @@ stepAs n c z = cond (eqb n 0) (work c z) (says (refused c n) z)
 abbrev pub step : Call → Zone → Out (List Cell)
 step c z = stepAs (refusalOf c (facts true z)) c z
 
--- no second buffer is lent
-pub none-lent : Bytes []
-none-lent i = omega arith
+-- nothing refuses it
+pub step-work : (c : Call) (z : Zone) → refusalOf c (facts true z) ≡ 0 → step c z ≡ work c z
+step-work c z e = ap (λ (n : ℕ). stepAs n c z) e
 
 -- what is known of a zone after a call, refused or not
 module _ (c : Call) (f : Bytes (secondOf (beside c))) (z : Zone) (w : Whole z) where

@@ -22,8 +22,8 @@ use Rattle.zone.proofs.GroupLaws.{flatten-group}
 use Rattle.bays.proofs.At.{bay-sizes}
 use Rattle.call_laws.specs.Frame.{Does, PlannedIn, goes, Planned}
 use Rattle.access.proofs.Checked.{zone-8}
-use Rattle.format.proofs.Walk.{slice-take}
-use Rattle.call_laws.proofs.Outcome.{none-lent}
+use Rattle.bigendian.proofs.Parts.{slice-take}
+use Rattle.bigendian.proofs.Bytes.{bytes-none}
 use Rattle.call_laws.proofs.Frame.{frame-ready, frame-done}
 use Rattle.compact.specs.Compacted.{largest, compacted}
 use Rattle.compact.specs.Ready.{ReadyIn}
@@ -61,4 +61,4 @@ module _ (s : List ℕ) (number l first : ℕ) (p : Planned compact s number l (
 
   pub call-end : (v : ℕ) (y : List ℕ) → ((i : ℕ) → Fits w8 (getD s i 0)) → v ≡ largest (decodeZone (take l s)) → y ≡ encode (compacted (decodeZone (take l s)))
       → result (told 0 v) (y ++ drop l s) ≡ call compact s
-  call-end v y g ev ey = frame-done compact s number l _ p g z (does (take l s) (length s) v ev) none-lent refl y ey
+  call-end v y g ev ey = frame-done compact s number l _ p g z (does (take l s) (length s) v ev) bytes-none refl y ey

@@ -12,7 +12,8 @@ use Rattle.calls.specs.State.{Fixed}
 use Rattle.bay.specs.Bay.{Cell, items, baySum, gap, packed, compactBay}
 use Rattle.zone.specs.Group.{group}
 use Rattle.zone.specs.Call.{call}
-use Rattle.call_laws.proofs.Outcome.{none-lent, after-bays}
+use Rattle.call_laws.proofs.Outcome.{after-bays}
+use Rattle.bigendian.proofs.Bytes.{bytes-none}
 use Rattle.call_laws.proofs.Accepted.{Accepted, accepted}
 use Rattle.compact.specs.Packed.{Packed, none, rest, then}
 
@@ -33,4 +34,4 @@ pub compact-packed : (s : List ℕ) → Bytes s → (call compact s) .answer .nu
     → AllS Packed (group (start (decode ((call compact s) .bytes))) (decode ((call compact s) .bytes) .blocks))
 compact-packed s y e =
     let a : Accepted compact s = accepted compact s (λ n. refl) refl e in
-    subst (AllS Packed) (sym (after-bays s y (a .well) compact none-lent)) (all-packed (group (start (decode s)) (decode s .blocks)))
+    subst (AllS Packed) (sym (after-bays s y (a .well) compact bytes-none)) (all-packed (group (start (decode s)) (decode s .blocks)))

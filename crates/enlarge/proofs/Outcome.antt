@@ -16,18 +16,18 @@ use Rattle.bay.specs.Bay.{Cell, baySum, gap, joinBays}
 use Rattle.calls.specs.State.{Fixed}
 use Rattle.zone.specs.Call.{zoneIn, Result, call}
 use Rattle.call_laws.specs.Frame.{Planned}
-use Rattle.call_laws.proofs.Outcome.{none-lent}
+use Rattle.bigendian.proofs.Bytes.{bytes-none}
 use Rattle.call_laws.proofs.Accepted.{Accepted, accepted, before, after}
 use Rattle.call_laws.proofs.Frame.{plan-ill, frame-no}
-use Rattle.call_laws.proofs.Sums.{gap-sum, join-sum}
 use Rattle.enlarge.specs.Enlarge.{accepts, lastFree}
 use Rattle.enlarge.specs.Ready.{ReadyIn}
 use Rattle.enlarge.proofs.Call.{plan-9, plan-0, call-idle}
+use Rattle.bay.proofs.Laws.{bsum-gap, bsum-weld}
 
 -- ---- the sum of the bays
 
 grown-sum : (k : ℕ) (s : Bays (List Cell) Fixed) → sumS baySum (onLast (λ (b : List Cell). joinBays b (gap k [])) s) ≡ sumS baySum s + k
-grown-sum k (last b) = omega (arith, join-sum b (gap k []), gap-sum k [])
+grown-sum k (last b) = omega (arith, bsum-weld b (gap k []), bsum-gap k [])
 grown-sum k (more b x s) = omega (arith, grown-sum k s)
 
 -- ---- the call
@@ -44,8 +44,8 @@ enlarged s k y e =
     let a : Accepted (enlarge k) s = accepted (enlarge k) s (λ n. refl) refl e in
     let value : Answer → ℕ = λ b. b .value in
     record {
-      sized = after a y none-lent length-of ∙ ap (λ (b : Answer). told 0 (b .value + k)) (sym (before a y length-of));
-      total = omega (arith, ap value (after a y none-lent sums), ap value (before a y sums), grown-sum k (zoneIn s .bays));
+      sized = after a y bytes-none length-of ∙ ap (λ (b : Answer). told 0 (b .value + k)) (sym (before a y length-of));
+      total = omega (arith, ap value (after a y bytes-none sums), ap value (before a y sums), grown-sum k (zoneIn s .bays));
     }
 
 pub enlarge-none : (s : List ℕ) → Bytes s → left 0 s ≡ s

@@ -15,13 +15,13 @@ use Rattle.bigendian.specs.BigEndian.{slice, toBE, overwrite}
 use Rattle.block_type.specs.Limits.{freeHeader, longestZone, lengthAt}
 use Rattle.format.specs.WellFormed.{firstField}
 use Rattle.format.proofs.Bool.{and-left, and-right}
-use Rattle.format.proofs.Walk.{slice-take}
+use Rattle.bigendian.proofs.Parts.{slice-take}
 use Rattle.structure.specs.Structure.{Block, Structure, sizes, start, len, encodeBlock, join, encode, decodeZone, cell}
 use Rattle.structure.specs.Valid.{Valid, Tiled}
 use Rattle.structure.proofs.Table.{Whole, len-is, encode-zone}
 use Rattle.structure.proofs.Sound.{valid-zone}
 use Rattle.row.specs.Row.{Sound, bytesOf}
-use Rattle.row.proofs.Laws.{low-of, sound-right}
+use Rattle.row.proofs.Laws.{sound-right, sound-four}
 use Rattle.row.proofs.Zone.{valid-sound}
 use Rattle.surgery.proofs.Sound.{tiled-left, tiled-right, tiled-false}
 use Rattle.calls.specs.Calls.{told, enlarge}
@@ -39,12 +39,13 @@ use Rattle.bays.proofs.At.{at-old, at-new}
 use Rattle.bays.proofs.High.{last-found}
 use Rattle.settle.proofs.Cells.{all-sizes, all-sound}
 use Rattle.bay_end.proofs.Found.{zone-tiled, zone-high}
-use Rattle.bay_end.proofs.End.{rest, rest-behind, rest-size, lens, end-changed}
+use Rattle.bay_end.proofs.End.{rest, rest-behind, lens, end-changed}
 use Rattle.call_laws.specs.Frame.{zoneAt, Does}
 use Rattle.enlarge.specs.Enlarge.{accepts, grow, longer, lastFree}
 use Rattle.enlarge.proofs.Last.{solid, solid-is, grow-is}
 use Rattle.structure.specs.IsZone.{IsZone}
 use Rattle.structure.proofs.IsZone.{whole-of}
+use Rattle.structure.proofs.Cells.{gap-sizes}
 
 -- ---- what is accepted
 
@@ -70,11 +71,6 @@ hole-longer : (z g : List ℕ) (a b : ℕ) → b ≤ length z → Hole z a b →
 hole-longer z g a b l (nothing e) = nothing e
 hole-longer z g a b l (zeros k e) =
     zeros k (sym (slice-take (z ++ g) (length z) (a + freeHeader) (b - (a + freeHeader)) (omega arith)) ∙ ap (λ (x : List ℕ). slice x (a + freeHeader) (b - (a + freeHeader))) (take-at z g (length z) refl) ∙ e)
-
-sound-four : (bs : List Block) → Sound bs → sizes bs % 4 ≡ 0
-unfolding sizes
-sound-four [] s = refl
-sound-four (b ∷ bs) s = omega (arith, low-of b (s .0) .1, sound-four bs (s .1))
 
 -- the bytes of n free bytes
 free-bytes : (n : ℕ) → 0 < n → bytesOf (rest n) ++ [] ≡ encodeBlock (cell (free n))
@@ -153,7 +149,7 @@ module _ (z : List ℕ) (i : IsZone z) where
         omega (arith, n .start-is, n .end-is, n .tail-is, bay-size, sizes-append before (map cell (solid b)), all-sizes (solid b))
 
     total : length z ≡ lastFree d + endFree b
-    total = omega (arith, len-zone, is-from, ap sizes parts, sizes-append pre (rest (endFree b)), rest-size (endFree b))
+    total = omega (arith, len-zone, is-from, ap sizes parts, sizes-append pre (rest (endFree b)), gap-sizes (endFree b))
 
     tail-le : h .tail ≤ h .end
     tail-le = let n = found (grow k) .numbers in omega (arith, n .end-is, n .tail-is, bay-size)
@@ -176,7 +172,7 @@ module _ (z : List ℕ) (i : IsZone z) where
 
       sum-four : (endFree b + k) % 4 ≡ 0
       sum-four =
-          let l : endFree b % 4 ≡ 0 = rw rest-size at (sound-four (rest (endFree b)) (sound-right pre (rest (endFree b)) (subst Sound parts (valid-sound d v)))) in
+          let l : endFree b % 4 ≡ 0 = rw gap-sizes at (sound-four (rest (endFree b)) (sound-right pre (rest (endFree b)) (subst Sound parts (valid-sound d v)))) in
           omega (arith, by4 buf (length z + k) k a)
 
       pub between : Between (z ++ g) (lastFree d) (length z) (length (z ++ g)) (length (z ++ g))

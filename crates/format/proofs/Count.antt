@@ -108,6 +108,11 @@ cover n xs e a b h m =
     (sum-full (offsets zoneHeader n) (λ k. occurs k xs) b (sum-occurs (offsets zoneHeader n) xs a ∙ e ∙ sym (length-offsets zoneHeader n)))
     (omega arith)
 
+pub all-of : (P : ℕ → Type 0) (xs : List ℕ) → ((h : ℕ) → 0 < occurs h xs → P h) → All P xs
+unfolding occurs
+all-of P [] f = tt
+all-of P (x ∷ xs) f = (f x (omega (arith, one-same x x refl)), all-of P xs (λ h l. f h (omega arith)))
+
 pub occurs-append : (h : ℕ) (a b : List ℕ) → occurs h (a ++ b) ≡ occurs h a + occurs h b
 unfolding occurs
 occurs-append h [] b = omega arith

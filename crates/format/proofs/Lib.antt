@@ -1,6 +1,8 @@
 pub mod Bool
 pub mod Count
 pub mod Header
+pub mod Handles
+pub mod Chain
 pub mod Live
 pub mod Masters
 pub mod OneWalk

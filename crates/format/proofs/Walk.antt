@@ -3,29 +3,24 @@ use mathlib.Core.Path.{_≡_, refl, sym, ap, _∙_}
 use mathlib.Core.List.{List, [], _∷_}
 use mathlib.Core.Bool.{Bool, true, false}
 use Prim.Native.Nat.{ℕ, zero, suc, _+_, _*_, _-_, _%_, _<_, _≤_}
-use native.Mathlib.Nat.{sub-zero, zero-sub, suc-sub-suc}
-use native.Mathlib.Numerals.{sub-one}
 use native.Mathlib.Omega.{arith}
 use lib.Dec.{eqb, leb}
 use borrow.Author.Tests.{eq-eqb, ne-eqb, leb-true, eqb-true, le-leb}
 use lib.ListN.{length, take, drop, length-take, length-drop, drop-of-length-le}
-use lib.Seq.{take-take, getD-take, drop-drop, take-nil}
+use lib.Seq.{take-take, getD-take, drop-drop}
 use Rattle.block_type.specs.Limits.{typeUnit, smallestBlock, freeCode, tagAt}
-use Rattle.bigendian.specs.BigEndian.{fromBE, slice}
+use Rattle.bigendian.specs.BigEndian.{fromBE}
 use Rattle.format.proofs.Bool.{and-left, and-right}
 pub use Rattle.format.specs.Steps.{Turn}
 use Rattle.format.specs.WellFormed.{typeOf, sizeOf, handleOf, isFree, isReloc, splitFrom, splitBlocks, relocs}
 use Rattle.format.specs.OneWalk.{ruleOf, blockOk, blocksOk}
+use Rattle.bigendian.proofs.Parts.{drop-pred, drop-take}
 
 from-drop : (k : ℕ) (s : List ℕ) → splitFrom k s ≡ splitBlocks (drop k s)
 unfolding splitFrom
 from-drop zero s = refl
 from-drop (suc k) [] = refl
 from-drop (suc k) (x ∷ xs) = from-drop k xs
-
-drop-pred : (n x : ℕ) (xs : List ℕ) → 0 < n → drop n (x ∷ xs) ≡ drop (n - 1) xs
-drop-pred zero x xs h = let e : ⊥ = omega arith in absurd e
-drop-pred (suc n) x xs h = rw sub-one
 
 pub blocks-nil : splitBlocks [] ≡ []
 unfolding splitFrom
@@ -38,12 +33,6 @@ blocks-cons (x ∷ xs) h k =
     ap (λ (t : List (List ℕ)). take (sizeOf (x ∷ xs)) (x ∷ xs) ∷ t)
     (from-drop (sizeOf (x ∷ xs) - 1) xs ∙ ap (λ (t : List ℕ). splitBlocks t) (sym (drop-pred (sizeOf (x ∷ xs)) x xs k)))
 
-pub drop-take : (k n : ℕ) (l : List ℕ) → drop k (take n l) ≡ take (n - k) (drop k l)
-drop-take zero n l = rw sub-zero
-drop-take (suc k) zero l = rw (zero-sub)
-drop-take (suc k) (suc n) [] = sym (take-nil (suc n - suc k))
-drop-take (suc k) (suc n) (x ∷ xs) = rw suc-sub-suc (drop-take k n xs)
-
 -- the size that a header says, of a free block and of another
 pub size-free : (b : List ℕ) → typeOf b ≡ freeCode → sizeOf b ≡ fromBE (take 4 b) * 2
 unfolding sizeOf
@@ -52,9 +41,6 @@ size-free b e = rw e
 pub size-used : (b : List ℕ) (k : ℕ) → typeOf b ≡ suc k → sizeOf b ≡ fromBE (take 2 b) % typeUnit * 2
 unfolding sizeOf
 size-used b k e = rw (e, ne-eqb (suc k) 0 (λ q. omega arith))
-
-pub slice-take : (s : List ℕ) (n k j : ℕ) → k + j ≤ n → slice (take n s) k j ≡ slice s k j
-slice-take s n k j l = rw (drop-take k n s, take-take j (n - k) (drop k s) (omega arith))
 
 -- what a block's header says is the same of the block alone and of the block with what follows
 module _ (n : ℕ) (r : List ℕ) (h : smallestBlock ≤ n) where

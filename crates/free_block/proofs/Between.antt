@@ -18,9 +18,10 @@ use Rattle.structure.proofs.Sound.{valid-zone}
 use Rattle.blank.specs.Between.{Hole, Between}
 use Rattle.free_block.specs.Around.{Around, Freeing}
 use Rattle.free_block.proofs.Hole.{gap-hole}
-use Rattle.free_block.proofs.Parts.{amount, before, after, old-parts, before-sizes, all-sizes-are, block-low, gap-sizes}
+use Rattle.free_block.proofs.Parts.{amount, before, after, old-parts, before-sizes, all-sizes-are, block-low}
 use Rattle.free_block.proofs.Bytes.{freed-plain, master-in, freed-owned}
 use Rattle.structure.proofs.IsZone.{whole-of}
+use Rattle.structure.proofs.Cells.{gap-sizes}
 
 module _ (z : List ℕ) (bs′ : List Block) (b : Block) (from at end to : ℕ) (f : Freeing z bs′ b from at end to) where
   w : Whole z

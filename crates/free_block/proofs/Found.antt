@@ -16,10 +16,9 @@ use Rattle.structure.proofs.Sound.{valid-zone}
 use Rattle.row.specs.Row.{Row, Sound, blocksOf, blockAt, Stepped}
 use Rattle.row.proofs.Laws.{low-of, stepped}
 use Rattle.row.proofs.Zone.{valid-sound}
-use Rattle.settle.proofs.Cells.{all-sizes}
 use Rattle.free_block.specs.Around.{partOf, lastPart, firstPart, Around, Freeing}
 use Rattle.free_block.specs.Walk.{Below, Stopped, Extended}
-use Rattle.free_block.proofs.Parts.{block-low}
+use Rattle.free_block.proofs.Parts.{block-low, lows-sizes}
 use Rattle.structure.specs.IsZone.{IsZone}
 use Rattle.structure.proofs.IsZone.{whole-of}
 
@@ -86,9 +85,6 @@ module _ (z : List ℕ) (i : IsZone z) (first : ℕ) (ef : first ≡ firstField 
   blocks-are : lows ++ rest ≡ s .blocks
   blocks-are = append-assoc (a .pre) (map cell (a .low)) rest ∙ sym (a .old)
 
-  lows-sizes : sizes lows ≡ sizes (a .pre) + baySize (a .low)
-  lows-sizes = omega (arith, sizes-append (a .pre) (map cell (a .low)), all-sizes (a .low))
-
   start-of : first ≡ start s
   start-of = ef ∙ sym (start-is z w)
 
@@ -97,7 +93,7 @@ module _ (z : List ℕ) (i : IsZone z) (first : ℕ) (ef : first ≡ firstField 
   blocks-zone = rw ef
 
   zone-sizes : t + sizes rest ≡ length z
-  zone-sizes = omega (arith, ap sizes blocks-are, sizes-append lows rest, lows-sizes, len-is z w, w .all)
+  zone-sizes = omega (arith, ap sizes blocks-are, sizes-append lows rest, lows-sizes a, len-is z w, w .all)
 
   pub block-fits : t + size b ≤ length z
   unfolding sizes
@@ -107,10 +103,10 @@ module _ (z : List ℕ) (i : IsZone z) (first : ℕ) (ef : first ≡ firstField 
     before-is : p .passed .before ≡ lows
     before-is =
         unique t first lows rest (p .passed .before) (blocksOf (drop at z)) (subst Sound (sym blocks-are) (valid-sound s v)) (blocks-are ∙ sym blocks-zone ∙ p .passed .parts)
-        (omega (arith, lows-sizes, start-of)) (p .passed .below) (omega (arith, p .reached, p .passed .place))
+        (omega (arith, lows-sizes a, start-of)) (p .passed .below) (omega (arith, p .reached, p .passed .place))
 
     stops : at ≡ t
-    stops = omega (arith, p .passed .place, ap sizes before-is, lows-sizes, start-of)
+    stops = omega (arith, p .passed .place, ap sizes before-is, lows-sizes a, start-of)
 
     rest-is : blocksOf (drop at z) ≡ rest
     rest-is = same-rest lows (blocksOf (drop at z)) rest (ap (_++ blocksOf (drop at z)) (sym before-is) ∙ sym (p .passed .parts) ∙ blocks-zone ∙ sym blocks-are)

@@ -8,7 +8,7 @@ use lib.Seq.{drop-drop, drop-at}
 use borrow.Author.Tests.{eq-eqb}
 use Rattle.format.specs.Occurs.{occurs}
 use Rattle.format.proofs.Count.{one-same, occurs-append}
-use Rattle.format.proofs.Walk.{drop-take}
+use Rattle.bigendian.proofs.Parts.{drop-take}
 use Rattle.block_type.specs.Limits.{typeUnit}
 use Rattle.bigendian.specs.BigEndian.{toBE, slice}
 use Rattle.bigendian.proofs.Laws.{length-toBE}
@@ -19,11 +19,11 @@ use Rattle.bay.specs.Bytes.{encodeCell}
 use Rattle.bay.specs.Sound.{bytesOf}
 use Rattle.structure.specs.Structure.{Block, cell, Structure, sizes, start, placeOf, encode, handlesOf}
 use Rattle.structure.specs.Valid.{Valid}
-use Rattle.structure.proofs.Append.{sizes-append, handles-append, place-append}
+use Rattle.structure.proofs.Append.{handles-append, place-append}
 use Rattle.surgery.proofs.Sound.{handle-once}
-use Rattle.settle.proofs.Cells.{all-sizes}
 use Rattle.settle.proofs.Bay.{part-is}
 use Rattle.free_block.specs.Around.{Around}
+use Rattle.free_block.proofs.Parts.{lows-sizes}
 
 -- the data behind a block's header
 data-of : (e : Item) → drop (headerOf e) (encodeCell (held e)) ≡ e .bytes
@@ -42,9 +42,6 @@ module _ (s : Structure) (v : Valid s) {bs′ : List Block} {e : Item} (a : Arou
   parts : s .blocks ≡ lows ++ (cell (held e) ∷ highs)
   parts = a .old ∙ sym (append-assoc (a .pre) (map cell (a .low)) (cell (held e) ∷ highs))
 
-  lows-sizes : sizes lows ≡ sizes (a .pre) + baySize (a .low)
-  lows-sizes = omega (arith, sizes-append (a .pre) (map cell (a .low)), all-sizes (a .low))
-
   not-below : occurs h (handlesOf lows) ≡ 0
   unfolding handlesOf occurs
   not-below =
@@ -62,13 +59,13 @@ module _ (s : Structure) (v : Valid s) {bs′ : List Block} {e : Item} (a : Arou
   its-place =
       ap (placeOf h (start s)) parts
       ∙ place-append h (start s) lows (cell (held e) ∷ highs)
-      ∙ (rw (not-below, eq-eqb h (masterOf e) (sym its)) (omega (arith, lows-sizes)))
+      ∙ (rw (not-below, eq-eqb h (masterOf e) (sym its)) (omega (arith, lows-sizes a)))
 
   pub its-data : slice (encode s) (start s + (sizes (a .pre) + baySize (a .low)) + headerOf e) (length (e .bytes)) ≡ e .bytes
   unfolding bytesOf
   its-data =
       let o = start s + sizes lows in
-      let q : start s + (sizes (a .pre) + baySize (a .low)) + headerOf e ≡ o + headerOf e = omega (arith, lows-sizes) in
+      let q : start s + (sizes (a .pre) + baySize (a .low)) + headerOf e ≡ o + headerOf e = omega (arith, lows-sizes a) in
       let m : o + (itemSize e + 0) - o - headerOf e ≡ length (e .bytes) = omega arith in
       ap₂ (slice (encode s)) q (sym m)
       ∙ ap (take (o + (itemSize e + 0) - o - headerOf e)) (sym (drop-drop (headerOf e) o (encode s)))

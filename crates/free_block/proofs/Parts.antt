@@ -1,11 +1,11 @@
 -- A block that becomes free, in a valid structure: which blocks become one free block, and what stands before and behind it.
-use mathlib.Core.Path.{_≡_, refl, sym, ap, ap₂, _∙_, subst}
-use mathlib.Core.Bool.{Bool, false, false≢true}
-use mathlib.Core.List.{List, [], _∷_, _++_, map, append-assoc, append-nil}
-use Prim.Native.Nat.{ℕ, zero, suc, _+_, _%_, _≤_}
+use mathlib.Core.Path.{_≡_, sym, ap, ap₂, _∙_, subst}
+use mathlib.Core.Bool.{false}
+use mathlib.Core.List.{List, [], _∷_, _++_, map, append-assoc, append-nil, map-append}
+use Prim.Native.Nat.{ℕ, _+_, _≤_}
 use native.Mathlib.Omega.{arith}
 use Rattle.block_type.specs.Limits.{freeHeader}
-use Rattle.bay.specs.Bay.{Cell, free, held, baySize, gap}
+use Rattle.bay.specs.Bay.{Cell, free, baySize, gap}
 use Rattle.bay.specs.Ends.{endFree, startFree}
 use Rattle.bay.proofs.Sound as Sound
 use Rattle.bay.proofs.Free.{lower, upper, lower-is, upper-is, joined-is}
@@ -13,38 +13,16 @@ use Rattle.structure.specs.Structure.{Block, cell, Structure, size, sizes, hand
 use Rattle.structure.specs.Valid.{Tiled, Valid}
 use Rattle.structure.proofs.Append.{sizes-append, handles-append}
 use Rattle.row.specs.Row as Row
-use Rattle.row.proofs.Laws.{low-of, sound-left, sound-right}
+use Rattle.row.proofs.Laws.{low-of, sound-left, sound-right, sound-four}
 use Rattle.row.proofs.Zone.{valid-sound}
 use Rattle.surgery.proofs.Sound.{tiled-right}
 use Rattle.settle.proofs.Cells.{all-sizes}
 use Rattle.free_block.specs.Around.{Around}
+use Rattle.structure.proofs.Cells.{tiled-cells, gap-sizes, gap-handles}
 
-pub map-append : (a b : List Cell) → map cell (a ++ b) ≡ map cell a ++ map cell b
-map-append [] b = refl
-map-append (c ∷ a) b = ap (cell c ∷_) (map-append a b)
-
--- cells that are tiled among blocks are sound
-tiled-cells : (prev : Bool) (cs : List Cell) (r : List Block) → Tiled prev (map cell cs ++ r) → Sound.Sound cs
-tiled-cells prev [] r t = Sound.s-nil
-tiled-cells prev (free n ∷ []) r t = Sound.s-end {n = n} (omega (arith, t .1, t .2))
-tiled-cells prev (free n ∷ (free m ∷ cs)) r t = absurd (false≢true (sym (t .4 .0)))
-tiled-cells prev (free n ∷ (held e ∷ cs)) r t = Sound.s-free {n = n} (omega (arith, t .1, t .2)) (Sound.s-held {e = e} (omega (arith, t .4 .0)) (tiled-cells false cs r (t .4 .3)))
-tiled-cells prev (held e ∷ cs) r t = Sound.s-held {e = e} (omega (arith, t .0)) (tiled-cells false cs r (t .3))
-
-pub gap-sizes : (n : ℕ) → sizes (map cell (gap n [])) ≡ n
-unfolding sizes
-gap-sizes zero = refl
-gap-sizes (suc n) = omega arith
-
-gap-handles : (n : ℕ) → handlesOf (map cell (gap n [])) ≡ []
-unfolding handlesOf
-gap-handles zero = refl
-gap-handles (suc n) = refl
-
-sound-four : (bs : List Block) → Row.Sound bs → sizes bs % 4 ≡ 0
-unfolding sizes
-sound-four [] s = refl
-sound-four (b ∷ bs) s = omega (arith, low-of b (s .0) .1, sound-four bs (s .1))
+-- what stands before the block
+pub lows-sizes : {bs bs′ : List Block} {b : Block} (a : Around bs bs′ b) → sizes (a .pre ++ map cell (a .low)) ≡ sizes (a .pre) + baySize (a .low)
+lows-sizes a = omega (arith, sizes-append (a .pre) (map cell (a .low)), all-sizes (a .low))
 
 module _ (s : Structure) (v : Valid s) {bs′ : List Block} {b : Block} (a : Around (s .blocks) bs′ b) where
   -- what becomes free: the block and its free neighbours
@@ -72,10 +50,10 @@ module _ (s : Structure) (v : Valid s) {bs′ : List Block} {b : Block} (a : Aro
       tiled-cells _ (a .high) (a .post) (tiled-right _ (b ∷ []) (map cell (a .high) ++ a .post) t)
 
   low-cells : map cell (a .low) ≡ map cell (lower (a .low)) ++ map cell (gap (endFree (a .low)) [])
-  low-cells = ap (map cell) (sym (lower-is low-sound)) ∙ map-append (lower (a .low)) (gap (endFree (a .low)) [])
+  low-cells = ap (map cell) (sym (lower-is low-sound)) ∙ map-append cell (lower (a .low)) (gap (endFree (a .low)) [])
 
   high-cells : map cell (a .high) ≡ map cell (gap (startFree (a .high)) []) ++ map cell (upper (a .high))
-  high-cells = ap (map cell) (sym (upper-is high-sound)) ∙ map-append (gap (startFree (a .high)) []) (upper (a .high))
+  high-cells = ap (map cell) (sym (upper-is high-sound)) ∙ map-append cell (gap (startFree (a .high)) []) (upper (a .high))
 
   pub old-parts : s .blocks ≡ before ++ (inside ++ after)
   old-parts =
@@ -90,7 +68,7 @@ module _ (s : Structure) (v : Valid s) {bs′ : List Block} {b : Block} (a : Aro
   new-parts =
       a .new
       ∙ ap (λ (cs : List Cell). a .pre ++ (map cell cs ++ a .post)) (joined-is (size b) (a .high) (omega (arith, block-low)) low-sound)
-      ∙ ap (λ (x : List Block). a .pre ++ (x ++ a .post)) (map-append (lower (a .low)) (free amount ∷ upper (a .high)))
+      ∙ ap (λ (x : List Block). a .pre ++ (x ++ a .post)) (map-append cell (lower (a .low)) (free amount ∷ upper (a .high)))
       ∙ (simp append-assoc)
 
   pub inside-sizes : sizes inside ≡ amount

@@ -21,7 +21,7 @@ use Rattle.free_block.proofs.Between.{freeing-between, freeing-master, freeing-
 use Rattle.calls.specs.Calls.{told, free-handle}
 use Rattle.zone.specs.Call.{result, call}
 use Rattle.call_laws.specs.Frame.{PlannedIn, refuses, goes, Planned}
-use Rattle.call_laws.proofs.Outcome.{none-lent}
+use Rattle.bigendian.proofs.Bytes.{bytes-none}
 use Rattle.call_laws.proofs.Frame.{frame-ready, frame-done}
 use Rattle.free_handle.specs.Ready.{ReadyIn}
 use Rattle.free_handle.proofs.Bays.{no-block, frees}
@@ -70,4 +70,4 @@ module _ (s : List ℕ) (h number l head from at end to : ℕ) (p : Planned (fre
   call-ready = frame-ready (free-handle h) s number l _ p z
 
   pub call-out : (y : List ℕ) → ((i : ℕ) → Fits w8 (getD s i 0)) → y ≡ encode (freed h (decodeZone (take l s))) → result (told 0 0) (y ++ drop l s) ≡ call (free-handle h) s
-  call-out y g q = frame-done (free-handle h) s number l _ p g z (frees (take l s) h (call-ready .freeing .zone) (call-ready .live) (length s)) none-lent refl y q
+  call-out y g q = frame-done (free-handle h) s number l _ p g z (frees (take l s) h (call-ready .freeing .zone) (call-ready .live) (length s)) bytes-none refl y q

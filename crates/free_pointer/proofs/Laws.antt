@@ -34,7 +34,7 @@ use Rattle.free_block.proofs.Around.{around-same}
 use Rattle.free_block.proofs.Found.{here-size, freeing}
 use Rattle.free_block.proofs.Between.{freeing-between, freeing-plain}
 use Rattle.call_laws.specs.Frame.{PlannedIn, refuses, goes, Planned}
-use Rattle.call_laws.proofs.Outcome.{none-lent}
+use Rattle.bigendian.proofs.Bytes.{bytes-none}
 use Rattle.call_laws.proofs.Frame.{frame-ready, frame-done}
 use Rattle.free_pointer.specs.Ready.{freed, ReadyIn}
 use Rattle.free_pointer.proofs.Bays.{Named, named, no-block, found, frees}
@@ -117,5 +117,5 @@ module _ (s : List ℕ) (p number l from at end to : ℕ) (f : Planned (free-poi
 
   pub call-out : (y : List ℕ) → ((i : ℕ) → Fits w8 (getD s i 0)) → y ≡ overwrite (take l s) from (encodeBlock (cell (free (to - from)))) → result (told 0 0) (y ++ drop l s) ≡ call (free-pointer p) s
   call-out y g e =
-      frame-done (free-pointer p) s number l _ f g z (frees (take l s) p (is-ready .live) (length s)) none-lent refl y
+      frame-done (free-pointer p) s number l _ f g z (frees (take l s) p (is-ready .live) (length s)) bytes-none refl y
       (freeing-plain (take l s) _ _ from at end to (is-ready .freeing) none y e)

@@ -21,10 +21,10 @@ use Rattle.zone.specs.Call.{zoneIn, call}
 use Rattle.bay.proofs.Each.{Each, nothing, just, each-weaken}
 use Rattle.zone.proofs.Places.{Tiled, tile-last, tile-more}
 use Rattle.zone.proofs.Run.{well-whole}
-use Rattle.call_laws.proofs.Outcome.{none-lent}
+use Rattle.bigendian.proofs.Bytes.{bytes-none}
 use Rattle.call_laws.proofs.Accepted.{Accepted, accepted, cleared, before, after}
 use Rattle.call_laws.proofs.Named.{size-there, size-gone}
-use Rattle.call_laws.proofs.Sums.{gap-sum, join-sum}
+use Rattle.bay.proofs.Laws.{bsum-gap, bsum-weld}
 
 -- ---- the fixed block is gone
 
@@ -46,8 +46,8 @@ module _ (p : ℕ) where
   joins b n c = joinBays b (gap n c)
 
   here : (b : List Cell) (x : Fixed) (s : Bays (List Cell) Fixed) → find s ≡ none → Without (more b x s) x (joinOver joins b x s)
-  here b x (last c) e = record { gone = refl; more-free = omega (arith, join-sum b (gap (fsize x) c), gap-sum (fsize x) c) }
-  here b x (more c y s) e = record { gone = e; more-free = omega (arith, join-sum b (gap (fsize x) c), gap-sum (fsize x) c) }
+  here b x (last c) e = record { gone = refl; more-free = omega (arith, bsum-weld b (gap (fsize x) c), bsum-gap (fsize x) c) }
+  here b x (more c y s) e = record { gone = e; more-free = omega (arith, bsum-weld b (gap (fsize x) c), bsum-gap (fsize x) c) }
 
   past : (b : List Cell) (x y : Fixed) (s u : Bays (List Cell) Fixed) → eqb p (pointer x) ≡ false → Without s y u → Without (more b x s) y (more b x u)
   past b x y s u k w = record { gone = rw k (w .gone); more-free = omega (arith, w .more-free) }
@@ -85,6 +85,6 @@ module _ (s : List ℕ) (p : ℕ) (y : Bytes s) (e : (call (free-pointer p) s) .
       go (some x) q n (just k) =
           let value : Answer → ℕ = λ a. a .value in
           record {
-            unnamed = after a y none-lent (size (by-pointer p)) ∙ size-gone (withBays (freePointer p (z .bays)) z) (by-pointer p) (ap (over (λ (x : Fixed). x .bytes)) (k .gone));
-            total = omega (arith, ap value (after a y none-lent sums), ap value (before a y sums), ap value (before a y (size (by-pointer p)) ∙ size-there z (by-pointer p) (ap (over (λ (x : Fixed). x .bytes)) q)), k .more-free);
+            unnamed = after a y bytes-none (size (by-pointer p)) ∙ size-gone (withBays (freePointer p (z .bays)) z) (by-pointer p) (ap (over (λ (x : Fixed). x .bytes)) (k .gone));
+            total = omega (arith, ap value (after a y bytes-none sums), ap value (before a y sums), ap value (before a y (size (by-pointer p)) ∙ size-there z (by-pointer p) (ap (over (λ (x : Fixed). x .bytes)) q)), k .more-free);
           }

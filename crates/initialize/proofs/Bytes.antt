@@ -21,14 +21,11 @@ use Rattle.zone.specs.Call.{inLine, Result, result, initializeWith, initialize}
 use Rattle.calls.specs.Table.{Cause, cause, first, order}
 use Rattle.initialize.specs.Fresh.{sizeBytes, headBytes, chainBytes, freeBytes, freshBytes, accepts, Fresh}
 use Rattle.initialize.proofs.Write.{bad-is, accepted, head-long, chain-long, free-long}
+use Rattle.zone.proofs.Handles.{length-handles}
 
 two-zeros : 0 ∷ 0 ∷ [] ≡ toBE 2 0
 unfolding toBE
 two-zeros = refl
-
-handles-long : (h m : ℕ) → length (handlesFrom h m) ≡ m
-handles-long h zero = refl
-handles-long h (suc m) = ap suc (handles-long (h + masterSize) m)
 
 head-handles : (h k : ℕ) → headOf (handlesFrom h k) ≡ cond (eqb k 0) 0 h
 head-handles h zero = refl
@@ -71,7 +68,7 @@ module _ (buf n m : ℕ) (x : Fresh buf n m) where
   u = inLine (fresh buf n m)
 
   count-is : count u ≡ m
-  count-is = omega (arith, no-relocs (n - (zoneHeader + masterSize * m)), handles-long zoneHeader m)
+  count-is = omega (arith, no-relocs (n - (zoneHeader + masterSize * m)), length-handles zoneHeader m)
 
   len-is : len u ≡ n
   len-is = omega (arith, count-is, all-free (n - (zoneHeader + masterSize * m)), x .room)

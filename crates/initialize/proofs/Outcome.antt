@@ -13,16 +13,11 @@ use Rattle.structure.specs.Structure.{encode}
 use Rattle.calls.specs.Calls.{Call, told, toldTwo, check, length-of, sums}
 use Rattle.kinds.specs.Kinds.{Item}
 use Rattle.calls.specs.Table.{refusalOf, badInitialize, first, order}
-use Rattle.bay.specs.Bay.{gap, baySum}
 use Rattle.zone.specs.Work.{Zone, facts, work, fresh}
 use Rattle.zone.specs.Call.{inLine, Result, call, initializeWith, initialize}
-use Rattle.bay.proofs.Laws.{items-gap}
+use Rattle.bay.proofs.Laws.{items-gap, bsum-gap}
 use Rattle.zone.proofs.Initial.{accepted, fresh-whole, fresh-stored}
 use Rattle.zone.proofs.Run.{call-worked}
-
-gap-sum : (k : ℕ) → baySum (gap k []) ≡ k
-gap-sum zero = refl
-gap-sum (suc k) = add-zero (suc k)
 
 pub record New (n m : ℕ) (bs : List ℕ) : Type 0 where
   pub checked : (call check bs) .answer ≡ toldTwo 0 1 0
@@ -43,7 +38,7 @@ init-new n m bs e = go (first order (badInitialize (length bs) n m ∷ [])) refl
     go zero q e = record {
       checked = asked check refl ∙ ap (λ (es : List Item). toldTwo 0 1 (length es)) (items-gap k []);
       sized = asked length-of refl;
-      freed = asked sums refl ∙ ap (λ (i : ℕ). toldTwo 0 i i) (gap-sum k);
+      freed = asked sums refl ∙ ap (λ (i : ℕ). toldTwo 0 i i) (bsum-gap k [] ∙ add-zero k);
     }
       where
         -- what a call answers on the new zone

@@ -6,23 +6,14 @@ use Prim.Native.Nat.{ℕ, zero, suc, _+_, _*_, _-_, _/_, _%_, _<_, _≤_}
 use native.Mathlib.Omega.{arith}
 use lib.Dec.{eqb, leb}
 use borrow.Author.Tests.{eq-eqb, ne-eqb}
-use lib.ListN.{length, take, replicate, length-append, length-replicate}
+use lib.ListN.{length, replicate, length-append, length-replicate}
 use Rattle.block_type.specs.Limits.{longestZone, masterSize, mostMasters, relocHeader, zoneHeader, freeHeader, lengthAt, firstAt, mastersAt, chainAt, zerosAt}
 use Rattle.bigendian.specs.BigEndian.{toBE, overwrite}
 use Rattle.bigendian.proofs.Laws.{length-toBE}
-use Rattle.bigendian.proofs.Overwrite.{take-write, drop-write}
-use Rattle.memory.proofs.Writes.{write-none}
-use Rattle.memory.proofs.Slide.{write-before}
+use Rattle.bigendian.proofs.Overwrite.{write-none, write-before, write-more}
 use Rattle.calls.specs.Table.{Cause, cause, badInitialize, first, order}
 use Rattle.zone.proofs.Initial.{accepted as may-start}
 use Rattle.initialize.specs.Fresh.{sizeBytes, headBytes, chainBytes, freeBytes, freshBytes, accepts, Fresh}
-
--- a write right behind a write
-pub write-more : (z u v : List ℕ) (at k : ℕ) → k ≡ at + length u → k + length v ≤ length z → overwrite (overwrite z at u) k v ≡ overwrite z at (u ++ v)
-write-more z u v at k e l =
-    let h : at ≤ length z = omega arith in
-    let f : k + length v ≡ at + length (u ++ v) = rw length-append (omega arith) in
-    rw (drop-write z at (k + length v) u (omega arith) l, f, e, take-write z at (length u) u h refl, append-assoc (take at z) u v)
 
 -- ---- the arguments
 

@@ -7,7 +7,7 @@ use Prim.Native.Nat.{ℕ, suc, _+_, _-_, _≤_, max}
 use native.Mathlib.Omega.{arith}
 use lib.ListN.{length}
 use lib.Dec.{leb}
-use borrow.Author.Tests.{leb-true, leb-false, le-leb, lt-leb}
+use borrow.Author.Tests.{leb-false, lt-leb}
 use Rattle.block_type.specs.Limits.{relocHeader, relocLimit, fixedLimit, up4, relocNeed, fixedNeed}
 use Rattle.calls.specs.Bays.{last, more, over, orElse, findS, maxS, sumS}
 use Rattle.kinds.specs.Kinds.{Item, is}
@@ -15,6 +15,7 @@ use Rattle.calls.specs.State.{get}
 use Rattle.calls.specs.Table.{below, isNone, isEmpty, cause, first, beforeNoBay, order}
 use Rattle.ledger.specs.Ledger.{Bay, Layout, Ledger, sumOf, stepWith, step}
 use Rattle.ledger.specs.Space.{Request, relocatable, fixed, resized, callOf, resizeNeed, needOf, fits, earlier}
+use Rattle.calls.proofs.Reach.{leb-max}
 
 -- how many entries have the handle, in a bay and in all
 abbrev pub countIn : ℕ → List Item → ℕ
@@ -25,14 +26,6 @@ abbrev pub liveIn : ℕ → Layout → ℕ
 liveIn h l = sumS (λ (b : Bay). countIn h (b .entries)) l
 
 -- ---- the same of every bay: the largest sum decides
-
-leb-max : (n a b : ℕ) → leb n a || leb n b ≡ leb n (max a b)
-leb-max n a b = go (leb n a) (leb n b) refl refl
-  where
-    go : (t u : Bool) → leb n a ≡ t → leb n b ≡ u → t || u ≡ leb n (max a b)
-    go true u p q = sym (le-leb n (max a b) (omega (arith, leb-true n a p)))
-    go false true p q = sym (le-leb n (max a b) (omega (arith, leb-true n b q)))
-    go false false p q = sym (lt-leb n (max a b) (omega (arith, leb-false n a p, leb-false n b q)))
 
 fits-all : (q : Request) (n : ℕ) → ((b : Bay) → needOf q b ≡ n) → (l : Layout) → fits q l ≡ leb n (maxS sumOf l)
 fits-all q n e (last b) = ap (λ (k : ℕ). leb k (sumOf b)) (e b)

@@ -1,18 +1,19 @@
 -- The laws of the loops over bytes: each loop's invariant says that the specification, applied to what is there now
 -- and what is left, gives what it gave at the start.
 use mathlib.Core.Path.{_≡_, refl, sym, ap, _∙_}
-use mathlib.Core.List.{List, [], _∷_, _++_, append-nil}
-use mathlib.Core.Bool.{Bool, true, false, _&&_}
+use mathlib.Core.List.{List, [], _∷_, _++_}
+use mathlib.Core.Bool.{Bool, false, _&&_, and-assoc, and-true}
 use Prim.Native.Nat.{ℕ, zero, suc, _+_, _-_, _<_, _≤_, max}
-use native.Mathlib.Nat.{add-zero}
 use native.Mathlib.Numerals.{add-one}
 use native.Mathlib.Omega.{arith}
 use lib.Dec.{eqb}
 use borrow.Author.Tests.{eq-eqb, ne-eqb}
-use lib.ListN.{length, getD, take, drop, set, replicate, take-append-drop}
-use lib.Seq.{drop-cons, drop-drop, take-add, take-suc-set, drop-set-lt, append-snoc}
+use lib.ListN.{length, getD, set, replicate}
+use lib.Seq.{drop-cons, take-suc-set, drop-set-lt, append-snoc}
 use Rattle.bigendian.specs.BigEndian.{slice, overwrite}
 use Rattle.memory.specs.Zeros.{allZero}
+use Rattle.bigendian.proofs.Parts.{slice-add}
+use Rattle.bigendian.proofs.Overwrite.{write-none}
 
 pub cut-step : (s : List ℕ) (i to : ℕ) → i < to → to ≤ length s → slice s i (to - i) ≡ getD s i 0 ∷ slice s (i + 1) (to - (i + 1))
 cut-step s i to h k =
@@ -21,10 +22,6 @@ cut-step s i to h k =
     rw (e, drop-cons s i 0, add-one)
 
 -- ---- zeros; most: the largest byte so far
-
-and-assoc : (a b c : Bool) → a && b && c ≡ a && (b && c)
-and-assoc true b c = refl
-and-assoc false b c = refl
 
 zero-more : (most next x : ℕ) (xs rest : List ℕ) (whole : Bool) → next ≡ max most x → xs ≡ x ∷ rest → eqb most 0 && allZero xs ≡ whole → eqb next 0 && allZero rest ≡ whole
 unfolding allZero
@@ -54,15 +51,8 @@ unfolding allZero
 zero-done s at i n most whole h inv =
     let e : n - i ≡ 0 = omega arith in
     sym (and-true (eqb most 0)) ∙ (rw e at inv)
-  where
-    and-true : (a : Bool) → a && true ≡ a
-    and-true true = refl
-    and-true false = refl
 
 -- ---- zeros of a part and of the rest; most: the largest byte of the part
-
-pub slice-add : (s : List ℕ) (at m n : ℕ) → slice s at (m + n) ≡ slice s at m ++ slice s (at + m) n
-slice-add s at m n = take-add m n (drop at s) ∙ ap (λ (r : List ℕ). slice s at m ++ take n r) (drop-drop m at s)
 
 zeros-append : (a b : List ℕ) → allZero (a ++ b) ≡ allZero a && allZero b
 unfolding allZero
@@ -93,9 +83,6 @@ write-step s i x l h =
     let e : i + 1 + length l ≡ i + suc (length l) = omega arith in
     let k : i < i + suc (length l) = omega arith in
     rw (e, drop-set-lt, add-one, take-suc-set s i x h, append-snoc)
-
-pub write-none : (s : List ℕ) (i : ℕ) → overwrite s i [] ≡ s
-write-none s i = rw (add-zero, append-nil, take-append-drop)
 
 -- every element of l, one by one: the list that is left to write is written behind the one that has been
 pub fill-step : (s w : List ℕ) (i to : ℕ) → i < to → to ≤ length s

@@ -1,26 +1,18 @@
 -- An equation to the definitions is a promise.
 use mathlib.Core.Path.{_≡_, refl, ap, sym, _∙_}
-use mathlib.Core.List.{List, Permᴰ·refl}
+use mathlib.Core.List.{List}
 use Prim.Native.Nat.{ℕ}
 use Rattle.bigendian.specs.BigEndian.{Bytes}
 use Rattle.calls.specs.Calls.{Target, Call, Answer, size, read, view, sums, check, length-of, shows}
 use Rattle.zone.specs.Call.{Result, result, call, initialize}
-use Rattle.zone.specs.Promise.{Alike, Promise, InitPromise}
+use Rattle.zone.specs.Promise.{Promise, InitPromise}
 use Rattle.stretch.proofs.Answers.{view-is}
 use Rattle.tell.proofs.Outcomes as Outcomes
 use Rattle.tell.proofs.Outcomes.{unchanged}
-
-same : {a b : Answer} → a ≡ b → Alike a b
-same e = record {
-  number = ap (λ (x : Answer). x .number) e;
-  value = ap (λ (x : Answer). x .value) e;
-  second = ap (λ (x : Answer). x .second) e;
-  bytes = ap (λ (x : Answer). x .bytes) e;
-  records = rw (← e) (Permᴰ·refl _);
-}
+use Rattle.zone.proofs.Works.{equal}
 
 pub promised : (c : Call) (s e : List ℕ) (a : Answer) → result a e ≡ call c s → Promise c s a e
-promised c s e a q = record { answer = same (ap (λ (r : Result). r .answer) q); bytes = ap (λ (r : Result). r .bytes) q }
+promised c s e a q = record { answer = equal (ap (λ (r : Result). r .answer) q); bytes = ap (λ (r : Result). r .bytes) q }
 
 pub init-promised : (n m : ℕ) (s e : List ℕ) (a : Answer) → result a e ≡ initialize n m s → InitPromise n m s a e
 init-promised n m s e a q = record { answer = ap (λ (r : Result). r .answer) q; bytes = ap (λ (r : Result). r .bytes) q }

@@ -12,8 +12,8 @@ use Rattle.format.specs.Occurs.{occurs}
 use Rattle.bigendian.specs.BigEndian.{Bytes, fromBE}
 use Rattle.block_type.specs.Limits.{masterSize}
 use Rattle.format.specs.WellFormed.{wellFormed, zoneOf, firstField, lengthField, masterAt, isMaster, splitBlocks}
-use Rattle.format.proofs.Walk.{drop-take}
-use Rattle.format.proofs.Live.{handles}
+use Rattle.bigendian.proofs.Parts.{drop-take}
+use Rattle.format.proofs.Handles.{handles}
 use Rattle.calls.specs.Calls.{Target, by-handle, by-pointer, view}
 use Rattle.zone.specs.Call.{numberOf}
 use Rattle.zone.specs.View.{dataAt, viewStart, viewLength}

@@ -1,53 +1,20 @@
 -- The writes that cut a block out of a free one, for a block of any kind whose data are zero.
 use mathlib.Core.Path.{_≡_, refl, sym, ap, ap₂, _∙_}
 use mathlib.Core.List.{List, [], _∷_, _++_, append-assoc, append-nil}
-use Prim.Native.Nat.{ℕ, zero, suc, _+_, _-_, _*_, _/_, _<_, _≤_}
+use Prim.Native.Nat.{ℕ, _+_, _-_, _*_, _/_, _<_, _≤_}
 use native.Mathlib.Omega.{arith}
-use lib.ListN.{length, take, drop, replicate, length-replicate, length-append, length-take, length-drop, take-append-drop}
-use lib.Seq.{drop-drop, take-take, drop-append-add}
+use lib.ListN.{length, replicate, length-replicate, length-append}
 use Rattle.block_type.specs.Limits.{freeHeader, relocCode, relocHeader, typeUnit, tagAt}
-use Rattle.bigendian.specs.BigEndian.{toBE, slice, overwrite}
+use Rattle.bigendian.specs.BigEndian.{toBE, overwrite}
 use Rattle.bigendian.proofs.Laws.{length-toBE}
-use Rattle.bigendian.proofs.Overwrite.{take-write, drop-write}
-use Rattle.format.proofs.Walk.{drop-take}
+use Rattle.bigendian.proofs.Overwrite.{write-more, write-pad}
 use Rattle.kinds.specs.Kinds.{Item, codeOf, headerOf, tagOf, itemSize}
 use Rattle.kinds.proofs.KindLaws.{tag-long, facts}
-use Rattle.bay.specs.Bay.{free, held, gap}
+use Rattle.bay.specs.Bay.{held, gap}
 use Rattle.bay.specs.Bytes.{encodeCell}
 use Rattle.bay.specs.Sound.{bytesOf}
-use Rattle.bay.proofs.BayBytes.{drop-zeros, gap-some, gap-none}
+use Rattle.bay.proofs.BayBytes.{gap-some, gap-none, free-zeros}
 use Rattle.place.specs.Fit.{blank, Fit}
-
--- a write right behind a write
-write-more : (z u v : List ℕ) (at k : ℕ) → k ≡ at + length u → k + length v ≤ length z → overwrite (overwrite z at u) k v ≡ overwrite z at (u ++ v)
-write-more z u v at k e l =
-    let h : at ≤ length z = omega arith in
-    let f : k + length v ≡ at + length (u ++ v) = rw length-append (omega arith) in
-    rw (drop-write z at (k + length v) u (omega arith) l, f, e, take-write z at (length u) u h refl, append-assoc (take at z) u v)
-
--- what stands behind a write may be counted to it
-write-pad : (z u v : List ℕ) (at k n : ℕ) → k ≡ at + length u → slice z k n ≡ v → k + n ≤ length z → overwrite z at u ≡ overwrite z at (u ++ v)
-write-pad z u v at k n e ev l =
-    let lv : length v ≡ n = rw (← ev) (simp (length-take, length-drop) (omega arith)) in
-    let f : at + length (u ++ v) ≡ k + n = rw length-append (omega arith) in
-    let s : drop (at + length u) z ≡ v ++ drop (k + n) z =
-    sym (take-append-drop n (drop (at + length u) z)) ∙ (rw (← e, ev, drop-drop)) in
-    rw (s, f) (simp append-assoc)
-
-take-zeros : (k n : ℕ) → k ≤ n → take {A = ℕ} k (replicate n 0) ≡ replicate k 0
-take-zeros zero n l = refl
-take-zeros (suc k) zero l = let x : ⊥ = omega arith in absurd x
-take-zeros (suc k) (suc n) l = ap (λ (t : List ℕ). 0 ∷ t) (take-zeros k n (omega arith))
-
--- a free block is zero behind its header
-free-zeros : (z : List ℕ) (at n i k : ℕ) → slice z at n ≡ encodeCell (free n) → freeHeader ≤ i → i + k ≤ n → slice z (at + i) k ≡ replicate k 0
-free-zeros z at n i k e h l =
-    let t = toBE 4 (n / 2) in
-    let lt = length-toBE 4 (n / 2) in
-    let j : i ≡ length t + (i - freeHeader) = omega arith in
-    let d : drop i (encodeCell (free n)) ≡ replicate (n - freeHeader - (i - freeHeader)) 0 =
-    ap (λ (x : ℕ). drop x (encodeCell (free n))) j ∙ drop-append-add t (replicate (n - freeHeader) 0) (i - freeHeader) ∙ drop-zeros (i - freeHeader) (n - freeHeader) in
-    rw (← drop-drop i at z, ← take-take k (n - i) (drop i (drop at z)) (omega arith), ← drop-take i n (drop at z), e, d) (take-zeros k (n - freeHeader - (i - freeHeader)) (omega arith))
 
 -- ---- a block of any kind
 

@@ -1,7 +1,7 @@
 -- A new block in the place of a free block, in the bytes of a valid structure: its bytes, the chain's head, its master.
 use mathlib.Core.Path.{_≡_, refl, ap, _∙_}
 use mathlib.Core.List.{List, [], _∷_, _++_, map}
-use Prim.Native.Nat.{ℕ, zero, suc, _+_, _-_, _≤_}
+use Prim.Native.Nat.{ℕ, suc, _+_, _-_, _≤_}
 use native.Mathlib.Omega.{arith}
 use borrow.Author.Tests.{ne-eqb}
 use lib.ListN.{length}
@@ -20,11 +20,7 @@ use Rattle.structure.proofs.Round.{offset-is}
 use Rattle.slide.specs.ZoneBay.{settled}
 use Rattle.settle.proofs.Any.{settle-chain}
 use Rattle.settle.proofs.Bay.{cells-sound}
-
-gap-none : (n : ℕ) → handlesOf (map cell (gap n [])) ≡ []
-unfolding handlesOf
-gap-none zero = refl
-gap-none (suc n) = refl
+use Rattle.structure.proofs.Cells.{gap-handles}
 
 module _ (s : Structure) (v : Valid s) (h : ℕ) (ks : List ℕ) (linked : s .chain ≡ h ∷ ks) where
   in-chain : occurs h (s .chain) ≡ suc (occurs h ks)
@@ -48,11 +44,11 @@ module _ (s : Structure) (v : Valid s) (pre post : List Block) (n : ℕ) (e : It
 
   each : (k : ℕ) → occurs k (handlesOf (map cell new)) ≡ one k (masterOf e)
   unfolding handlesOf occurs
-  each k = rw (gap-none (n - itemSize e)) (omega arith)
+  each k = rw (gap-handles (n - itemSize e)) (omega arith)
 
   number : length (handlesOf (map cell new)) ≡ 1
   unfolding handlesOf
-  number = rw (gap-none (n - itemSize e))
+  number = rw (gap-handles (n - itemSize e))
 
   pub placed : settled (overwrite (encode s) chainAt (toBE 2 (headOf ks))) (start s + sizes pre) new ≡ encode (record { chain = ks; blocks = pre ++ (map cell new ++ post) })
   unfolding handlesOf occurs nextOf

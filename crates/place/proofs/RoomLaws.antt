@@ -3,28 +3,24 @@ use mathlib.Core.Path.{_≡_, refl, sym, ap, _∙_}
 use mathlib.Core.Bool.{Bool, true, false}
 use mathlib.Core.Option.{Option, none, some, Option·getD}
 use mathlib.Core.List.{List, [], _∷_, map, _++_}
-use Prim.Native.Nat.{ℕ, zero, suc, _+_, _-_, _<_, _≤_}
+use Prim.Native.Nat.{ℕ, _+_, _-_, _≤_}
 use native.Mathlib.Omega.{arith}
 use Rattle.format.proofs.Bool.{not-both}
 use Rattle.kinds.specs.Kinds.{Item, itemSize}
 use Rattle.kinds.proofs.KindLaws.{facts}
 use Rattle.calls.specs.Bays.{over}
 use Rattle.calls.specs.State.{total}
-use Rattle.bay.specs.Bay.{Cell, free, held, baySize, baySum, items, gap, packed, Hole, holes, choose, fill, put}
+use Rattle.bay.specs.Bay.{Cell, held, baySize, baySum, items, gap, packed, Hole, holes, choose, fill, put}
 use Rattle.bay.proofs.Choice.{packed-is}
 use Rattle.bay.proofs.Each.{Each, just}
 use Rattle.bay.proofs.Holes.{Part, holes-are, choose-all}
-use Rattle.bay.proofs.Laws.{bsize-split}
+use Rattle.bay.proofs.Laws.{bsize-split, gap-one}
 use Rattle.place.specs.Hole.{HoleN, holeN, holeAt}
 use Rattle.place.specs.Room.{Room}
 
 held-sizes : (es : List Item) → baySize (map held es) ≡ total es
 held-sizes [] = refl
 held-sizes (e ∷ es) = omega (arith, held-sizes es)
-
-some-gap : (n : ℕ) → 0 < n → gap n [] ≡ free n ∷ []
-some-gap zero l = let x : ⊥ = omega arith in absurd x
-some-gap (suc n) l = refl
 
 module _ (e : Item) (bay : List Cell) (a need at n : ℕ) (f : Bool) (en : itemSize e ≡ need) (q : holeN f at n ≡ holeAt (choose need (holes bay))) where
   abbrev last : List Cell
@@ -49,7 +45,7 @@ module _ (e : Item) (bay : List Cell) (a need at n : ℕ) (f : Bool) (en : itemS
       go (some x) w p y = absurd (not-both refl (ap (λ (h : HoleN). h .found) (sym y) ∙ t))
       go none w p y = record {
         hole = record { before = map held (items bay); size = baySum bay; after = [] };
-        is = packed-is (items bay) (gap (baySum bay) []) ∙ ap (map held (items bay) ++_) (some-gap (baySum bay) (omega (arith, facts e .low)));
+        is = packed-is (items bay) (gap (baySum bay) []) ∙ ap (map held (items bay) ++_) (gap-one (baySum bay) (omega (arith, facts e .low)));
         fits = omega arith;
         filled = p ∙ packed-is (items bay) (held e ∷ gap (baySum bay - itemSize e) []);
         place = omega (arith, bsize-split bay, held-sizes (items bay));

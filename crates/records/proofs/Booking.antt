@@ -23,6 +23,7 @@ use Rattle.zone.proofs.Initial.{Accepted, accepted, fresh-stored}
 use Rattle.zone.proofs.Theorem.{Point, onward, first-point}
 use Rattle.records.specs.Records.{Action, initialize, call, read-byte, nothing, actions, actionOf, Ran, act, Line, line, text, printed, recordsOf, output, withValue, withByte, ran, recordLength, aAt, bAt, dAt}
 use Rattle.records.specs.Book.{bufferLength, bookCall, bookAct, bookLines, ByTheBook}
+use Rattle.bigendian.proofs.Bytes.{bytes-none}
 
 -- ---- the calls that a record can ask for: they are lent bytes, and refused with 1 where there is no zone
 
@@ -30,9 +31,6 @@ record Plain (c : Call) : Type 0 where
   lent : Bytes (secondOf (beside c))
   ill : (f : Facts) → f .well ≡ false → refusalOf c f ≡ 1
   told : refused c 1 .number ≡ 1
-
-none-lent : Bytes []
-none-lent i = omega arith
 
 one-lent : (x : ℕ) → x < 256 → Bytes (x ∷ [])
 one-lent x l zero = l
@@ -57,16 +55,16 @@ all-asks : (a b d : ℕ) → All (actions a b d)
 unfolding actions
 all-asks a b d =
     one-more asks-initialize
-    (one-more (asks-call (allocate-relocatable a) (record { lent = none-lent; ill = λ f w. rw w; told = refl }))
-    (one-more (asks-call (allocate-fixed a) (record { lent = none-lent; ill = λ f w. rw w; told = refl }))
-    (one-more (asks-call (free-handle a) (record { lent = none-lent; ill = λ f w. rw w; told = refl }))
-    (one-more (asks-call (free-pointer a) (record { lent = none-lent; ill = λ f w. rw w; told = refl }))
-    (one-more (asks-call (resize a b) (record { lent = none-lent; ill = λ f w. rw w; told = refl }))
+    (one-more (asks-call (allocate-relocatable a) (record { lent = bytes-none; ill = λ f w. rw w; told = refl }))
+    (one-more (asks-call (allocate-fixed a) (record { lent = bytes-none; ill = λ f w. rw w; told = refl }))
+    (one-more (asks-call (free-handle a) (record { lent = bytes-none; ill = λ f w. rw w; told = refl }))
+    (one-more (asks-call (free-pointer a) (record { lent = bytes-none; ill = λ f w. rw w; told = refl }))
+    (one-more (asks-call (resize a b) (record { lent = bytes-none; ill = λ f w. rw w; told = refl }))
     (one-more (asks-call (write (by-handle a) b 1 (d % 256 ∷ [])) (record { lent = one-lent (d % 256) (omega arith); ill = λ f w. rw w; told = refl }))
     (one-more asks-byte
-    (one-more (asks-call compact (record { lent = none-lent; ill = λ f w. rw w; told = refl }))
-    (one-more (asks-call (enlarge a) (record { lent = none-lent; ill = λ f w. rw w; told = refl }))
-    (one-more (asks-call (shrink a) (record { lent = none-lent; ill = λ f w. rw w; told = refl }))
+    (one-more (asks-call compact (record { lent = bytes-none; ill = λ f w. rw w; told = refl }))
+    (one-more (asks-call (enlarge a) (record { lent = bytes-none; ill = λ f w. rw w; told = refl }))
+    (one-more (asks-call (shrink a) (record { lent = bytes-none; ill = λ f w. rw w; told = refl }))
     no-more))))))))))
 
 asks : (r : List ℕ) → Asks (actionOf r)

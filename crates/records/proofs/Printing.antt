@@ -7,9 +7,8 @@ use native.Mathlib.Omega.{arith}
 use lib.ListN.{length, take, drop, set, length-append, length-set}
 use lib.Seq.{take-set-le, set-split, drop-at, length-take-le}
 use Rattle.bigendian.specs.BigEndian.{overwrite}
-use Rattle.memory.proofs.Writes.{write-none}
+use Rattle.bigendian.proofs.Overwrite.{write-none, write-more}
 use Rattle.block_type.specs.Limits.{argumentRange}
-use Rattle.initialize.proofs.Write.{write-more}
 use Rattle.records.specs.Records.{decimal, Line, skip, line, text}
 use Rattle.records.specs.Shown.{lineOf}
 use Rattle.records.specs.Putting.{Put}

@@ -1,7 +1,7 @@
 -- The bytes of a valid structure are a zone, whose structure it is; and a handle that is found among its bays has a place and data.
 use mathlib.Core.Path.{_≡_, sym, ap, _∙_, subst}
 use mathlib.Core.Bool.{true}
-use mathlib.Core.Option.{Option, some}
+use mathlib.Core.Option.{some}
 use mathlib.Core.List.{List, [], append-nil}
 use Prim.Native.Nat.{ℕ}
 use native.Mathlib.Omega.{arith}
@@ -9,9 +9,6 @@ use lib.Seq.{take-all}
 use Rattle.bigendian.specs.BigEndian.{Bytes}
 use Rattle.format.specs.WellFormed.{wellFormed, zoneOf, lengthField}
 use Rattle.kinds.specs.Kinds.{Item}
-use Rattle.calls.specs.Bays.{Bays, findS}
-use Rattle.calls.specs.State.{get, Fixed}
-use Rattle.bay.specs.Bay.{Cell, items}
 use Rattle.structure.specs.Structure.{Structure, encode, decode, decodeZone}
 use Rattle.structure.specs.Valid.{Valid}
 use Rattle.structure.proofs.Round.{length-is, heads-self, well-formed, decode-encode}
@@ -19,6 +16,7 @@ use Rattle.access.specs.Edit.{placeIn, dataIn}
 use Rattle.bays.specs.Places.{baysOf}
 use Rattle.locate.proofs.Live.{place-gone, place-live}
 use Rattle.structure.specs.IsZone.{IsZone, is-zone}
+use Rattle.zone.proofs.Once.{blockOf}
 
 zone-self : (s : Structure) → Valid s → zoneOf (encode s) ≡ encode s
 zone-self s v = take-all (lengthField (encode s)) (encode s) (omega (arith, heads-self s v .is-len, length-is s v))
@@ -30,11 +28,8 @@ pub back-of : (s : Structure) → Valid s → decodeZone (encode s) ≡ s
 unfolding decode
 back-of s v = ap decodeZone (sym (zone-self s v)) ∙ ap decode (sym (append-nil (encode s))) ∙ decode-encode s v []
 
-abbrev find : ℕ → Bays (List Cell) Fixed → Option Item
-find h s = findS (λ (c : List Cell). get h (items c)) s
-
 -- the data of a handle that is found, and that it has a place
-pub its-data : (z : List ℕ) (h : ℕ) (e : Item) → find h (baysOf (decodeZone z)) ≡ some e → (placeIn z h ≡ 0 → ⊥) × (dataIn z h ≡ e .bytes)
+pub its-data : (z : List ℕ) (h : ℕ) (e : Item) → blockOf h (baysOf (decodeZone z)) ≡ some e → (placeIn z h ≡ 0 → ⊥) × (dataIn z h ≡ e .bytes)
 unfolding placeIn dataIn
 its-data z h e f =
     let ne : (placeIn z h ≡ 0 → ⊥) = λ q. (let y = sym f ∙ place-gone h (decodeZone z) q in let x : _≡_ {A = ℕ} 0 1 = cc in omega arith) in

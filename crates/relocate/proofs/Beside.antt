@@ -6,7 +6,7 @@ use mathlib.Core.List.{List, [], _∷_, _++_, map}
 use Prim.Native.Nat.{ℕ, _+_, _-_, _≤_}
 use native.Mathlib.Omega.{arith}
 use Rattle.structure.specs.Structure.{Block, cell, fixed, sizes}
-use Rattle.calls.specs.Bays.{Bays, orElse, findS}
+use Rattle.calls.specs.Bays.{Bays, orElse}
 use Rattle.kinds.specs.Kinds.{Item, itemSize, is}
 use Rattle.calls.specs.State.{get, Fixed}
 use Rattle.bay.specs.Bay.{Cell, free, held, baySize, items, release}
@@ -17,7 +17,7 @@ use Rattle.bay.proofs.Sound.{Sound}
 use Rattle.bay.proofs.Free.{release-none, released}
 use Rattle.zone.specs.PickBays.{AllS}
 use Rattle.zone.specs.Group.{flatBay, flatten}
-use Rattle.zone.proofs.Found.{often, count-get}
+use Rattle.zone.proofs.Once.{often, count-get, blockOf}
 use Rattle.bays.proofs.At.{no-sizes, later-sizes}
 use Rattle.free_block.specs.Around.{Around}
 use Rattle.free_block.proofs.Around.{around-same, around-later}
@@ -25,9 +25,6 @@ use Rattle.free_block.proofs.Own.{none-released, around-own, own-block}
 use Rattle.relocate.specs.Slot.{Slot, at-end, at-fixed, behind, plug, others, blocksBefore}
 use Rattle.relocate.specs.Move.{Apart, below, above}
 use Rattle.relocate.proofs.Slots.{plug-map, behind-sizes}
-
-abbrev find : ℕ → Bays (List Cell) Fixed → Option Item
-find h s = findS (λ (b : List Cell). get h (items b)) s
 
 pub end-low : (cs : List Cell) → endFree cs ≤ baySize cs
 end-low [] = omega arith
@@ -54,7 +51,7 @@ pub record Beside (h : ℕ) (e : Item) (k : Slot) (c : List Cell) : Type 0 where
 
 module _ (h : ℕ) (e : Item) where
   -- a bay that has not the handle, and a block behind it
-  in-rest : (x : Fixed) (s : Bays (List Cell) Fixed) (c : List Cell) → AllS Sound s → live h s ≤ 1 → find h s ≡ some e → Beside h e (at-fixed x s) c
+  in-rest : (x : Fixed) (s : Bays (List Cell) Fixed) (c : List Cell) → AllS Sound s → live h s ≤ 1 → blockOf h s ≡ some e → Beside h e (at-fixed x s) c
   in-rest x s c d l f =
       let o = own-block h e s d l f in
       let a = around-later c (x .bytes) (o .0) in
@@ -89,7 +86,7 @@ module _ (h : ℕ) (e : Item) where
       go (below q) = below (omega (arith, later-sizes b x (r .around .pre), behind-sizes b x k))
       go (above q) = above (omega (arith, later-sizes b x (r .around .pre), behind-sizes b x k))
 
-  pub beside : (k : Slot) (c : List Cell) → Sound c → AllS Sound (plug k c) → live h (plug k c) ≤ 1 → count h (items c) ≡ 0 → find h (plug k c) ≡ some e → Beside h e k c
+  pub beside : (k : Slot) (c : List Cell) → Sound c → AllS Sound (plug k c) → live h (plug k c) ≤ 1 → count h (items c) ≡ 0 → blockOf h (plug k c) ≡ some e → Beside h e k c
   beside at-end c dc d l m f = go (get h (items c)) (count-get h (items c) l) f
     where
       go : (o : Option Item) → count h (items c) ≡ often o → o ≡ some e → Beside h e at-end c
@@ -97,11 +94,11 @@ module _ (h : ℕ) (e : Item) where
       go (some i) q f = absurd (omega arith)
   beside (at-fixed x s) c dc d l m f = go (get h (items c)) (count-get h (items c) (omega arith)) f
     where
-      go : (o : Option Item) → count h (items c) ≡ often o → orElse o (find h s) ≡ some e → Beside h e (at-fixed x s) c
+      go : (o : Option Item) → count h (items c) ≡ often o → orElse o (blockOf h s) ≡ some e → Beside h e (at-fixed x s) c
       go none q f = in-rest x s c (d .1) (omega arith) f
       go (some i) q f = absurd (omega arith)
   beside (behind b x k) c dc d l m f = go (get h (items b)) refl (count-get h (items b) (omega arith)) f (λ f. beside k c dc (d .1) (omega arith) m f)
     where
-      go : (o : Option Item) → get h (items b) ≡ o → count h (items b) ≡ often o → orElse o (find h (plug k c)) ≡ some e → (find h (plug k c) ≡ some e → Beside h e k c) → Beside h e (behind b x k) c
+      go : (o : Option Item) → get h (items b) ≡ o → count h (items b) ≡ often o → orElse o (blockOf h (plug k c)) ≡ some e → (blockOf h (plug k c) ≡ some e → Beside h e k c) → Beside h e (behind b x k) c
       go none g q f ih = in-later b x k c (d .0) q (ih f)
       go (some i) g q f ih = in-first b x k c (d .0) (d .1) dc (g ∙ f) (omega arith) (omega arith) m

@@ -15,7 +15,7 @@ use Rattle.bay.specs.Sound.{bytesOf, Sound1}
 use Rattle.bay.proofs.BayBytes.{bytes-long}
 use Rattle.bay.proofs.Laws.{bsize-gap}
 use Rattle.bay.proofs.SoundLaws.{gap-sound}
-use Rattle.structure.proofs.ZoneLayout.{write-mid}
+use Rattle.bigendian.proofs.Overwrite.{write-mid}
 use Rattle.place.specs.Fit.{blank}
 
 -- a block and the free rest behind it have the bytes of the free block

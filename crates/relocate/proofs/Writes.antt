@@ -1,33 +1,16 @@
 -- The writes of a move, one after the other.
-use mathlib.Core.Path.{_≡_, sym, ap, ap₂, _∙_}
-use mathlib.Core.List.{List, [], _∷_, _++_}
-use Prim.Native.Nat.{ℕ, _+_, _-_, _≤_}
+use mathlib.Core.Path.{_≡_, ap, ap₂, _∙_}
+use mathlib.Core.List.{List, [], _∷_}
+use Prim.Native.Nat.{ℕ, _+_, _-_}
 use native.Mathlib.Omega.{arith}
-use lib.ListN.{length, take, drop, length-append}
-use lib.Seq.{take-take, take-append-le, length-take-le}
 use Rattle.block_type.specs.Limits.{relocHeader}
 use Rattle.bigendian.specs.BigEndian.{toBE, slice, overwrite}
-use Rattle.bigendian.proofs.Overwrite.{drop-write}
-use Rattle.format.proofs.Walk.{drop-take}
+use Rattle.bigendian.proofs.Overwrite.{slice-low, slice-high}
 use Rattle.structure.specs.Structure.{encodeBlock, cell}
 use Rattle.bay.specs.Bay.{free, held, gap}
 use Rattle.bay.specs.Sound.{bytesOf}
 use Rattle.place.specs.Fit.{blank}
 use Rattle.relocate.specs.Move.{Apart, below, above, MoveAt, movedBytes}
-
--- a stretch apart from a write stays
-slice-low : (s x : List ℕ) (p o n : ℕ) → o + n ≤ p → p ≤ length s → slice (overwrite s p x) o n ≡ slice s o n
-slice-low s x p o n l k =
-    let e : o + n - o ≡ n = omega arith in
-    let cut : (y : List ℕ) → slice y o n ≡ drop o (take (o + n) y) = λ y. sym (drop-take o (o + n) y ∙ ap (λ (j : ℕ). take j (drop o y)) e) in
-    cut (overwrite s p x)
-    ∙ ap (drop o)
-    (take-append-le (o + n) (take p s ++ x) (drop (p + length x) s) (omega (arith, length-append (take p s) x, length-take-le p s k))
-    ∙ take-append-le (o + n) (take p s) x (omega (arith, length-take-le p s k)) ∙ take-take (o + n) p s l)
-    ∙ sym (cut s)
-
-slice-high : (s x : List ℕ) (p o n : ℕ) → p + length x ≤ o → o ≤ length s → slice (overwrite s p x) o n ≡ slice s o n
-slice-high s x p o n l k = ap (take n) (drop-write s p o x l k)
 
 module _ (z : List ℕ) (h old b at n need from to : ℕ) (x : MoveAt z h old b at n need from to) (z₁ : List ℕ) (e₁ : z₁ ≡ overwrite z at (bytesOf (held (blank need h) ∷ gap (n - need) []))) where
   abbrev new : List ℕ

@@ -1,7 +1,7 @@
 -- The move in the bytes of a zone, to a free block that is there and to one that compacting makes.
 use mathlib.Core.Path.{_≡_, refl, sym, ap, ap₂, _∙_, subst}
 use mathlib.Core.Bool.{Bool, true, false, cond}
-use mathlib.Core.Option.{Option, some}
+use mathlib.Core.Option.{some}
 use mathlib.Core.List.{List, _∷_, _++_, map}
 use Prim.Native.Nat.{ℕ, _+_, _<_, _≤_}
 use native.Mathlib.Omega.{arith}
@@ -13,8 +13,8 @@ use Rattle.block_type.specs.Limits.{relocHeader}
 use Rattle.bigendian.specs.BigEndian.{Bytes}
 use Rattle.format.specs.WellFormed.{firstField}
 use Rattle.kinds.specs.Kinds.{Item, item, itemSize}
-use Rattle.calls.specs.Bays.{Bays, mapS, findS}
-use Rattle.calls.specs.State.{get, Fixed, sized, ownSum}
+use Rattle.calls.specs.Bays.{Bays, mapS}
+use Rattle.calls.specs.State.{Fixed, sized, ownSum}
 use Rattle.bay.specs.Bay.{Cell, free, baySum, items, compactBay, fill, put, release}
 use Rattle.bay.specs.Counted.{count, live}
 use Rattle.bay.proofs.Laws.{tidy-size, tidy-items}
@@ -49,9 +49,7 @@ use Rattle.relocate.proofs.AsZone.{zone-of, back-of, its-data}
 use Rattle.relocate.proofs.Choice.{without, under-freed}
 use Rattle.structure.specs.IsZone.{IsZone}
 use Rattle.structure.proofs.IsZone.{whole-of}
-
-abbrev find : ℕ → Bays (List Cell) Fixed → Option Item
-find h s = findS (λ (c : List Cell). get h (items c)) s
+use Rattle.zone.proofs.Once.{blockOf}
 
 module _ (z : List ℕ) (h b a from to at n : ℕ) (t : Bool) (y : RelocateIn z h b a from to at n t) where
   abbrev x : Relocate z h b a from to at n t
@@ -78,15 +76,15 @@ module _ (z : List ℕ) (h b a from to at n : ℕ) (t : Bool) (y : RelocateIn z 
   wb : Keep.Whole (inBays (len s) s)
   wb = whole-bays (len s) s v (omega arith)
 
-  found : (e : Item) × (find h (baysOf (decodeZone z)) ≡ some e) × (e .bytes ≡ dataIn z h)
+  found : (e : Item) × (blockOf h (baysOf (decodeZone z)) ≡ some e) × (e .bytes ≡ dataIn z h)
   unfolding placeIn dataIn
   found = place-live h s (x .grows .live)
 
   abbrev e : Item
   e = found .0
 
-  in-slot : find h (plug k bay) ≡ some e
-  in-slot = ap (find h) (sym (x .bays)) ∙ found .1
+  in-slot : blockOf h (plug k bay) ≡ some e
+  in-slot = ap (blockOf h) (sym (x .bays)) ∙ found .1
 
   once : live h (plug k bay) ≤ 1
   once = subst (λ (u : Bays (List Cell) Fixed). live h u ≤ 1) (x .bays) (single-live (inBays (len s) s) wb h)
@@ -198,7 +196,7 @@ module _ (z : List ℕ) (h b a from to at n : ℕ) (t : Bool) (y : RelocateIn z 
     bays-z₁ = ap (λ (u : Structure). group (start u) (u .blocks)) back ∙ bays₁
 
     data₁ : (placeIn z₁ h ≡ 0 → ⊥) × (dataIn z₁ h ≡ e .bytes)
-    data₁ = its-data z₁ h e (ap (find h) bays-z₁ ∙ plug-find h k bay (compactBay bay) (tidy-items bay) ∙ in-slot)
+    data₁ = its-data z₁ h e (ap (blockOf h) bays-z₁ ∙ plug-find h k bay (compactBay bay) (tidy-items bay) ∙ in-slot)
 
     same-data : dataIn z₁ h ≡ dataIn z h
     same-data = data₁ .1 ∙ found .2

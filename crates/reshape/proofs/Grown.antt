@@ -5,14 +5,15 @@ use Prim.Native.Nat.{ℕ, _+_, _-_, _*_, _/_, _%_, _<_, _≤_}
 use native.Mathlib.Omega.{arith}
 use lib.ListN.{length, take, drop, replicate, length-replicate, length-append, length-take, length-drop, take-append-drop, drop-of-length-le}
 use lib.Seq.{drop-drop, drop-append-add}
-use Rattle.structure.proofs.ZoneLayout.{write-mid}
+use Rattle.bigendian.proofs.Overwrite.{write-mid}
 use Rattle.block_type.specs.Limits.{freeHeader, relocCode, typeUnit, tagAt}
 use Rattle.bigendian.specs.BigEndian.{toBE, slice, overwrite}
 use Rattle.bigendian.proofs.Laws.{length-toBE}
 use Rattle.bay.specs.Bay.{free, gap}
 use Rattle.bay.specs.Bytes.{encodeCell}
 use Rattle.bay.specs.Sound.{bytesOf}
-use Rattle.bay.proofs.BayBytes.{drop-zeros, gap-some, gap-none}
+use Rattle.bay.proofs.BayBytes.{gap-some, gap-none}
+use Rattle.bigendian.proofs.Parts.{drop-zeros, slice-rest}
 use Rattle.reshape.specs.Grow.{grownBytes, Room}
 
 module _ (A H D B G : List ℕ) (at o top run more : ℕ) (lA : length A ≡ at) (lH : length H ≡ tagAt) (lD : at + tagAt + length D ≡ o) (lB : length B ≡ run) (lG : more ≤ length G) (et : top ≡ o + more) where
@@ -74,9 +75,6 @@ module _ (A H D B G : List ℕ) (at o top run more : ℕ) (lA : length A ≡ at)
       comm : more + run ≡ length B + more
       comm = omega arith
 
-peel : (s : List ℕ) (k n : ℕ) → drop k s ≡ slice s k n ++ drop (k + n) s
-peel s k n = sym (take-append-drop n (drop k s)) ∙ ap (λ (x : List ℕ). slice s k n ++ x) (drop-drop n k s)
-
 gap-bytes : (n more : ℕ) (G : List ℕ) → G ≡ encodeCell (free n) → freeHeader ≤ more → more < n → n % 4 ≡ 0 → more % 4 ≡ 0 → toBE 4 ((n - more) / 2) ++ drop freeHeader (drop more G) ≡ bytesOf (gap (n - more) [])
 gap-bytes n more G e l k q q′ =
     let t = toBE 4 (n / 2) in
@@ -112,8 +110,8 @@ module _ (s s₁ s₂ s₃ : List ℕ) (at o run more : ℕ) (x : Room s at o ru
   parts : s ≡ a₀ ++ (h₀ ++ (d₀ ++ (b₀ ++ g₀)))
   parts =
       let k : at + tagAt + (o - (at + tagAt)) ≡ o = omega (arith, x .low) in
-      sym (take-append-drop at s) ∙ ap (λ (y : List ℕ). a₀ ++ y) (peel s at tagAt ∙ ap (λ (y : List ℕ). h₀ ++ y)
-      (peel s (at + tagAt) (o - (at + tagAt)) ∙ ap (λ (y : List ℕ). d₀ ++ y) (ap (λ (m : ℕ). drop m s) k ∙ peel s o run)))
+      sym (take-append-drop at s) ∙ ap (λ (y : List ℕ). a₀ ++ y) (slice-rest s at tagAt ∙ ap (λ (y : List ℕ). h₀ ++ y)
+      (slice-rest s (at + tagAt) (o - (at + tagAt)) ∙ ap (λ (y : List ℕ). d₀ ++ y) (ap (λ (m : ℕ). drop m s) k ∙ slice-rest s o run)))
 
   la : length a₀ ≡ at
   la = omega (arith, length-take at s, x .low, x .inside)

@@ -2,7 +2,7 @@
 use mathlib.Core.Path.{_≡_, refl, sym, ap, _∙_}
 use mathlib.Core.Bool.{Bool, true, false, cond}
 use mathlib.Core.List.{List, [], _∷_, _++_, map}
-use Prim.Native.Nat.{ℕ, zero, suc, _+_, _%_, _≤_}
+use Prim.Native.Nat.{ℕ, suc, _+_, _%_, _≤_}
 use native.Mathlib.Omega.{arith}
 use borrow.Author.Tests.{eq-eqb}
 use Rattle.block_type.specs.Limits.{longestZone, masterSize}
@@ -18,6 +18,7 @@ use Rattle.structure.specs.Structure.{Block, cell, placeOf, handlesOf}
 use Rattle.slide.specs.ZoneBay.{Low}
 use Rattle.slide.proofs.Compact.{gap-low}
 use Rattle.reshape.proofs.GrownBay.{laid}
+use Rattle.structure.proofs.Cells.{gap-handles}
 
 packed-append : (xs ys : List Item) (t : List Cell) → packed (xs ++ ys) t ≡ packed xs (packed ys t)
 packed-append [] ys t = refl
@@ -64,11 +65,6 @@ packed-handles : (xs : List Item) (t t′ : List Cell) → handlesOf (map cell t
 unfolding handlesOf
 packed-handles [] t t′ q = q
 packed-handles (x ∷ xs) t t′ q = ap (λ (l : List ℕ). masterOf x ∷ l) (packed-handles xs t t′ q)
-
-gap-handles : (n : ℕ) → handlesOf (map cell (gap n [])) ≡ []
-unfolding handlesOf
-gap-handles zero = refl
-gap-handles (suc n) = refl
 
 module _ (xs ys : List Item) (e : Item) (n : ℕ) where
   pub laid-sound1 : Sound (laid xs e ys n) → Sound1 (held e)

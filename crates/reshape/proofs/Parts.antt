@@ -1,6 +1,6 @@
 -- The block of a handle among the blocks of a valid structure, and those blocks with it at another size where it stands.
 use mathlib.Core.Path.{_≡_, sym, ap, _∙_, subst}
-use mathlib.Core.Bool.{Bool, true, false, true≢false}
+use mathlib.Core.Bool.{false}
 use mathlib.Core.List.{List, [], _∷_, _++_, map, map-append, append-assoc}
 use Prim.Native.Nat.{ℕ, _+_, _-_, _≤_}
 use native.Mathlib.Omega.{arith}
@@ -8,11 +8,11 @@ use lib.ListN.{length, drop}
 use lib.Seq.{drop-drop, drop-at}
 use Rattle.structure.proofs.Append.{sizes-append}
 use Rattle.calls.specs.Bays.{onLowest}
-use Rattle.bay.specs.Bay.{Cell, free, held, baySize, items, gap, resized, reshape}
+use Rattle.bay.specs.Bay.{Cell, held, baySize, items, gap, resized, reshape}
 use Rattle.bay.specs.Counted.{count}
 use Rattle.bay.specs.Ends.{startFree, pastStart}
 use Rattle.bay.proofs.Laws.{bsize-gap}
-use Rattle.bay.proofs.Sound.{Sound, s-nil, s-end, s-free, s-held}
+use Rattle.bay.proofs.Sound.{Sound}
 use Rattle.bay.proofs.Reshape.{gap-lead, reshape-here}
 use Rattle.structure.specs.Structure.{Block, cell, Structure, sizes, start, len, encode}
 use Rattle.structure.specs.Valid.{Tiled, Valid}
@@ -29,14 +29,7 @@ use Rattle.surgery.proofs.Sound.{tiled-right}
 use Rattle.surgery.proofs.Replace.{sizes-parts}
 use Rattle.settle.proofs.Cells.{all-sizes}
 use Rattle.reshape.specs.Own.{Own, bayOf, dataAt}
-
--- cells that stand in a valid structure are sound
-tiled-sound : (p : Bool) (cs : List Cell) (r : List Block) → Tiled p (map cell cs ++ r) → Sound cs
-tiled-sound p [] r t = s-nil
-tiled-sound p (free n ∷ []) r t = s-end {n = n} (omega (arith, t .1, t .2))
-tiled-sound p (free n ∷ (free k ∷ cs)) r t = absurd (true≢false (t .4 .0))
-tiled-sound p (free n ∷ (held e ∷ cs)) r t = s-free {n = n} (omega (arith, t .1, t .2)) (tiled-sound true (held e ∷ cs) r (t .4))
-tiled-sound p (held e ∷ cs) r t = s-held {e = e} (omega (arith, t .0)) (tiled-sound false cs r (t .3))
+use Rattle.structure.proofs.Cells.{tiled-cells}
 
 -- cells of a bay among the blocks: those on the left, then c and g, then those on the right
 regroup : (before after : List Block) (l g r : List Cell) (c : Cell)
@@ -60,7 +53,7 @@ module _ (s : Structure) (v : Valid s) (h : ℕ) (o : Own h (baysOf s)) where
   split = in-bay ∙ regroup (o .before) (o .after) (o .left) [] (o .right) (held (o .mine))
 
   right-sound : Sound (o .right)
-  right-sound = tiled-sound false (o .right) (o .after) (tiled-right false pre (cell (held (o .mine)) ∷ (map cell (o .right) ++ o .after)) (subst (Tiled false) split (v .tiled)) .3)
+  right-sound = tiled-cells false (o .right) (o .after) (tiled-right false pre (cell (held (o .mine)) ∷ (map cell (o .right) ++ o .after)) (subst (Tiled false) split (v .tiled)) .3)
 
   -- the free bytes right behind the block counted to it
   pub parts : s .blocks ≡ pre ++ (map cell old ++ rest)

@@ -12,8 +12,7 @@ use Rattle.format.proofs.Masters.{Master}
 use Rattle.kinds.specs.Kinds.{Item, headerOf, masterOf, itemSize}
 use Rattle.calls.specs.State.{total}
 use Rattle.bay.specs.Bay.{Cell, free, held, baySize, baySum, items, gap, packed, compactBay, reshape}
-use Rattle.bay.specs.Sound.{bytesOf, cellsOf, Sound}
-use Rattle.bay.proofs.BayBytes.{cells-bytes}
+use Rattle.bay.specs.Sound.{bytesOf, Sound}
 use Rattle.bay.proofs.Laws.{tidy-size}
 use Rattle.structure.specs.Structure.{Block, cell, Structure, sizes, start, placeOf, encode, decodeZone, handlesOf}
 use Rattle.structure.specs.Valid.{Valid}
@@ -27,7 +26,7 @@ use Rattle.slide.specs.ZoneBay.{Low, partOf, bayCells, ZoneBay, settled}
 use Rattle.slide.proofs.MasterLaws.{low-is}
 use Rattle.surgery.proofs.Sound.{handle-in, handle-once}
 use Rattle.surgery.proofs.Replace.{occurs-parts}
-use Rattle.settle.proofs.Bay.{cells-sound, part-is, zone-bay}
+use Rattle.settle.proofs.Bay.{cells-sound, part-is, bay-at}
 use Rattle.settle.proofs.Compact.{compact-settled}
 use Rattle.settle.proofs.Tidy.{bay-valid, bay-start}
 use Rattle.reshape.specs.Own.{Own, bayOf}
@@ -40,14 +39,8 @@ use Rattle.structure.proofs.IsZone.{whole-of}
 -- ---- a run of cells of a valid structure in the bytes y, from a to e
 
 module _ (t : Structure) (v : Valid t) (pre post : List Block) (cs : List Cell) (parts : t .blocks ≡ pre ++ (map cell cs ++ post)) (y : List ℕ) (a e : ℕ) (ey : encode t ≡ y) (ea : start t + sizes pre ≡ a) (ee : a + baySize cs ≡ e) where
-  bay-at : ZoneBay y a e
-  bay-at = subst (λ (l : List ℕ). ZoneBay l a e) ey (subst (ZoneBay (encode t) a) ee (subst (λ (k : ℕ). ZoneBay (encode t) k (k + baySize cs)) ea (zone-bay t v pre post cs parts)))
-
   part-at : partOf y a e ≡ bytesOf cs
   part-at = subst (λ (l : List ℕ). partOf l a e ≡ bytesOf cs) ey (subst (λ (k : ℕ). partOf (encode t) a k ≡ bytesOf cs) ee (subst (λ (k : ℕ). partOf (encode t) k (k + baySize cs) ≡ bytesOf cs) ea (part-is t v pre post cs parts)))
-
-  cells-at : bayCells y a e ≡ cs
-  cells-at = ap cellsOf part-at ∙ cells-bytes cs (cells-sound t v pre post cs parts)
 
 -- the block's master is one of the bay's
 cells-have : (h : ℕ) (u : List Cell) (e : Item) (w : List Cell) → h ≡ masterOf e → 1 ≤ occurs h (handlesOf (map cell (u ++ (held e ∷ w))))
@@ -84,8 +77,11 @@ module _ (z : List ℕ) (h from end sum b a : ℕ) (x : Laid z h from end sum b 
   pub parts : s .blocks ≡ o .before ++ (map cell (bayOf o) ++ o .after)
   parts = in-bay s v h o
 
+  in-zone : ZoneBay z from end × (bayCells z from end ≡ bayOf o)
+  in-zone = bay-at s v (o .before) (o .after) (bayOf o) parts z from end (encode-zone z w) (x .numbers .start-is) (x .numbers .end-is)
+
   pub ask-bay : ZoneBay z from end
-  ask-bay = bay-at s v (o .before) (o .after) (bayOf o) parts z from end (encode-zone z w) (sym (x .numbers .start-is)) (sym (x .numbers .end-is))
+  ask-bay = in-zone .0
 
   pub ask-more : b ≤ a
   ask-more = omega (arith, x .grows)
@@ -137,21 +133,24 @@ module _ (z : List ℕ) (h from end sum b a : ℕ) (x : Laid z h from end sum b 
   module _ (z₁ : List ℕ) (e₁ : z₁ ≡ settled z from (compactBay (bayCells z from end))) where
     pub is₁ : z₁ ≡ encode s₁
     is₁ =
-        e₁ ∙ ap (λ (cs : List Cell). settled z from (compactBay cs)) (cells-at s v (o .before) (o .after) (bayOf o) parts z from end (encode-zone z w) (sym (x .numbers .start-is)) (sym (x .numbers .end-is)))
+        e₁ ∙ ap (λ (cs : List Cell). settled z from (compactBay cs)) (in-zone .1)
         ∙ ap₂ (λ (y : List ℕ) (k : ℕ). settled y k (compactBay (bayOf o))) (sym (encode-zone z w)) (x .numbers .start-is)
         ∙ compact-settled s v (o .before) (o .after) (bayOf o) parts
 
     pub end₁ : from + baySize (compactBay (bayOf o)) ≡ end
     end₁ = omega (arith, tidy-size (bayOf o), x .numbers .end-is)
 
+    in-zone₁ : ZoneBay z₁ from end × (bayCells z₁ from end ≡ compactBay (bayOf o))
+    in-zone₁ = bay-at s₁ v₁ (o .before) (o .after) (compactBay (bayOf o)) refl z₁ from end (sym is₁) (sym from₁) (sym end₁)
+
     pub tidy-bay : ZoneBay z₁ from end
-    tidy-bay = bay-at s₁ v₁ (o .before) (o .after) (compactBay (bayOf o)) refl z₁ from end (sym is₁) from₁ end₁
+    tidy-bay = in-zone₁ .0
 
     pub part₁ : partOf z₁ from end ≡ bytesOf (laid xs e ys n)
     part₁ = part-at s₁ v₁ (o .before) (o .after) (compactBay (bayOf o)) refl z₁ from end (sym is₁) from₁ end₁ ∙ ap bytesOf tidy
 
     pub low₁ : Low from (laid xs e ys n)
-    low₁ = subst (Low from) (cells-at s₁ v₁ (o .before) (o .after) (compactBay (bayOf o)) refl z₁ from end (sym is₁) from₁ end₁ ∙ tidy) (low-is from _ (tidy-bay .low))
+    low₁ = subst (Low from) (in-zone₁ .1 ∙ tidy) (low-is from _ (tidy-bay .low))
 
     pub tidy-short : end ≤ longestZone
     tidy-short = omega (arith, tidy-bay .inside, tidy-bay .short)

@@ -14,7 +14,7 @@ use Rattle.zone.specs.Work.{resizeIn}
 use Rattle.zone.specs.Call.{result, call}
 use Rattle.bays.specs.Places.{baysOf}
 use Rattle.call_laws.specs.Frame.{Does, Planned}
-use Rattle.call_laws.proofs.Outcome.{none-lent}
+use Rattle.bigendian.proofs.Bytes.{bytes-none}
 use Rattle.call_laws.proofs.Frame.{frame-ready, frame-done}
 use Rattle.resize.specs.Ready.{resizedTo, WayIn, ReadyIn}
 use Rattle.resize.specs.declared.Way.{Way}
@@ -39,4 +39,4 @@ module _ (s : List ℕ) (h c number l a b at n st e : ℕ) (t : Bool) (way : Way
       }
 
   pub call-end : (y : List ℕ) → ((i : ℕ) → Fits w8 (getD s i 0)) → y ≡ encode (resizedTo h a (decodeZone (take l s))) → result (told 0 0) (y ++ drop l s) ≡ call (resize h c) s
-  call-end y g q = frame-done (resize h c) s number l _ p g z does none-lent refl y q
+  call-end y g q = frame-done (resize h c) s number l _ p g z does bytes-none refl y q

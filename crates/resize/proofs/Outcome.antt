@@ -11,7 +11,7 @@ use borrow.Author.Tests.{eqb-true}
 use Rattle.bigendian.specs.BigEndian.{Bytes}
 use Rattle.block_type.specs.Limits.{relocHeader, up4}
 use Rattle.calls.specs.Calls.{by-handle, Answer, told, shows, Call, resize, size, view}
-use Rattle.calls.specs.Bays.{Bays, last, more, over, orElse, findS, mapS, maxS}
+use Rattle.calls.specs.Bays.{Bays, last, more, over, orElse, mapS, maxS}
 use Rattle.zone.specs.PickBays.{onLow}
 use Rattle.kinds.specs.Kinds.{Item, is}
 use Rattle.calls.specs.State.{get, alter, sized, Fixed, content, ownSum}
@@ -28,12 +28,13 @@ use Rattle.bay.proofs.Laws.{release-items}
 use Rattle.zone.proofs.Sums.{mapS-zero}
 use Rattle.bay.proofs.Resize.{length-sized}
 use Rattle.zone.proofs.Own.{own-shaped}
-use Rattle.zone.proofs.Found.{often, count-get, resize-found, Named, unnamed, named, block-named}
+use Rattle.zone.proofs.Found.{resize-found, Named, unnamed, named, block-named}
+use Rattle.zone.proofs.Once.{often, count-get, blockOf}
 use Rattle.zone.proofs.Walk.{each-got}
 use Rattle.zone.proofs.Handles.{count-remove-same}
 use Rattle.zone.proofs.Grouped.{single-live}
 use Rattle.zone.proofs.Run.{well-whole}
-use Rattle.call_laws.proofs.Outcome.{none-lent}
+use Rattle.bigendian.proofs.Bytes.{bytes-none}
 use Rattle.call_laws.proofs.Accepted.{Accepted, accepted, cleared, before, after}
 use Rattle.call_laws.proofs.Named.{size-there, view-there}
 use Rattle.bay.proofs.Resize.{get-none}
@@ -51,9 +52,6 @@ get-alter h a (i ∷ es) = go (is h i) refl (get-alter h a es)
 
 -- ---- in the bays
 
-abbrev find : ℕ → Bays (List Cell) Fixed → Option Item
-find h s = findS (λ (b : List Cell). get h (items b)) s
-
 own-has : (h a : ℕ) (b : List Cell) → own h a b ≡ true → count h (items b) ≡ 1
 own-has h a b t = go (eqb (count h (items b)) 1) refl t
   where
@@ -63,23 +61,23 @@ own-has h a b t = go (eqb (count h (items b)) 1) refl t
 
 -- where the own bay has room, the item is found at its new size
 own-found : (h a : ℕ) (s : Bays (List Cell) Fixed) → live h s ≤ 1
-    → Each (λ (u : Bays (List Cell) Fixed). (1 ≤ live h s) × (find h u ≡ over (resized a) (find h s))) (onLow (own h a) (reshape h a) s)
+    → Each (λ (u : Bays (List Cell) Fixed). (1 ≤ live h s) × (blockOf h u ≡ over (resized a) (blockOf h s))) (onLow (own h a) (reshape h a) s)
 own-found h a (last b) l =
     each-cond (own h a b)
     (λ t. just (omega (arith, own-has h a b t), ap (get h) (own-shaped h a b t .same) ∙ get-alter h a (items b))) nothing
 own-found h a (more b x s) l =
     each-cond (own h a b)
-    (λ t. just (omega (arith, own-has h a b t), ap (λ (o : Option Item). orElse o (find h s)) (ap (get h) (own-shaped h a b t .same) ∙ get-alter h a (items b)) ∙ first (get h (items b)) refl (own-has h a b t)))
+    (λ t. just (omega (arith, own-has h a b t), ap (λ (o : Option Item). orElse o (blockOf h s)) (ap (get h) (own-shaped h a b t .same) ∙ get-alter h a (items b)) ∙ first (get h (items b)) refl (own-has h a b t)))
     (each-over (more b x) (λ u q. (omega (arith, q .0), later u (q .0) (q .1))) (own-found h a s (omega arith)))
   where
-    first : (o : Option Item) → get h (items b) ≡ o → count h (items b) ≡ 1 → orElse (over (resized a) o) (find h s) ≡ over (resized a) (orElse o (find h s))
+    first : (o : Option Item) → get h (items b) ≡ o → count h (items b) ≡ 1 → orElse (over (resized a) o) (blockOf h s) ≡ over (resized a) (orElse o (blockOf h s))
     first none e k = absurd (omega (arith, count-get h (items b) (omega arith), ap often e))
     first (some i) e k = refl
 
-    later : (u : Bays (List Cell) Fixed) → 1 ≤ live h s → find h u ≡ over (resized a) (find h s) → orElse (get h (items b)) (find h u) ≡ over (resized a) (orElse (get h (items b)) (find h s))
+    later : (u : Bays (List Cell) Fixed) → 1 ≤ live h s → blockOf h u ≡ over (resized a) (blockOf h s) → orElse (get h (items b)) (blockOf h u) ≡ over (resized a) (orElse (get h (items b)) (blockOf h s))
     later u k q =
         let n = get-none h (items b) (omega arith) in
-        ap (λ (o : Option Item). orElse o (find h u)) n ∙ q ∙ sym (ap (λ (o : Option Item). over (resized a) (orElse o (find h s))) n)
+        ap (λ (o : Option Item). orElse o (blockOf h u)) n ∙ q ∙ sym (ap (λ (o : Option Item). over (resized a) (orElse o (blockOf h s))) n)
 
 -- ---- the call
 
@@ -118,7 +116,7 @@ module _ (s : List ℕ) (h c : ℕ) (y : Bytes s) (e : asked (resize h c) s .num
   gone : live h (mapS (release h) (z .bays)) ≡ 0
   gone = mapS-zero (λ (b : List Cell). count h (items b)) (release h) (λ b. ap (count h) (release-items h b) ∙ count-remove-same h (items b)) (z .bays)
 
-  after-found : (d : List ℕ) → find h (z .bays) ≡ some (record { handle = h; bytes = d }) → Each (λ (u : Bays (List Cell) Fixed). held u ≡ some (sized a d)) (resizeIn h a (record { handle = h; bytes = d }) (z .bays))
+  after-found : (d : List ℕ) → blockOf h (z .bays) ≡ some (record { handle = h; bytes = d }) → Each (λ (u : Bays (List Cell) Fixed). held u ≡ some (sized a d)) (resizeIn h a (record { handle = h; bytes = d }) (z .bays))
   after-found d f =
       let i : Item = record { handle = h; bytes = d } in
       each-weaken (λ u q. ap (over (λ (j : Item). j .bytes)) q)
@@ -131,7 +129,7 @@ module _ (s : List ℕ) (h c : ℕ) (y : Bytes s) (e : asked (resize h c) s .num
   kept-held : (d : List ℕ) × (held (z .bays) ≡ some d) × (held (next .bays) ≡ some (sized a d))
   kept-held = go (block-named h (z .bays)) refl (or-left _ _ (cleared ok 6 refl)) (or-left _ _ (cleared ok 5 refl))
     where
-      go : {o : Option Item} → Named h o → find h (z .bays) ≡ o → isNone (over length (over (λ (j : Item). j .bytes) o)) ≡ false
+      go : {o : Option Item} → Named h o → blockOf h (z .bays) ≡ o → isNone (over length (over (λ (j : Item). j .bytes) o)) ≡ false
           → below (ownSum items baySum h (z .bays)) (a - Option·getD (over length (over (λ (j : Item). j .bytes) o)) 0) && below (maxS baySum (z .bays)) (relocHeader + a) ≡ false
           → (d : List ℕ) × (held (z .bays) ≡ some d) × (held (next .bays) ≡ some (sized a d))
       go unnamed f n m = absurd (true≢false n)
@@ -153,6 +151,6 @@ module _ (s : List ℕ) (h c : ℕ) (y : Bytes s) (e : asked (resize h c) s .num
 
   pub resize-told : NewSize h c s
   resize-told = record {
-    long = after ok y none-lent (size (by-handle h)) ∙ size-there next (by-handle h) (kept-held .2) ∙ ap (told 0) (length-sized a d);
-    kept = after ok y none-lent (view (by-handle h) 0 a) ∙ view-there next (by-handle h) (sized a d) a (sym (length-sized a d)) (kept-held .2) ∙ ap (λ (x : List ℕ). shows 0 (sized a x)) (sym shown-is);
+    long = after ok y bytes-none (size (by-handle h)) ∙ size-there next (by-handle h) (kept-held .2) ∙ ap (told 0) (length-sized a d);
+    kept = after ok y bytes-none (view (by-handle h) 0 a) ∙ view-there next (by-handle h) (sized a d) a (sym (length-sized a d)) (kept-held .2) ∙ ap (λ (x : List ℕ). shows 0 (sized a x)) (sym shown-is);
   }

@@ -1,171 +1,35 @@
--- The laws that the roster's proofs cite.
-use mathlib.Core.Path.{_≡_, refl, ap, ap₂, sym, _∙_}
-use mathlib.Core.Bool.{Bool, true, false, cond, not}
-use mathlib.Core.List.{List, [], _∷_, _++_, append-assoc, List·Permᴰ, List·Permᴰ·nil, List·Permᴰ·cons, List·Permᴰ·swap, List·Permᴰ·trans}
-use Prim.Native.Nat.{ℕ, zero, suc, _+_, _-_, _*_, _/_, _≤_, _<_}
+-- The plan of the call, and what it answers: the records of the bays, in some order.
+use mathlib.Core.Path.{_≡_, refl, ap, sym, _∙_}
+use mathlib.Core.Bool.{Bool, true, false, not}
+use mathlib.Core.List.{List, _++_, List·Permᴰ, List·Permᴰ·nil}
+use Prim.Native.Nat.{ℕ, _*_, _/_, _≤_, _<_}
 use native.Mathlib.Omega.{arith}
 use native.Mathlib.Nat.{zero-add}
-use lib.Dec.{eqb}
-use borrow.Author.Tests.{not-true, eq-eqb, ne-eqb, le-leb, lt-leb}
-use lib.ListN.{length, getD, take, drop, length-append}
+use borrow.Author.Tests.{not-true, le-leb, lt-leb}
+use lib.ListN.{length, getD, take, drop}
 use lib.Seq.{drop-at}
 use mir.Val.{Fits}
 use mir.Syntax.{w8, w32}
-use Rattle.block_type.specs.Limits.{masterSize, zoneHeader, argumentRange, firstBlock, mostMasters, mastersAt, recordSize, amountAt}
-use Rattle.bigendian.specs.BigEndian.{toBE, overwrite, Bytes}
-use Rattle.bigendian.proofs.Laws.{length-toBE, be-toBE}
-use Rattle.memory.proofs.Writes.{write-none}
-use Rattle.format.specs.WellFormed.{wellFormed, zoneOf, mastersField, countOf, offsets, lengthField}
+use Rattle.block_type.specs.Limits.{recordSize}
+use Rattle.bigendian.specs.BigEndian.{overwrite, Bytes}
+use Rattle.format.specs.WellFormed.{wellFormed, zoneOf, countOf, lengthField}
 use Rattle.structure.specs.Structure.{decode, decodeZone, start}
-use Rattle.structure.proofs.Table.{len-is}
-use Rattle.access.specs.Edit.{placeIn, dataIn}
-use Rattle.access.proofs.Size.{size-none, data-fits}
-use Rattle.bigendian.proofs.Overwrite.{len-write, write-write}
 use Rattle.calls.specs.Calls.{Card, Answer, roster, shows, lists}
-use Rattle.zone.specs.Call.{call}
-use Rattle.calls.specs.Bays.{Bays}
-use Rattle.bay.specs.Bay.{Cell}
-use Rattle.calls.specs.State.{Fixed}
-use Rattle.zone.specs.Group.{group}
+use Rattle.zone.specs.Call.{call, zoneIn}
 use Rattle.zone.specs.Roster.{cardBytes, cardsIn}
 use Rattle.access.proofs.Checked.{is-well, fields-of}
 use Rattle.tell.proofs.CheckLaws.{count-live, count-blocks, count-few}
-use Rattle.roster.specs.Listed.{Rostered, cardOf, cardsOf, allCards, Entered, Planned, refused, ready}
+use Rattle.roster.specs.Listed.{Rostered, allCards, Planned, refused, ready}
 use Rattle.roster.proofs.Order.{length-cards, bayCards, cards-are, all-order}
 use Rattle.structure.specs.IsZone.{IsZone, is-zone}
-use Rattle.structure.proofs.IsZone.{whole-of}
-
--- ---- one record
-
-data-small : (z : List ℕ) (h : ℕ) → IsZone z → length (dataIn z h) < argumentRange
-unfolding placeIn dataIn
-data-small z h i = go (placeIn z h) refl
-  where
-    go : (p : ℕ) → placeIn z h ≡ p → length (dataIn z h) < argumentRange
-    go zero e = omega (arith, size-none z h 0 (sym e) refl)
-    go (suc p) e =
-        let d = decodeZone z in
-        let w = whole-of z i in
-        omega (arith, data-fits h (start d) (d .blocks) (omega arith), len-is z w, w .limit)
-
-pub size-word : (z : List ℕ) (h n : ℕ) → IsZone z → n ≡ length (dataIn z h) → Fits w32 n
-size-word z h n i e = record { fits = omega (arith, data-small z h i) }
-
-pub put-two : (s y₁ y₂ : List ℕ) (at h n : ℕ) → at + recordSize ≤ length s → y₁ ≡ overwrite s at (toBE 4 h) → y₂ ≡ overwrite y₁ (at + amountAt) (toBE 4 n) → y₂ ≡ overwrite s at (toBE 4 h ++ toBE 4 n)
-put-two s y₁ y₂ at h n l e₁ e₂ =
-    let a = length-toBE 4 h in
-    let b = length-toBE 4 n in
-    let q : at + amountAt ≡ at + length (toBE 4 h) = omega arith in
-    e₂ ∙ (rw (e₁, q) (write-write s (toBE 4 h) (toBE 4 n) at (omega arith)))
-
-length-bytes : (cs : List Card) → length (cardBytes cs) ≡ recordSize * length cs
-length-bytes [] = refl
-length-bytes (c ∷ cs) =
-    omega (
-      arith,
-      length-append (toBE 4 (c .handle)) (toBE 4 (c .amount) ++ cardBytes cs),
-      length-append (toBE 4 (c .amount)) (cardBytes cs),
-      length-toBE 4 (c .handle),
-      length-toBE 4 (c .amount),
-      length-bytes cs,
-    )
-
-module _ (z : List ℕ) (h p : ℕ) (e : p ≡ placeIn z h) where
-  cards-dead : p ≡ 0 → (hs : List ℕ) → cardsOf z (h ∷ hs) ≡ cardsOf z hs
-  unfolding cardsOf
-  cards-dead q hs = rw (← e, eq-eqb p 0 q)
-
-  cards-live : (p ≡ 0 → ⊥) → (hs : List ℕ) → cardsOf z (h ∷ hs) ≡ cardOf h (dataIn z h) ∷ cardsOf z hs
-  unfolding cardsOf
-  cards-live q hs = rw (← e, ne-eqb p 0 q)
-
-  pub enter-none : (s : List ℕ) (at : ℕ) → p ≡ 0 → Entered z s at h s at
-  enter-none s at q = record {
-    long = refl;
-    left = λ hs. rw (cards-dead q hs);
-    same = λ hs l. rw (cards-dead q hs);
-  }
-
-  pub enter-room : (at n : ℕ) → (p ≡ 0 → ⊥) → at + recordSize * length (cardsOf z (h ∷ [])) ≤ n → at + recordSize ≤ n
-  unfolding cardsOf
-  enter-room at n q l = omega (arith, ap length (cards-live q []))
-
-  pub enter-one : (s y : List ℕ) (at n : ℕ) → (p ≡ 0 → ⊥) → n ≡ length (dataIn z h) → at + recordSize * length (cardsOf z (h ∷ [])) ≤ length s
-      → y ≡ overwrite s at (toBE 4 h ++ toBE 4 n) → Entered z s at h y (at + recordSize)
-  enter-one s y at n q en l ey =
-      let x : List ℕ = toBE 4 h ++ toBE 4 n in
-      let lx : length x ≡ recordSize = omega (arith, length-append (toBE 4 h) (toBE 4 n), length-toBE 4 h, length-toBE 4 n) in
-      let r = enter-room at (length s) q l in
-      record {
-        long = len-write s x y at ey (omega arith);
-        left = λ hs. rw (cards-live q hs) (omega arith);
-        same = λ hs m.
-            let b : List ℕ = cardBytes (cardsOf z hs) in
-            let lb = length-bytes (cardsOf z hs) in
-            let lc = ap length (cards-live q hs) in
-            let k : at + recordSize ≡ at + length x = omega arith in
-            (rw (ey, k) (write-write s x b at (omega arith)))
-            ∙ ap (overwrite s at) (append-assoc (toBE 4 h) (toBE 4 n) b ∙ (rw (cards-live q hs, en)));
-      }
-
--- ---- all records
-
-offsets-next : (h left : ℕ) → 0 < left → offsets h left ≡ h ∷ offsets (h + masterSize) (left - 1)
-unfolding offsets
-offsets-next h zero l = let x : ⊥ = omega arith in absurd x
-offsets-next h (suc n) l = let e : suc n - 1 ≡ n = omega arith in rw e
-
-cards-more : (z hs : List ℕ) (h : ℕ) → length (cardsOf z (h ∷ [])) ≤ length (cardsOf z (h ∷ hs))
-unfolding cardsOf
-cards-more z hs h = go (eqb (placeIn z h) 0)
-  where
-    go : (t : Bool) → length (cond t [] (cardOf h (dataIn z h) ∷ [])) ≤ length (cond t (cardsOf z hs) (cardOf h (dataIn z h) ∷ cardsOf z hs))
-    go true = omega arith
-    go false = omega arith
-
-module _ (z : List ℕ) (at h left n : ℕ) where
-  pub fill-first : 0 < left → at + recordSize * length (cardsOf z (offsets h left)) ≤ n → at + recordSize * length (cardsOf z (h ∷ [])) ≤ n
-  fill-first l m = omega (arith, rw (offsets-next h left l) at m, cards-more z (offsets (h + masterSize) (left - 1)) h)
-
-module _ (z s y : List ℕ) (at h left r : ℕ) (t : Entered z s at h y r) (l : 0 < left) (m : at + recordSize * length (cardsOf z (offsets h left)) ≤ length s) where
-  m′ : at + recordSize * length (cardsOf z (h ∷ offsets (h + masterSize) (left - 1))) ≤ length s
-  m′ = rw (offsets-next h left l) at m
-
-  pub fill-room : r + recordSize * length (cardsOf z (offsets (h + masterSize) (left - 1))) ≤ length y
-  fill-room = omega (arith, m′, t .long, t .left (offsets (h + masterSize) (left - 1)))
-
-  pub fill-step : (w : List ℕ) → overwrite s at (cardBytes (cardsOf z (offsets h left))) ≡ w → overwrite y r (cardBytes (cardsOf z (offsets (h + masterSize) (left - 1)))) ≡ w
-  fill-step w inv = t .same (offsets (h + masterSize) (left - 1)) m′ ∙ (rw (offsets-next h left l) at inv)
-
-pub fill-done : (z s : List ℕ) (at h left : ℕ) (w : List ℕ) → left ≤ 0 → overwrite s at (cardBytes (cardsOf z (offsets h left))) ≡ w → s ≡ w
-unfolding offsets cardsOf
-fill-done z s at h zero w l inv = sym (write-none s at) ∙ inv
-fill-done z s at h (suc n) w l inv = let x : ⊥ = omega arith in absurd x
-
-module _ (z : List ℕ) (left : ℕ) (e : left ≡ mastersField z) where
-  pub start-bytes : (s : List ℕ) → overwrite s 0 (cardBytes (cardsOf z (offsets zoneHeader left))) ≡ overwrite s 0 (cardBytes (allCards z))
-  unfolding allCards
-  start-bytes s = rw e
-
-  pub start-room : (n : ℕ) → recordSize * length (allCards z) ≤ n → 0 + recordSize * length (cardsOf z (offsets zoneHeader left)) ≤ n
-  unfolding allCards
-  start-room n l = rw e (omega arith)
-
-  pub start-masters : IsZone z → zoneHeader + masterSize * left ≤ firstBlock mostMasters
-  start-masters i = omega (arith, whole-of z i .few)
-
-pub get-masters : (z : List ℕ) → IsZone z → mastersAt + 4 ≤ length z
-get-masters z i = omega (arith, whole-of z i .long)
+use Rattle.roster.proofs.Entries.{length-bytes, cards-back, all-small}
+use Rattle.bay.proofs.Perm.{perm-length}
 
 -- ---- the plan
 
--- the bays of a buffer
-abbrev baysOf : List ℕ → Bays (List Cell) Fixed
-baysOf s = group (start (decode s)) (decode s .blocks)
-
 module _ (s : List ℕ) (y : Bytes s) (h : wellFormed s ≡ true) where
   -- the answer where the second buffer is long enough, and where it is not
-  accepted : (entry : List ℕ) → recordSize * countOf s ≤ length entry → (call (roster entry) s) .answer ≡ lists (countOf s) (bayCards (baysOf s)) (drop (recordSize * countOf s) entry)
+  accepted : (entry : List ℕ) → recordSize * countOf s ≤ length entry → (call (roster entry) s) .answer ≡ lists (countOf s) (bayCards (zoneIn s .bays)) (drop (recordSize * countOf s) entry)
   accepted entry l = rw (h, ← count-live s y h, le-leb (recordSize * countOf s) (length entry) l)
 
   too-short : (entry : List ℕ) → length entry < recordSize * countOf s → (call (roster entry) s) .answer ≡ shows 10 entry
@@ -186,18 +50,11 @@ module _ (s : List ℕ) (have n : ℕ) (ok : Bool) (e : ok ≡ wellFormed s) (q 
 
 -- ---- the call
 
--- a permutation has as many elements
-perm-length : {A : Type 0} {a b : List A} → List·Permᴰ a b → length a ≡ length b
-perm-length List·Permᴰ·nil = refl
-perm-length (List·Permᴰ·cons e p) = ap suc (perm-length p)
-perm-length (List·Permᴰ·swap e f) = refl
-perm-length (List·Permᴰ·trans p q) = perm-length p ∙ perm-length q
-
 module _ (s : List ℕ) (y : Bytes s) (h : wellFormed s ≡ true) where
   zone-is : IsZone (zoneOf s)
   zone-is = is-zone s y h refl
 
-  order : List·Permᴰ (allCards (zoneOf s)) (bayCards (baysOf s))
+  order : List·Permᴰ (allCards (zoneOf s)) (bayCards (zoneIn s .bays))
   unfolding decode
   order = rw (cards-are (start (decodeZone (zoneOf s))) (decodeZone (zoneOf s) .blocks)) at (all-order (zoneOf s) zone-is)
 
@@ -217,32 +74,6 @@ module _ (s : List ℕ) (have n k l : ℕ) where
   pub plan-room : Planned s have n k l → n ≡ 0 → recordSize * length (allCards (take l s)) ≤ have
   plan-room (refused f g) z = absurd (f z)
   plan-room (ready a h y el ek r) z = rw el (omega (arith, how-many s y h))
-
--- numbers of 4 bytes
-abbrev Small : List Card → Type 0
-Small [] = Unit {0}
-Small (c ∷ cs) = (c .handle < argumentRange) × (c .amount < argumentRange) × Small cs
-
-cards-back : (cs : List Card) (t : List ℕ) → Small cs → cardsIn (length cs) (cardBytes cs ++ t) ≡ cs
-unfolding toBE
-cards-back [] t m = refl
-cards-back (c ∷ cs) t m =
-    ap₂ _∷_
-    (ap₂ (λ (h n : ℕ). record { handle = h; amount = n }) (be-toBE 4 (c .handle) (m .0)) (be-toBE 4 (c .amount) (m .1)))
-    (cards-back cs t (m .2))
-
-cards-small : (z : List ℕ) → IsZone z → (k n : ℕ) → k + masterSize * n ≤ argumentRange → Small (cardsOf z (offsets k n))
-unfolding cardsOf offsets
-cards-small z i k zero l = tt
-cards-small z i k (suc n) l = go (eqb (placeIn z k) 0) (cards-small z i (k + masterSize) n (omega arith))
-  where
-    go : (t : Bool) → Small (cardsOf z (offsets (k + masterSize) n)) → Small (cond t (cardsOf z (offsets (k + masterSize) n)) (cardOf k (dataIn z k) ∷ cardsOf z (offsets (k + masterSize) n)))
-    go true m = m
-    go false m = (omega arith, data-small z k i, m)
-
-all-small : (z : List ℕ) → IsZone z → Small (allCards z)
-unfolding allCards
-all-small z i = cards-small z i zoneHeader (mastersField z) (omega (arith, whole-of z i .few))
 
 from-start : (s b : List ℕ) → overwrite s 0 b ≡ b ++ drop (length b) s
 from-start s b = rw zero-add

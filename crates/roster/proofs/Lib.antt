@@ -1,3 +1,4 @@
+pub mod Entries
 pub mod Laws
 pub mod Order
 pub mod Outcomes

@@ -9,7 +9,7 @@ use lib.Dec.{eqb}
 use borrow.Author.Tests.{eq-eqb, ne-eqb}
 use lib.ListN.{length}
 use Rattle.format.specs.Occurs.{occurs}
-use Rattle.block_type.specs.Limits.{fixedHeader, relocHeader, zoneHeader}
+use Rattle.block_type.specs.Limits.{fixedHeader, zoneHeader}
 use Rattle.format.specs.WellFormed.{mastersField, offsets}
 use Rattle.format.proofs.Count.{one-same, one-other}
 use Rattle.structure.specs.Structure.{Block, fixed, start, placeOf, decodeZone, cell, handlesOf}
@@ -20,7 +20,7 @@ use Rattle.structure.proofs.Table.{count-is}
 use Rattle.access.specs.Edit.{dataOf, placeIn, dataIn}
 use Rattle.calls.specs.Calls.{Card}
 use Rattle.calls.specs.Bays.{Bays, last, more, concatS}
-use Rattle.kinds.specs.Kinds.{Item, item}
+use Rattle.kinds.specs.Kinds.{Item, masterOf, headerOf, itemSize}
 use Rattle.calls.specs.State.{Fixed, card}
 use Rattle.bay.specs.Bay.{Cell, free, held, items}
 use Rattle.zone.specs.Group.{inFront, group}
@@ -34,7 +34,7 @@ unfoldable pub blockCards : List Block → List Card
 blockCards [] = []
 blockCards (cell (free n) ∷ bs) = blockCards bs
 blockCards (fixed d ∷ bs) = blockCards bs
-blockCards (cell (held it) ∷ bs) = cardOf (it .handle) (it .bytes) ∷ blockCards bs
+blockCards (cell (held it) ∷ bs) = cardOf (masterOf it) (it .bytes) ∷ blockCards bs
 
 pub length-cards : (bs : List Block) → length (blockCards bs) ≡ length (handlesOf bs)
 unfolding blockCards handlesOf
@@ -60,7 +60,7 @@ unfolding blockCards
 cards-are p [] = refl
 cards-are p (cell (free n) ∷ bs) = cards-are (p + n) bs ∙ sym (cards-gap n (group (p + n) bs))
 cards-are p (fixed d ∷ bs) = cards-are (p + (fixedHeader + length d)) bs
-cards-are p (cell (held it) ∷ bs) = ap (cardOf (it .handle) (it .bytes) ∷_) (cards-are (p + (relocHeader + length (it .bytes))) bs) ∙ sym (cards-held (record { handle = (it .handle); bytes = (it .bytes) }) (group (p + (relocHeader + length (it .bytes))) bs))
+cards-are p (cell (held it) ∷ bs) = ap (card it ∷_) (cards-are (p + itemSize it) bs) ∙ sym (cards-held it (group (p + itemSize it) bs))
 
 -- ---- in the order of some handles
 
@@ -83,32 +83,35 @@ unfolding cardsAt placeOf dataOf
 fixed-at [] d at bs = refl
 fixed-at (h ∷ hs) d at bs = rw (fixed-at hs d at bs)
 
-module _ (k : ℕ) (d : List ℕ) (at : ℕ) (bs : List Block) where
+module _ (e : Item) (at : ℕ) (bs : List Block) where
+  abbrev k : ℕ
+  k = masterOf e
+
   -- a block of another handle
-  other-at : (hs : List ℕ) → occurs k hs ≡ 0 → cardsAt hs at (cell (held (item k d)) ∷ bs) ≡ cardsAt hs (at + (relocHeader + length d)) bs
+  other-at : (hs : List ℕ) → occurs k hs ≡ 0 → cardsAt hs at (cell (held e) ∷ bs) ≡ cardsAt hs (at + itemSize e) bs
   unfolding cardsAt placeOf dataOf occurs
-  other-at [] e = refl
-  other-at (h ∷ hs) e =
+  other-at [] o = refl
+  other-at (h ∷ hs) o =
       rw (ne-eqb h k (λ q. omega (arith, one-same k h (sym q))), other-at hs (omega arith))
 
   -- a block of one of the handles
-  reloc-at : (hs : List ℕ) → occurs k hs ≡ 1 → placeOf k (at + (relocHeader + length d)) bs ≡ 0 → List·Permᴰ (cardsAt hs at (cell (held (item k d)) ∷ bs)) (cardOf k d ∷ cardsAt hs (at + (relocHeader + length d)) bs)
+  reloc-at : (hs : List ℕ) → occurs k hs ≡ 1 → placeOf k (at + itemSize e) bs ≡ 0 → List·Permᴰ (cardsAt hs at (cell (held e) ∷ bs)) (cardOf k (e .bytes) ∷ cardsAt hs (at + itemSize e) bs)
   unfolding cardsAt placeOf dataOf occurs
-  reloc-at [] e z = let x : ⊥ = omega arith in absurd x
-  reloc-at (h ∷ hs) e z = go (ℕ-discrete h k) (reloc-at hs)
+  reloc-at [] o z = let x : ⊥ = omega arith in absurd x
+  reloc-at (h ∷ hs) o z = go (ℕ-discrete h k) (reloc-at hs)
     where
-      swapped : (t : Bool) → List·Permᴰ (cardsAt hs at (cell (held (item k d)) ∷ bs)) (cardOf k d ∷ cardsAt hs (at + (relocHeader + length d)) bs)
-          → List·Permᴰ (cond t (cardsAt hs at (cell (held (item k d)) ∷ bs)) (cardOf h (dataOf h bs) ∷ cardsAt hs at (cell (held (item k d)) ∷ bs)))
-          (cardOf k d ∷ cond t (cardsAt hs (at + (relocHeader + length d)) bs) (cardOf h (dataOf h bs) ∷ cardsAt hs (at + (relocHeader + length d)) bs))
+      swapped : (t : Bool) → List·Permᴰ (cardsAt hs at (cell (held e) ∷ bs)) (cardOf k (e .bytes) ∷ cardsAt hs (at + itemSize e) bs)
+          → List·Permᴰ (cond t (cardsAt hs at (cell (held e) ∷ bs)) (cardOf h (dataOf h bs) ∷ cardsAt hs at (cell (held e) ∷ bs)))
+          (cardOf k (e .bytes) ∷ cond t (cardsAt hs (at + itemSize e) bs) (cardOf h (dataOf h bs) ∷ cardsAt hs (at + itemSize e) bs))
       swapped true r = r
       swapped false r = List·Permᴰ·trans (List·Permᴰ·cons refl r) (List·Permᴰ·swap refl refl)
 
-      go : Dec (h ≡ k) → (occurs k hs ≡ 1 → placeOf k (at + (relocHeader + length d)) bs ≡ 0 → List·Permᴰ (cardsAt hs at (cell (held (item k d)) ∷ bs)) (cardOf k d ∷ cardsAt hs (at + (relocHeader + length d)) bs))
-          → List·Permᴰ (cardsAt (h ∷ hs) at (cell (held (item k d)) ∷ bs)) (cardOf k d ∷ cardsAt (h ∷ hs) (at + (relocHeader + length d)) bs)
+      go : Dec (h ≡ k) → (occurs k hs ≡ 1 → placeOf k (at + itemSize e) bs ≡ 0 → List·Permᴰ (cardsAt hs at (cell (held e) ∷ bs)) (cardOf k (e .bytes) ∷ cardsAt hs (at + itemSize e) bs))
+          → List·Permᴰ (cardsAt (h ∷ hs) at (cell (held e) ∷ bs)) (cardOf k (e .bytes) ∷ cardsAt (h ∷ hs) (at + itemSize e) bs)
       go (yes q) r =
-          let z′ : placeOf h (at + (relocHeader + length d)) bs ≡ 0 = rw q z in
-          rw (eq-eqb h k q, ne-eqb (at + relocHeader) 0 (λ x. omega arith), z′, other-at hs (omega (arith, one-same k h (sym q)))) (List·Permᴰ·cons (ap (λ (x : ℕ). cardOf x d) q) (Permᴰ·refl _))
-      go (no q) r = rw (ne-eqb h k q) (swapped (eqb (placeOf h (at + (relocHeader + length d)) bs) 0) (r (omega (arith, one-other k h (λ p. q (sym p)))) z))
+          let z′ : placeOf h (at + itemSize e) bs ≡ 0 = rw q z in
+          rw (eq-eqb h k q, ne-eqb (at + headerOf e) 0 (λ x. omega arith), z′, other-at hs (omega (arith, one-same k h (sym q)))) (List·Permᴰ·cons (ap (λ (x : ℕ). cardOf x (e .bytes)) q) (Permᴰ·refl _))
+      go (no q) r = rw (ne-eqb h k q) (swapped (eqb (placeOf h (at + itemSize e) bs) 0) (r (omega (arith, one-other k h (λ p. q (sym p)))) z))
 
 -- each block's handle is one of the handles, which are all different
 in-order : (hs : List ℕ) → ((h : ℕ) → occurs h hs ≤ 1) → (at : ℕ) (bs : List Block) → ((h : ℕ) → occurs h (handlesOf bs) ≤ occurs h hs) → List·Permᴰ (cardsAt hs at bs) (blockCards bs)
@@ -117,12 +120,12 @@ in-order hs f at [] g = rw none-at List·Permᴰ·nil
 in-order hs f at (cell (free n) ∷ bs) g = rw (free-at hs n at bs) (in-order hs f (at + n) bs g)
 in-order hs f at (fixed d ∷ bs) g = rw (fixed-at hs d at bs) (in-order hs f (at + (fixedHeader + length d)) bs g)
 in-order hs f at (cell (held it) ∷ bs) g =
-    let a = g (it .handle) in
-    let b = f (it .handle) in
-    let s = one-same (it .handle) (it .handle) refl in
+    let a = g (masterOf it) in
+    let b = f (masterOf it) in
+    let s = one-same (masterOf it) (masterOf it) refl in
     List·Permᴰ·trans
-    (reloc-at (it .handle) (it .bytes) at bs hs (omega arith) (place-none (it .handle) (at + (relocHeader + length (it .bytes))) bs (omega arith)))
-    (List·Permᴰ·cons refl (in-order hs f (at + (relocHeader + length (it .bytes))) bs (λ h. omega (arith, g h))))
+    (reloc-at it at bs hs (omega arith) (place-none (masterOf it) (at + itemSize it) bs (omega arith)))
+    (List·Permᴰ·cons refl (in-order hs f (at + itemSize it) bs (λ h. omega (arith, g h))))
 
 -- ---- of a zone
 

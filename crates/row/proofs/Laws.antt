@@ -114,3 +114,8 @@ sound-left (x ∷ a) b s = (s .0, sound-left a b (s .1))
 pub sound-right : (a b : List Block) → Sound (a ++ b) → Sound b
 sound-right [] b s = s
 sound-right (x ∷ a) b s = sound-right a b (s .1)
+
+pub sound-four : (bs : List Block) → Sound bs → sizes bs % 4 ≡ 0
+unfolding sizes
+sound-four [] s = refl
+sound-four (b ∷ bs) s = omega (arith, low-of b (s .0) .1, sound-four bs (s .1))

@@ -29,7 +29,7 @@ use Rattle.bays.proofs.High.{last-found}
 use Rattle.settle.proofs.Bay.{cells-sound}
 use Rattle.bay_end.proofs.Found.{zone-tiled, zone-high}
 use Rattle.call_laws.specs.Frame.{zoneAt, Does, PlannedIn, goes, Planned}
-use Rattle.call_laws.proofs.Outcome.{none-lent}
+use Rattle.bigendian.proofs.Bytes.{bytes-none}
 use Rattle.call_laws.proofs.Frame.{frame-ready, frame-cut, frame-same}
 use Rattle.shrink.specs.Stripped.{strips, stripped, Site}
 use Rattle.shrink.specs.Ready.{ReadyIn}
@@ -116,7 +116,7 @@ module _ (s : List ℕ) (k number l n a e sum tail : ℕ) (p : Planned (shrink k
 
   pub call-none : ((i : ℕ) → Fits w8 (getD s i 0)) → n ≡ 0 → result (told 0 0) s ≡ call (shrink k) s
   call-none g q =
-      frame-same (shrink k) s number l _ p g z (stays (length s) (take l s) k n (r .is-strip) q) none-lent (stays-long (length s) (take l s) k n (r .is-strip) q)
+      frame-same (shrink k) s number l _ p g z (stays (length s) (take l s) k n (r .is-strip) q) bytes-none (stays-long (length s) (take l s) k n (r .is-strip) q)
       (sym (encode-zone (take l s) (whole-of (take l s) (r .zone))))
 
   module _ (ne : n ≡ 0 → ⊥) where
@@ -129,4 +129,4 @@ module _ (s : List ℕ) (k number l n a e sum tail : ℕ) (p : Planned (shrink k
     pub call-end : (y : List ℕ) → ((i : ℕ) → Fits w8 (getD s i 0)) → y ≡ encode (stripped n (decodeZone (take l s))) ++ replicate n 0
         → result (told 0 n) (y ++ drop l s) ≡ call (shrink k) s
     call-end y g q =
-        frame-cut (shrink k) s number l _ p g z (cuts (length s) (take l s) k n (r .is-strip) ne) none-lent n (cuts-long (length s) (take l s) k n (r .is-strip) ne) y q
+        frame-cut (shrink k) s number l _ p g z (cuts (length s) (take l s) k n (r .is-strip) ne) bytes-none n (cuts-long (length s) (take l s) k n (r .is-strip) ne) y q

@@ -13,7 +13,7 @@ use Rattle.bay.specs.Bay.{Cell, baySum, takeHigh}
 use Rattle.zone.specs.Work.{Zone, strip}
 use Rattle.zone.specs.Call.{zoneIn, call}
 use Rattle.bay.proofs.Laws.{cut-less, bsize-split}
-use Rattle.call_laws.proofs.Outcome.{none-lent}
+use Rattle.bigendian.proofs.Bytes.{bytes-none}
 use Rattle.call_laws.proofs.Accepted.{Accepted, accepted, answered, before, after}
 use Rattle.shrink.specs.Stripped.{strips}
 use Rattle.shrink.proofs.Call.{small}
@@ -51,6 +51,6 @@ module _ (s : List ℕ) (k : ℕ) (y : Bytes s) (e : asked (shrink k) s .number 
   shrink-told =
       let l = less (strips (decode s) k) (zoneIn s) (small (decode s) k) (omega arith) in
       record {
-        shorter = ap₂ _+_ (ap value (after a y none-lent length-of)) (ap value (answered a y)) ∙ l .0 ∙ sym (ap value (before a y length-of));
-        fewer = ap₂ _+_ (ap value (after a y none-lent sums)) (ap value (answered a y)) ∙ l .1 ∙ sym (ap value (before a y sums));
+        shorter = ap₂ _+_ (ap value (after a y bytes-none length-of)) (ap value (answered a y)) ∙ l .0 ∙ sym (ap value (before a y length-of));
+        fewer = ap₂ _+_ (ap value (after a y bytes-none sums)) (ap value (answered a y)) ∙ l .1 ∙ sym (ap value (before a y sums));
       }

@@ -32,8 +32,9 @@ use Rattle.bay_end.specs.Run.{Run}
 use Rattle.bay_end.proofs.Kept.{kept-free}
 use Rattle.bay_end.proofs.Taken.{trimmed-is}
 use Rattle.bay_end.proofs.Zone.{run-valid, run-take, run-end, run-kept, run-left, run-long}
-use Rattle.bay_end.proofs.End.{rest, rest-behind, rest-size, lens, end-changed}
+use Rattle.bay_end.proofs.End.{rest, rest-behind, lens, end-changed}
 use Rattle.shrink.specs.Stripped.{stripped, Site}
+use Rattle.structure.proofs.Cells.{gap-sizes}
 
 module _ (z : List ℕ) (n a e sum tail : ℕ) (x : Site z n a e sum tail) where
   abbrev s : Structure
@@ -123,7 +124,7 @@ module _ (z : List ℕ) (n a e sum tail : ℕ) (x : Site z n a e sum tail) where
       ap (λ (x : List ℕ). overwrite x lengthAt (toBE 4 (e - n)))
       (zeros ∙ ap₂ (λ (x : List ℕ) (o : ℕ). overwrite x o zs) (sym (append-nil (encode s₁))) there)
       ∙ end-changed s₁ (pre ++ map cell ds) n 0 [] zs end-parts sound tt long (e - n)
-      (omega (arith, there, lens s₁ (pre ++ map cell ds) n 0 [] zs end-parts sound tt long, ap sizes end-parts, sizes-append (pre ++ map cell ds) (rest n), rest-size n))
+      (omega (arith, there, lens s₁ (pre ++ map cell ds) n 0 [] zs end-parts sound tt long, ap sizes end-parts, sizes-append (pre ++ map cell ds) (rest n), gap-sizes n))
       ∙ ap (λ (b : List Block). encode (record { chain = s .chain; blocks = b }) ++ zs) (append-assoc pre (map cell ds) [])
 
   -- ---- what the code asks

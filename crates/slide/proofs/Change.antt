@@ -6,7 +6,7 @@ use native.Mathlib.Omega.{arith}
 use lib.ListN.{length, take, drop, length-take, length-drop}
 use lib.Seq.{drop-drop, take-at, drop-at, length-take-le}
 use Rattle.bigendian.specs.BigEndian.{overwrite}
-use Rattle.format.proofs.Walk.{drop-take}
+use Rattle.bigendian.proofs.Parts.{drop-take}
 use Rattle.bay.specs.Bay.{Cell, baySize}
 use Rattle.bay.specs.Sound.{bytesOf, cellsOf, Sound, IsBay, is-bay}
 use Rattle.bay.proofs.BayBytes.{cells-bytes, bay-bytes, bay-sound, bytes-long}

@@ -6,7 +6,7 @@ use native.Mathlib.Omega.{arith}
 use lib.ListN.{length, take, length-append, length-take, take-append-drop}
 use lib.Seq.{sets, length-sets, sets-eq}
 use Rattle.bigendian.specs.BigEndian.{overwrite}
-use Rattle.bigendian.proofs.Overwrite.{write-right, write-left}
+use Rattle.bigendian.proofs.Overwrite.{write-right, write-left, write-mid}
 use Rattle.kinds.specs.Kinds.{is}
 use Rattle.calls.specs.Calls.{Target}
 use Rattle.bay.specs.Bay.{free, held}
@@ -14,7 +14,6 @@ use Rattle.structure.specs.Structure.{Block, fixed, cell, Structure, size, size
 use Rattle.structure.specs.Valid.{Valid}
 use Rattle.structure.proofs.Append.{sizes-append}
 use Rattle.structure.proofs.Round.{rest-is, length-is}
-use Rattle.structure.proofs.ZoneLayout.{write-mid}
 use Rattle.row.specs.Row.{Sound1, Sound, bytesOf}
 use Rattle.row.proofs.Laws.{bytes-append, bytes-long, sound-left, sound-right}
 use Rattle.row.proofs.Zone.{valid-sound}

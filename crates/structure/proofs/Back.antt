@@ -184,11 +184,6 @@ chain-back z first (k ∷ ks) p =
 at-seam : (a t : List ℕ) (n v k : ℕ) → length a ≡ k → v < 256 ^ n → fromBE (slice (a ++ (toBE n v ++ t)) k n) ≡ v
 at-seam a t n v k e l = rw (drop-at a (toBE n v ++ t) k e) (be-front n v t l)
 
-pub length-words : (f : ℕ → ℕ) (hs : List ℕ) → length (words f hs) ≡ masterSize * length hs
-unfolding words
-length-words f [] = refl
-length-words f (h ∷ hs) = simp (length-append, length-toBE) (omega (arith, length-words f hs))
-
 -- a master's word
 pub words-at : (a t : List ℕ) (f : ℕ → ℕ) (k n h : ℕ) → length a ≡ k → k ≤ h → h < k + masterSize * n → h % 4 ≡ k % 4 → f h < argumentRange
     → fromBE (slice (a ++ (words f (offsets k n) ++ t)) h 4) ≡ f h

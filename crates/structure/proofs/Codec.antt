@@ -1,16 +1,16 @@
 -- One block: its bytes and its structure.
 use mathlib.Core.Path.{_≡_, refl, sym, ap, _∙_, subst}
 use mathlib.Core.List.{List, [], _∷_, _++_, map}
-use mathlib.Core.Bool.{Bool, true, false, not, _&&_}
-use Prim.Native.Nat.{ℕ, zero, suc, _+_, _*_, _-_, _/_, _%_, _<_, _≤_}
+use mathlib.Core.Bool.{Bool, true, not}
+use Prim.Native.Nat.{ℕ, zero, suc, _+_, _*_, _-_, _/_, _%_, _≤_}
 use native.Mathlib.Omega.{arith}
 use lib.Dec.{eqb}
 use borrow.Author.Tests.{eqb-true}
 use lib.ListN.{length, take, drop, replicate, length-append, length-take, length-drop, take-append-drop}
-use lib.Seq.{getD-drop, drop-drop, take-append-seam, drop-append-seam, length-take-le}
+use lib.Seq.{drop-drop, take-append-seam, drop-append-seam}
 use Rattle.block_type.specs.Limits.{fixedHeader, relocHeader, typeUnit, fixedCode, freeHeader, relocCode, smallestBlock, freeCode, tagAt}
 use Rattle.bigendian.specs.BigEndian.{fromBE, toBE, slice, Bytes}
-use Rattle.bigendian.proofs.Laws.{toBE-be, be2-at}
+use Rattle.bigendian.proofs.Laws.{be2-at}
 use Rattle.memory.specs.Zeros.{allZero}
 use Rattle.format.proofs.Bool.{and-left, and-right}
 use Rattle.format.specs.WellFormed.{typeOf, sizeOf, handleOf, isFree, splitBlocks, splitFrom}
@@ -19,12 +19,10 @@ use Rattle.format.proofs.Walk.{is-good, size-free, size-used, size-take, blocks
 use Rattle.structure.specs.Structure.{fixed, encodeBlock, decodeBlock, byType, join, cell}
 use Rattle.kinds.specs.Kinds.{itemIn}
 use Rattle.bay.specs.Bay.{free, held}
+use Rattle.bigendian.proofs.Bytes.{bytes-drop, bytes-left, bytes-right, part-bytes}
+use Rattle.bigendian.proofs.Parts.{drop-pred}
 
 -- ---- joining blocks
-
-drop-pred : (n x : ℕ) (xs : List ℕ) → 0 < n → drop (n - 1) xs ≡ drop n (x ∷ xs)
-drop-pred zero x xs h = let e : ⊥ = omega arith in absurd e
-drop-pred (suc n) x xs h = let e : suc n - 1 ≡ n = omega arith in rw e
 
 join-from : (z : List ℕ) (first : ℕ) (prev : Bool) (at k : ℕ) (s : List ℕ) → blocksOk z first prev at (splitFrom k s) ≡ true → join (splitFrom k s) ≡ drop k s
 unfolding splitFrom join blocksOk
@@ -36,7 +34,7 @@ join-from z first prev at zero (x ∷ xs) g =
     let b = take (sizeOf r) r in
     let gb = is-good z first prev at b (and-left _ _ g) in
     let l = length-take (sizeOf r) r in
-    rw (join-from z first (isFree b) (at + length b) (sizeOf r - 1) xs (and-right (blockOk z first prev at b) _ g), drop-pred (sizeOf r) x xs (omega arith)) (take-append-drop (sizeOf r) r)
+    rw (join-from z first (isFree b) (at + length b) (sizeOf r - 1) xs (and-right (blockOk z first prev at b) _ g), ← drop-pred (sizeOf r) x xs (omega arith)) (take-append-drop (sizeOf r) r)
 
 pub join-blocks : (z : List ℕ) (first : ℕ) (prev : Bool) (at : ℕ) (r : List ℕ) → blocksOk z first prev at (splitBlocks r) ≡ true → join (splitBlocks r) ≡ r
 join-blocks z first prev at r g = join-from z first prev at 0 r g
@@ -55,29 +53,11 @@ blocks-join z first prev at (b ∷ bs) g =
 
 -- ---- one block
 
-pub bytes-take : (n : ℕ) (s : List ℕ) → Bytes s → Bytes (take n s)
-bytes-take zero s h i = omega arith
-bytes-take (suc n) [] h i = omega arith
-bytes-take (suc n) (x ∷ xs) h zero = h 0
-bytes-take (suc n) (x ∷ xs) h (suc i) = bytes-take n xs (λ j. h (suc j)) i
-
-pub bytes-drop : (n : ℕ) (s : List ℕ) → Bytes s → Bytes (drop n s)
-bytes-drop n s h i = rw getD-drop (h (n + i))
-
--- the bytes of a part are those of its number
-pub part-bytes : (n : ℕ) (s : List ℕ) → Bytes s → n ≤ length s → toBE n (fromBE (take n s)) ≡ take n s
-part-bytes n s h l =
-    subst (λ (k : ℕ). toBE k (fromBE (take n s)) ≡ take n s) (length-take-le n s l) (toBE-be (take n s) (bytes-take n s h))
-
-zero-left : (a b : Bool) → a && b ≡ true → a ≡ true
-zero-left true b h = refl
-zero-left false b h = h
-
 pub all-zero-is : (s : List ℕ) → allZero s ≡ true → s ≡ replicate (length s) 0
 unfolding allZero
 all-zero-is [] h = refl
 all-zero-is (zero ∷ xs) h = ap (λ (t : List ℕ). 0 ∷ t) (all-zero-is xs h)
-all-zero-is (suc x ∷ xs) h = let e = eqb-true (suc x) 0 (zero-left (eqb (suc x) 0) (allZero xs) h) in let q : ⊥ = omega arith in absurd q
+all-zero-is (suc x ∷ xs) h = let e = eqb-true (suc x) 0 (and-left (eqb (suc x) 0) (allZero xs) h) in let q : ⊥ = omega arith in absurd q
 
 -- the first two bytes are the type and the size
 head-word : (b : List ℕ) (k : ℕ) → typeOf b ≡ k → tagAt ≤ length b → Bytes b → fromBE (take 2 b) ≡ k * typeUnit + fromBE (take 2 b) % typeUnit
@@ -124,12 +104,6 @@ enc-dec z first prev at b g y =
     go (suc (suc (suc k))) e l w r = let q : _≡_ {A = ℕ} 0 1 = cc in let x : ⊥ = omega arith in absurd x
 
 -- ---- all blocks
-
-pub bytes-left : (a b : List ℕ) → Bytes (a ++ b) → Bytes a
-bytes-left a b h = subst Bytes (take-append-seam a b) (bytes-take (length a) (a ++ b) h)
-
-pub bytes-right : (a b : List ℕ) → Bytes (a ++ b) → Bytes b
-bytes-right a b h = subst Bytes (drop-append-seam a b) (bytes-drop (length a) (a ++ b) h)
 
 encs-decs : (z : List ℕ) (first : ℕ) (prev : Bool) (at : ℕ) (bs : List (List ℕ)) → blocksOk z first prev at bs ≡ true → Bytes (join bs) → map encodeBlock (map decodeBlock bs) ≡ bs
 unfolding join blocksOk

@@ -2,7 +2,10 @@ pub mod Back
 pub mod Codec
 pub mod Round
 pub mod Sound
+pub mod Words
+pub mod Decoded
 pub mod Table
 pub mod Append
+pub mod Cells
 pub mod ZoneLayout
 pub mod IsZone

@@ -16,12 +16,13 @@ use Rattle.format.specs.WellFormed.{headerOk, lengthField, firstField, mastersF
 use Rattle.format.proofs.OneWalk.{one-walk}
 use Rattle.format.specs.OneWalk.{bodyOk}
 use Rattle.format.proofs.Masters.{Master}
-use Rattle.format.proofs.Count.{All, one-same, one-other, occurs-offset, length-offsets}
+use Rattle.format.proofs.Count.{All, one-same, one-other, occurs-offset, length-offsets, all-of}
 use Rattle.structure.specs.Structure.{Block, fixed, Structure, encodeBlock, sizes, count, start, len, headOf, placeOf, nextOf, value, words, join, header, encode, decodeZone, decode, cell, handlesOf}
 use Rattle.bay.specs.Bay.{free, held}
 use Rattle.structure.proofs.Codec.{blocks-join}
 use Rattle.structure.specs.Valid.{Tiled, Valid}
-use Rattle.structure.proofs.Back.{Placed, Encs, encs, Linked, chain-links, chain-back, length-words, words-at}
+use Rattle.structure.proofs.Back.{Placed, Encs, encs, Linked, chain-links, chain-back, words-at}
+use Rattle.structure.proofs.Words.{length-words}
 
 -- ---- the header
 
@@ -68,11 +69,6 @@ header-of e l f m c t h q r u few st w =
     )
 
 -- ---- counts
-
-all-of : (P : ℕ → Type 0) (xs : List ℕ) → ((h : ℕ) → 0 < occurs h xs → P h) → All P xs
-unfolding occurs
-all-of P [] f = tt
-all-of P (x ∷ xs) f = (f x (omega (arith, one-same x x refl)), all-of P xs (λ h l. f h (omega arith)))
 
 pub offset-is : (h k n : ℕ) → 0 < occurs h (offsets k n) → (k ≤ h) × (h + masterSize ≤ k + masterSize * n) × (h % 4 ≡ k % 4)
 unfolding occurs offsets

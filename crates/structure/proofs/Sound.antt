@@ -16,12 +16,16 @@ use Rattle.format.specs.OneWalk.{typeRule, freeRule, blockOk, blocksOk, ruleOf}
 use Rattle.format.proofs.Walk.{Good, is-good, size-used}
 use Rattle.format.proofs.Masters.{Master}
 use Rattle.format.proofs.Count.{occurs-offset, all-at}
-use Rattle.format.proofs.Live.{handles, owned, handles-high, chain-low}
+use Rattle.format.proofs.Live.{owned}
+use Rattle.format.proofs.Chain.{chain-low}
+use Rattle.format.proofs.Handles.{handles, handles-high}
 use Rattle.structure.specs.Structure.{Block, fixed, decodeBlock, byType, join, decodeZone, decode, cell, handlesOf}
 use Rattle.kinds.specs.Kinds.{itemIn}
 use Rattle.bay.specs.Bay.{free, held}
-use Rattle.structure.proofs.Codec.{bytes-drop, bytes-left, bytes-right, join-blocks}
-use Rattle.structure.proofs.Table.{Whole, whole, by, count-is, len-is}
+use Rattle.structure.proofs.Codec.{join-blocks}
+use Rattle.bigendian.proofs.Bytes.{bytes-drop, bytes-left, bytes-right}
+use Rattle.structure.proofs.Table.{Whole, whole, count-is, len-is}
+use Rattle.structure.proofs.Decoded.{by}
 use Rattle.structure.proofs.Round.{offset-is}
 use Rattle.structure.specs.Valid.{Tiled, Valid}
 

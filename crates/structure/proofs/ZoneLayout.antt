@@ -4,18 +4,13 @@ use mathlib.Core.List.{List, [], _∷_, _++_, map, append-assoc}
 use Prim.Native.Nat.{ℕ, zero, suc, _+_, _*_, _<_}
 use native.Mathlib.Omega.{arith}
 use lib.ListN.{length, set, length-append}
-use lib.Seq.{take-at, drop-at, drop-append-add}
 use Rattle.format.specs.WellFormed.{offsets}
 use Rattle.block_type.specs.Limits.{masterSize, zoneHeader, chainAt}
 use Rattle.bigendian.specs.BigEndian.{toBE, overwrite}
 use Rattle.bigendian.proofs.Laws.{length-toBE}
-use Rattle.bigendian.proofs.Overwrite.{write-right}
+use Rattle.bigendian.proofs.Overwrite.{write-right, write-mid}
 use Rattle.structure.specs.Structure.{Structure, encodeBlock, count, start, len, headOf, value, words, join, header, encode}
-
--- 4 bytes for each number of a list
-unfoldable pub wordsL : List ℕ → List ℕ
-wordsL [] = []
-wordsL (v ∷ vs) = toBE 4 v ++ wordsL vs
+use Rattle.structure.proofs.Words.{wordsL, words-values, length-words}
 
 -- the fields of the header, what the masters hold, the blocks' bytes
 unfoldable pub lay : ℕ → ℕ → ℕ → ℕ → List ℕ → List ℕ → List ℕ
@@ -24,25 +19,9 @@ lay l f m c vs r = toBE 4 l ++ (toBE 4 f ++ (toBE 4 m ++ (toBE 2 c ++ (0 ∷ 0 �
 abbrev pub values : Structure → List ℕ
 values s = map (value s) (offsets zoneHeader (count s))
 
-words-values : (f : ℕ → ℕ) (hs : List ℕ) → words f hs ≡ wordsL (map f hs)
-unfolding words wordsL
-words-values f [] = refl
-words-values f (h ∷ hs) = rw (words-values f hs)
-
 pub encode-lay : (s : Structure) → encode s ≡ lay (len s) (start s) (count s) (headOf (s .chain)) (values s) (join (map encodeBlock (s .blocks)))
 unfolding encode header lay
 encode-lay s = rw (words-values (value s) (offsets zoneHeader (count s))) (simp append-assoc)
-
--- an overwrite of x′ over x, where a stands before it
-pub write-mid : (a x x′ r : List ℕ) (p : ℕ) → length a ≡ p → length x ≡ length x′ → overwrite (a ++ (x ++ r)) p x′ ≡ a ++ (x′ ++ r)
-write-mid a x x′ r p e l =
-    let e₁ : p + length x′ ≡ length a + length x = omega arith in
-    rw (take-at a (x ++ r) p e, e₁, drop-append-add a (x ++ r) (length x), drop-at x r (length x) refl) (append-assoc a x′ r)
-
-length-words : (vs : List ℕ) → length (wordsL vs) ≡ masterSize * length vs
-unfolding wordsL
-length-words [] = refl
-length-words (v ∷ vs) = simp (length-append, length-toBE) (omega (arith, length-words vs))
 
 front : (l f m : ℕ) (t : List ℕ) → toBE 4 l ++ (toBE 4 f ++ (toBE 4 m ++ t)) ≡ (toBE 4 l ++ (toBE 4 f ++ toBE 4 m)) ++ t
 front l f m t = simp append-assoc
@@ -61,7 +40,7 @@ lay-chain l f m c c′ vs r =
 
 -- one master
 words-set : (vs r : List ℕ) (i v : ℕ) → i < length vs → overwrite (wordsL vs ++ r) (masterSize * i) (toBE 4 v) ≡ wordsL (set vs i v) ++ r
-unfolding wordsL
+unfolding words
 words-set [] r i v h = let x : ⊥ = omega arith in absurd x
 words-set (y ∷ vs) r zero v h = rw (append-assoc (toBE 4 y) (wordsL vs) r, append-assoc (toBE 4 v) (wordsL vs) r) (write-mid [] (toBE 4 y) (toBE 4 v) (wordsL vs ++ r) 0 refl (length-toBE 4 y ∙ sym (length-toBE 4 v)))
 words-set (y ∷ vs) r (suc i) v h =
@@ -86,7 +65,7 @@ lay-master l f m c i v vs r h = behind l f m c (masterSize * i) (wordsL vs ++ r)
 pub lay-rest : (l f m c p : ℕ) (vs r x : List ℕ) → overwrite (lay l f m c vs r) (zoneHeader + (masterSize * length vs + p)) x ≡ lay l f m c vs (overwrite r p x)
 unfolding lay
 lay-rest l f m c p vs r x =
-    let q : masterSize * length vs + p ≡ length (wordsL vs) + p = omega (arith, length-words vs) in
+    let q : masterSize * length vs + p ≡ length (wordsL vs) + p = omega (arith, length-words (λ (v : ℕ). v) vs) in
     behind l f m c (masterSize * length vs + p) (wordsL vs ++ r) x (wordsL vs ++ overwrite r p x) (rw q (write-right (wordsL vs) r x p))
 
 pub lay-same : {l l′ f f′ m m′ c c′ : ℕ} {vs vs′ r r′ : List ℕ} → l ≡ l′ → f ≡ f′ → m ≡ m′ → c ≡ c′ → vs ≡ vs′ → r ≡ r′ → lay l f m c vs r ≡ lay l′ f′ m′ c′ vs′ r′

@@ -20,7 +20,8 @@ use Rattle.row.specs.Row.{bytesOf, Sound}
 use Rattle.row.proofs.Laws.{bytes-append, bytes-long, sound-left, sound-right}
 use Rattle.structure.proofs.Append.{sizes-append, place-append, handles-append}
 use Rattle.surgery.specs.Masters.{setAll}
-use Rattle.structure.proofs.ZoneLayout.{write-mid, lay-same}
+use Rattle.structure.proofs.ZoneLayout.{lay-same}
+use Rattle.bigendian.proofs.Overwrite.{write-mid}
 use Rattle.surgery.proofs.Image.{img, encode-img, img-rest, img-same, img-all, all-is, updAll}
 use Rattle.row.proofs.Zone.{valid-sound}
 use Rattle.surgery.proofs.Sound.{handle-in, handle-once}

@@ -3,7 +3,7 @@ use mathlib.Core.Path.{_≡_, subst}
 use mathlib.Core.Bool.{Bool, true, false, cond}
 use mathlib.Core.Option.{Option}
 use mathlib.Core.List.{List, [], _∷_, _++_, map, List·Permᴰ, List·Permᴰ·nil, List·Permᴰ·cons, List·Permᴰ·swap, List·Permᴰ·trans, Permᴰ·symm}
-use Prim.Native.Nat.{ℕ, zero, suc, _+_, _-_, _%_, _≤_}
+use Prim.Native.Nat.{ℕ, _+_, _-_, _%_, _≤_}
 use native.Mathlib.Omega.{arith}
 use lib.ListN.{length, take, drop, replicate, length-replicate}
 use lib.Dec.{leb, eqb}
@@ -23,7 +23,8 @@ use Rattle.zone.proofs.Own.{own-shaped}
 use Rattle.block_type.specs.Limits.{relocLimit, fixedLimit, fixedHeader, up4}
 use Rattle.zone.specs.Search.{lookup, own}
 use Rattle.bay.proofs.Sound.{Block}
-use Rattle.zone.proofs.Walk.{Closed, any, Feeds, bytes-take}
+use Rattle.zone.proofs.Walk.{Closed, any, Feeds}
+use Rattle.bigendian.proofs.Bytes.{bytes-take, bytes-zeros, bytes-append}
 use Rattle.zone.specs.Work.{Zone}
 
 -- ---- of every bay and every fixed block
@@ -100,16 +101,6 @@ module _ {P : Item → Type 0} where
   items-get h (i-cons {e = e} x i) = each-cond (is h e) (λ k. just x) (items-get h i)
 
 -- ---- bytes
-
-bytes-zeros : (n : ℕ) → Bytes (replicate n 0)
-bytes-zeros zero i = omega arith
-bytes-zeros (suc n) zero = omega arith
-bytes-zeros (suc n) (suc i) = bytes-zeros n i
-
-bytes-append : (a b : List ℕ) → Bytes a → Bytes b → Bytes (a ++ b)
-bytes-append [] b p q i = q i
-bytes-append (x ∷ a) b p q zero = p 0
-bytes-append (x ∷ a) b p q (suc i) = bytes-append a b (λ j. p (suc j)) q i
 
 -- ---- data of at most n bytes
 

@@ -1,5 +1,5 @@
 -- Grouping and flattening undo each other.
-use mathlib.Core.Path.{_≡_, refl, ap, sym, _∙_}
+use mathlib.Core.Path.{_≡_, refl, ap, sym, _∙_, ap₂}
 use mathlib.Core.List.{List, [], _∷_, _++_, append-nil}
 use Prim.Native.Nat.{ℕ, _+_}
 use native.Mathlib.Nat.{add-zero, add-assoc}
@@ -29,30 +29,28 @@ flatten-group p (cell (free n) ∷ bs) = flatten-front (free n) (group (p + n) b
 flatten-group p (cell (held it) ∷ bs) = flatten-front (held (record { handle = (it .handle); bytes = (it .bytes) })) (group (p + (relocHeader + length (it .bytes))) bs) ∙ ap (cell (held it) ∷_) (flatten-group (p + (relocHeader + length (it .bytes))) bs)
 flatten-group p (fixed d ∷ bs) = ap (fixed d ∷_) (flatten-group (p + (fixedHeader + length d)) bs)
 
--- the cells of a bay in front of a strip's first bay
-abbrev inFronts : List Cell → Bays (List Cell) Fixed → Bays (List Cell) Fixed
-inFronts [] s = s
-inFronts (c ∷ cs) s = inFront c (inFronts cs s)
+-- cells in front of the first bay
+abbrev pub front : List Cell → Bays (List Cell) Fixed → Bays (List Cell) Fixed
+front a (last b) = last (a ++ b)
+front a (more b x s) = more (a ++ b) x s
 
-fronts-last : (cs b : List Cell) → inFronts cs (last b) ≡ last (cs ++ b)
-fronts-last [] b = refl
-fronts-last (c ∷ cs) b = ap (inFront c) (fronts-last cs b)
+pub front-nil : (s : Bays (List Cell) Fixed) → front [] s ≡ s
+front-nil (last b) = refl
+front-nil (more b x s) = refl
 
-fronts-more : (cs b : List Cell) (x : Fixed) (s : Bays (List Cell) Fixed) → inFronts cs (more b x s) ≡ more (cs ++ b) x s
-fronts-more [] b x s = refl
-fronts-more (c ∷ cs) b x s = ap (inFront c) (fronts-more cs b x s)
+front-cons : (c : Cell) (cs : List Cell) (s : Bays (List Cell) Fixed) → inFront c (front cs s) ≡ front (c ∷ cs) s
+front-cons c cs (last b) = refl
+front-cons c cs (more b x s) = refl
 
-group-bay : (p : ℕ) (cs : List Cell) (r : List Block) → group p (flatBay cs r) ≡ inFronts cs (group (p + baySize cs) r)
-group-bay p [] r = ap (λ (q : ℕ). group q r) (sym (add-zero p))
-group-bay p (free n ∷ cs) r = ap (inFront (free n)) (group-bay (p + n) cs r ∙ ap (λ (q : ℕ). inFronts cs (group q r)) (add-assoc p n (baySize cs)))
-group-bay p (held e ∷ cs) r = ap (inFront (held e)) (group-bay (p + itemSize e) cs r ∙ ap (λ (q : ℕ). inFronts cs (group q r)) (add-assoc p (itemSize e) (baySize cs)))
+group-bay : (p : ℕ) (cs : List Cell) (r : List Block) → group p (flatBay cs r) ≡ front cs (group (p + baySize cs) r)
+group-bay p [] r = ap (λ (q : ℕ). group q r) (sym (add-zero p)) ∙ sym (front-nil (group (p + 0) r))
+group-bay p (free n ∷ cs) r = ap (inFront (free n)) (group-bay (p + n) cs r ∙ ap (λ (q : ℕ). front cs (group q r)) (add-assoc p n (baySize cs))) ∙ front-cons (free n) cs (group (p + (n + baySize cs)) r)
+group-bay p (held e ∷ cs) r = ap (inFront (held e)) (group-bay (p + itemSize e) cs r ∙ ap (λ (q : ℕ). front cs (group q r)) (add-assoc p (itemSize e) (baySize cs))) ∙ front-cons (held e) cs (group (p + (itemSize e + baySize cs)) r)
 
 -- where each fixed block's place is its offset
 pub group-flatten : {p end : ℕ} {s : Bays (List Cell) Fixed} → Tiled p s end → group p (flatten s) ≡ s
-group-flatten (tile-last {p = p} {b = b} e) = group-bay p b [] ∙ fronts-last b [] ∙ ap (λ (c : List Cell). last c) (append-nil b)
+group-flatten (tile-last {p = p} {b = b} e) = group-bay p b [] ∙ ap last (append-nil b)
 group-flatten (tile-more {p = p} {b = b} {x = x} {s = s} e t) =
     group-bay p b (fixed (x .bytes) ∷ flatten s)
-    ∙ ap (λ (q : ℕ). inFronts b (more [] (record { place = q; bytes = x .bytes }) (group (q + (fixedHeader + length (x .bytes))) (flatten s)))) e
-    ∙ ap (λ (u : Bays (List Cell) Fixed). inFronts b (more [] x u)) (group-flatten t)
-    ∙ fronts-more b [] x s
-    ∙ ap (λ (c : List Cell). more c x s) (append-nil b)
+    ∙ ap (λ (q : ℕ). front b (more [] (record { place = q; bytes = x .bytes }) (group (q + (fixedHeader + length (x .bytes))) (flatten s)))) e
+    ∙ ap₂ (λ (c : List Cell) (u : Bays (List Cell) Fixed). more c x u) (append-nil b) (group-flatten t)

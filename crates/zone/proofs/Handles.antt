@@ -23,6 +23,7 @@ use Rattle.zone.proofs.Walk.{Closed}
 use Rattle.zone.proofs.Own.{own-shaped}
 use Rattle.zone.specs.Work.{Zone}
 use Rattle.zone.specs.Search.{lookup, own, reaches, placeLow, placeHigh, joinAt}
+use lib.ListN.{length}
 
 abbrev pub occurs : ℕ → List ℕ → ℕ
 occurs h [] = 0
@@ -37,6 +38,10 @@ pub record Owns (m : ℕ) (z : Zone) : Type 0 where
   pub owns : (h : ℕ) → live h (z .bays) + occurs h (z .chain) ≡ masters m h
 
 -- the masters are distinct
+pub length-handles : (h n : ℕ) → length (handlesFrom h n) ≡ n
+length-handles h zero = refl
+length-handles h (suc n) = ap suc (length-handles (h + masterSize) n)
+
 pub occurs-below : (h k n : ℕ) → h < k → occurs h (handlesFrom k n) ≡ 0
 occurs-below h k zero l = refl
 occurs-below h k (suc n) l = rw (ne-eqb h k (λ e. omega arith)) (occurs-below h (k + masterSize) n (omega arith))

@@ -2,7 +2,7 @@
 use mathlib.Core.Path.{_≡_, refl, ap, sym, _∙_}
 use mathlib.Core.Bool.{Bool, true, false, cond}
 use mathlib.Core.List.{List, [], _∷_, _++_}
-use Prim.Native.Nat.{ℕ, zero, suc, _+_, _*_, _≤_, _<_}
+use Prim.Native.Nat.{ℕ, zero, suc, _+_, _*_, _≤_}
 use native.Mathlib.Omega.{arith}
 use native.Mathlib.Nat.{add-zero}
 use lib.ListN.{length, length-append}
@@ -10,7 +10,7 @@ use lib.Dec.{eqb}
 use Rattle.format.specs.Occurs.{occurs}
 use Rattle.format.specs.WellFormed.{offsets}
 use Rattle.block_type.specs.Limits.{mostMasters, longestZone, masterSize, zoneHeader}
-use Rattle.format.proofs.Count.{All, sumOver, sum-occurs, one-same, length-offsets, occurs-append}
+use Rattle.format.proofs.Count.{sumOver, sum-occurs, length-offsets, occurs-append, all-of}
 use Rattle.structure.proofs.Round.{offset-le}
 use Rattle.structure.specs.Structure.{Block, fixed, sizes, count, start, len, handlesOf}
 use Rattle.structure.specs.Valid.{Tiled, Valid}
@@ -83,11 +83,6 @@ live-strip h (more b x s) = live-bay h b (fixed (x .bytes) ∷ flatten s) ∙ ap
 
 -- ---- as many handles as masters
 
-each-of : (P : ℕ → Type 0) (xs : List ℕ) → ((x : ℕ) → 0 < occurs x xs → P x) → All P xs
-unfolding occurs
-each-of P [] f = tt
-each-of P (x ∷ xs) f = (f x (omega (arith, one-same x x refl)), each-of P xs (λ y l. f y (omega arith)))
-
 sum-same : (ms : List ℕ) (f g : ℕ → ℕ) → ((h : ℕ) → f h ≡ g h) → sumOver ms f ≡ sumOver ms g
 unfolding sumOver
 sum-same [] f g e = refl
@@ -96,9 +91,9 @@ sum-same (m ∷ ms) f g e = omega (arith, e m, sum-same ms f g e)
 -- a list that has each of the n offsets once, and nothing else, has n elements
 counted : (n : ℕ) (xs : List ℕ) → ((h : ℕ) → occurs h xs ≡ occurs h (offsets zoneHeader n)) → length xs ≡ n
 counted n xs e =
-    sym (sum-occurs (offsets zoneHeader n) xs (each-of _ xs (λ x l. omega (arith, e x, offset-le x zoneHeader n))))
+    sym (sum-occurs (offsets zoneHeader n) xs (all-of _ xs (λ x l. omega (arith, e x, offset-le x zoneHeader n))))
     ∙ sum-same (offsets zoneHeader n) (λ h. occurs h xs) (λ h. occurs h (offsets zoneHeader n)) e
-    ∙ sum-occurs (offsets zoneHeader n) (offsets zoneHeader n) (each-of _ (offsets zoneHeader n) (λ x l. omega (arith, offset-le x zoneHeader n)))
+    ∙ sum-occurs (offsets zoneHeader n) (offsets zoneHeader n) (all-of _ (offsets zoneHeader n) (λ x l. omega (arith, offset-le x zoneHeader n)))
     ∙ length-offsets zoneHeader n
 
 -- ---- from bays to a line

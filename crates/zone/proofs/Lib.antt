@@ -1,6 +1,9 @@
 pub mod BaysLaws
 pub mod Sums
 pub mod Own
+pub mod Missing
+pub mod Once
+pub mod ResizeMissing
 pub mod Found
 pub mod Walk
 pub mod Handles

@@ -12,12 +12,13 @@ use Rattle.bigendian.specs.BigEndian.{fromBE}
 use Rattle.format.specs.WellFormed.{headerOk, lengthField, firstField, mastersField, chainField, typeOf, sizeOf, handleOf, isFree, splitBlocks, zoneOf}
 use Rattle.format.specs.OneWalk.{blockOk, blocksOk, bodyOk}
 use Rattle.format.proofs.Bool.{and-left, and-right}
-use Rattle.format.proofs.Walk.{is-good, slice-take}
+use Rattle.format.proofs.Walk.{is-good}
+use Rattle.bigendian.proofs.Parts.{slice-take}
 use Rattle.format.proofs.OneWalk.{one-walk}
 use Rattle.format.proofs.Header.{header-facts}
 use Rattle.format.proofs.Live.{body-parts}
 use Rattle.structure.specs.Structure.{Structure, Block, fixed, size, byType, decodeBlock, decodeZone, decode, cell}
-use Rattle.structure.proofs.Table.{by, size-dec}
+use Rattle.structure.proofs.Decoded.{by, size-dec}
 use Rattle.structure.proofs.Round.{heads}
 use Rattle.calls.specs.Calls.{Card}
 use Rattle.ledger.specs.Space.{Spot, spot}

@@ -19,6 +19,7 @@ use Rattle.block_type.specs.Limits.{fixedHeader, firstBlock, masterSize, relocC
 use Rattle.zone.specs.Work.{Zone}
 use Rattle.zone.proofs.Places.{Tiled, tile-last, tile-more, Placed}
 use Rattle.zone.proofs.Bytes.{big, freeBytes, itemBytes, cellBytes, fixedHead, fixedBytes, blockBytes, whereIn, whereS, nextOf, masterOf, masterBytes, headerBytes, zoneBytes}
+use Rattle.zone.proofs.Handles.{length-handles}
 
 pub record Stands (bs : List ℕ) (at : ℕ) (v : List ℕ) : Type 0 where
   pub front : List ℕ
@@ -89,10 +90,6 @@ in-blocks h p (more b x s) d =
 length-masters : (m : ℕ) (z : Zone) (hs : List ℕ) → length (masterBytes m z hs) ≡ masterSize * length hs
 length-masters m z [] = refl
 length-masters m z (h ∷ hs) = omega (arith, length-masters m z hs)
-
-length-handles : (h n : ℕ) → length (handlesFrom h n) ≡ n
-length-handles h zero = refl
-length-handles h (suc n) = ap suc (length-handles (h + masterSize) n)
 
 pub in-zone : {v : List ℕ} {at : ℕ} (m : ℕ) (z : Zone) → Stands (blockBytes (z .bays)) at v → Stands (zoneBytes m z) (firstBlock m + at) v
 in-zone m z s = rw (add-assoc zoneHeader (masterSize * m) _) (stands-after (headerBytes m z) zoneHeader refl (stands-after (masterBytes m z (handlesFrom zoneHeader m)) (masterSize * m) (omega (arith, length-masters m z (handlesFrom zoneHeader m), length-handles zoneHeader m)) s))

@@ -3,9 +3,9 @@ use mathlib.Core.Path.{_≡_, refl}
 use mathlib.Core.Bool.{Bool, true, false, _&&_, _||_, not, true≢false}
 use mathlib.Core.Option.{Option, none, some, Option·getD}
 use mathlib.Core.List.{List, [], _∷_}
-use Prim.Native.Nat.{ℕ, zero, suc, _+_, _-_, _*_, _/_, _%_, _≤_, _<_, min}
+use Prim.Native.Nat.{ℕ, zero, suc, _+_, _-_, _*_, _/_, _%_, _≤_, min}
 use native.Mathlib.Omega.{arith}
-use lib.ListN.{length, set, take, length-replicate}
+use lib.ListN.{length, take, length-replicate}
 use lib.Seq.{sets, length-sets}
 use lib.Dec.{leb, eqb, eqb·suc-zero}
 use borrow.Author.Tests.{leb-true, eqb-true, not-false}
@@ -26,29 +26,13 @@ use Rattle.zone.specs.Search.{lookup, placeLow, placeHigh, joinAt, resiz
 use Rattle.bay.proofs.Each.{Each, nothing, just}
 use Rattle.bay.proofs.Sound.{Block}
 use Rattle.zone.proofs.Found.{Found, lost, got, low-found, high-found, join-found, resize-found, Named, unnamed, named, block-named}
+use Rattle.bigendian.proofs.Bytes.{bytes-take, bytes-sets}
 
 -- ---- a change of a block's bytes that keeps their number and leaves bytes
 
 pub record Feeds (f : List ℕ → List ℕ) : Type 0 where
   pub long : (l : List ℕ) → length (f l) ≡ length l
   pub feeds : (l : List ℕ) → Bytes l → Bytes (f l)
-
-pub bytes-take : (n : ℕ) (s : List ℕ) → Bytes s → Bytes (take n s)
-bytes-take zero s h i = omega arith
-bytes-take (suc n) [] h i = omega arith
-bytes-take (suc n) (x ∷ xs) h zero = h 0
-bytes-take (suc n) (x ∷ xs) h (suc i) = bytes-take n xs (λ j. h (suc j)) i
-
-bytes-set : (s : List ℕ) (k a : ℕ) → a < 256 → Bytes s → Bytes (set s k a)
-bytes-set [] k a l h i = h i
-bytes-set (x ∷ s) zero a l h zero = l
-bytes-set (x ∷ s) zero a l h (suc i) = h (suc i)
-bytes-set (x ∷ s) (suc k) a l h zero = h 0
-bytes-set (x ∷ s) (suc k) a l h (suc i) = bytes-set s k a l (λ j. h (suc j)) i
-
-pub bytes-sets : (vs s : List ℕ) (k : ℕ) → Bytes vs → Bytes s → Bytes (sets s k vs)
-bytes-sets [] s k v h = h
-bytes-sets (a ∷ vs) s k v h = bytes-sets vs (set s k a) (suc k) (λ j. v (suc j)) (bytes-set s k a (v 0) h)
 
 fed-write : (i n : ℕ) (second : List ℕ) → Bytes second → Feeds (λ (l : List ℕ). sets l i (take n second))
 fed-write i n second y = record { long = λ l. length-sets l i (take n second); feeds = λ l h. bytes-sets (take n second) l i (bytes-take n second y) h }
@@ -87,7 +71,7 @@ there : {A : Type 0} (f : A → List ℕ) (o : Option A) → isNone (over length
 there f none e = e
 there f (some a) e = refl
 
-shown : {A : Type 0} (f : A → List ℕ) (o : Option A) → isNone (over length (over f o)) ≡ false → isNone (over f o) ≡ false
+pub shown : {A : Type 0} (f : A → List ℕ) (o : Option A) → isNone (over length (over f o)) ≡ false → isNone (over f o) ≡ false
 shown f none e = e
 shown f (some a) e = refl
 
@@ -95,7 +79,7 @@ each-there : {A : Type 0} {R : Type 0} (o : Option A) → isNone o ≡ false →
 each-there none e q = absurd (true≢false e)
 each-there (some a) e (just r) = r
 
-not-below : (a n : ℕ) → below a n ≡ false → n ≤ a
+pub not-below : (a n : ℕ) → below a n ≡ false → n ≤ a
 not-below a n e = leb-true n a (not-false (leb n a) e)
 
 pub or-parts : (a b c : Bool) → not a || (not b || not c) ≡ false → (a ≡ true) × (b ≡ true) × (c ≡ true)

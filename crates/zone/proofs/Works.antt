@@ -8,7 +8,7 @@ use native.Mathlib.Omega.{arith}
 use lib.ListN.{length, take, drop, length-replicate}
 use lib.Seq.{sets, length-sets}
 use lib.Dec.{leb, eqb, eqb·suc-zero}
-use borrow.Author.Tests.{leb-true, eqb-true, not-false}
+use borrow.Author.Tests.{leb-true, eqb-true}
 use Rattle.block_type.specs.Limits.{relocHeader, up4, relocNeed, fixedNeed, recordSize, longestZone}
 use Rattle.calls.specs.Calls.{Target, by-handle, by-pointer, Call, allocate-relocatable, allocate-fixed, free-handle, free-pointer, read, write, size, compact, sums, enlarge, shrink, view, roster, check, length-of, resize, Answer, told, toldTwo, shows}
 use Rattle.calls.specs.Bays.{Bays, last, more, over, orElse, onLowest, mapS, onLast, findS, findF, lastS, maxS}
@@ -24,13 +24,15 @@ use Rattle.zone.specs.Search.{own}
 use Rattle.zone.specs.Work as Work
 use Rattle.zone.specs.Work.{Zone, has}
 use Rattle.zone.specs.Promise.{Alike}
-use Rattle.zone.proofs.Walk.{or-parts}
+use Rattle.zone.proofs.Walk.{or-parts, shown}
 use Rattle.zone.proofs.BaysLaws.{Both, present, like-last, like-more, onLow-like, onHigh-like, onJoin-like, mapS-like, onFixed-like, onLast-like, lastS-like}
 use Rattle.bay.proofs.Sound.{Block, sum-by4}
 use Rattle.zone.proofs.Places.{alter-fsize}
 use Rattle.bay.proofs.Resize.{length-sized, resized-block}
 use Rattle.zone.proofs.Solid.{new-block, new-sized}
-use Rattle.zone.proofs.Found.{Found, lost, got, low-found, high-found, join-found, count-get, often, max-same, Named, unnamed, named, block-named}
+use Rattle.zone.proofs.Found.{Found, lost, got, low-found, high-found, join-found, Named, unnamed, named, block-named}
+use Rattle.zone.proofs.ResizeMissing.{max-same}
+use Rattle.zone.proofs.Once.{often, count-get}
 use Rattle.zone.proofs.Fits.{Fits, Equal, same-sum, put-fits, release-fits, edit-fits, reshape-fits, absent-fits, high-fits, compact-fits, grow-fits, fresh-fits, join-fits}
 use Rattle.zone.proofs.Matches.{Paired, Matches, matches, largest-same, total-same, count-same, cards-same, content-same, own-sum-same}
 
@@ -39,9 +41,6 @@ use Rattle.zone.proofs.Matches.{Paired, Matches, matches, largest-same,
 both-got : {A B : Type 0} {R : A → B → Type 0} {a : A} {b : B} {t u : Bool} {o : Option A} {p : Option B} → Found a t o → t ≡ false → Found b u p → Both R o p → R a b
 both-got lost e g q = absurd (true≢false e)
 both-got got e got (present r) = r
-
-not-below : (a n : ℕ) → below a n ≡ false → n ≤ a
-not-below a n e = leb-true n a (not-false (leb n a) e)
 
 module _ {s : Bays (List Cell) Fixed} {t : Bays Bay Fixed} (l : Paired s t) where
   -- a block comes into the lowest bay whose sum reaches n
@@ -131,7 +130,7 @@ pub record Same (o : Out (List Cell)) (p : Out Bay) : Type 0 where
   pub answer : Alike (o .answer) (p .answer)
   pub next : Matches (o .next) (p .next)
 
-equal : {a b : Answer} → a ≡ b → Alike a b
+pub equal : {a b : Answer} → a ≡ b → Alike a b
 equal e = record {
   number = ap (λ (x : Answer). x .number) e;
   value = ap (λ (x : Answer). x .value) e;
@@ -186,10 +185,6 @@ module _ (buf len : ℕ) (chain : List ℕ) {s : Bays (List Cell) Fixed} {t : Ba
 -- the table's cause of number n does not hold
 abbrev passed : (c : Call) (z : Zone) → refusalOf c (Work.facts true z) ≡ 0 → (n : ℕ) → among n order ≡ true → holdsIn n (causes c (Work.facts true z)) ≡ false
 passed c z e n m = clear (causes c (Work.facts true z)) n m e
-
-shown : {A : Type 0} (f : A → List ℕ) (o : Option A) → isNone (over length (over f o)) ≡ false → isNone (over f o) ≡ false
-shown f none e = e
-shown f (some a) e = refl
 
 -- EVERY CALL that nothing refuses
 pub work-same : (c : Call) {z : Zone} {k : Ledger} → ((h : ℕ) → live h (z .bays) ≤ 1) → refusalOf c (Work.facts true z) ≡ 0 → Matches z k → Same (Work.work c z) (Book.work c k)

@@ -1,4 +1,4 @@
-use Rattle.roster.proofs.Laws.{enter-none, enter-room, enter-one}
+use Rattle.roster.proofs.Entries.{enter-none, enter-room, enter-one}
 use borrow.Author.Needs.{needs}
 use Rattle.roster.proofs.enter.Statement.{statement}
 use Rattle.roster.proofs.enter.Tie as tie

@@ -1,4 +1,4 @@
-use Rattle.roster.proofs.Laws.{size-word}
+use Rattle.roster.proofs.Entries.{size-word}
 use borrow.Author.Needs.{needs}
 use Rattle.roster.proofs.entry_of.Statement.{statement}
 use Rattle.roster.proofs.entry_of.Tie as tie

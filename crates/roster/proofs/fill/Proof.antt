@@ -8,7 +8,7 @@ use Rattle.bigendian.specs.BigEndian.{overwrite}
 use Rattle.format.specs.WellFormed.{offsets}
 use Rattle.zone.specs.Roster.{cardBytes}
 use Rattle.roster.specs.Listed.{cardsOf, allCards}
-use Rattle.roster.proofs.Laws.{fill-first, fill-room, fill-step, fill-done, start-bytes, start-room, start-masters, get-masters}
+use Rattle.roster.proofs.Entries.{fill-first, fill-room, fill-step, fill-done, start-bytes, start-room, start-masters, get-masters}
 use Rattle.roster.proofs.fill.Statement.{statement}
 use Rattle.roster.proofs.fill.Tie as tie
 

@@ -1,4 +1,4 @@
-use Rattle.roster.proofs.Laws.{put-two}
+use Rattle.roster.proofs.Entries.{put-two}
 use borrow.Author.Needs.{needs}
 use Rattle.roster.proofs.put_record.Statement.{statement}
 use Rattle.roster.proofs.put_record.Tie as tie
