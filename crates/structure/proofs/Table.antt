@@ -15,7 +15,6 @@ use Rattle.format.proofs.Bool.{and-left, and-right}
 use Rattle.format.specs.WellFormed.{headerOk, lengthField, firstField, mastersField, chainField, splitBlocks, masterAt, relocs, zoneOf, wellFormed, offsets, chain}
 use Rattle.format.proofs.OneWalk.{one-walk}
 use Rattle.format.specs.OneWalk.{bodyOk}
-use Rattle.format.proofs.Walk.{slice-take}
 use Rattle.bigendian.proofs.Parts.{slice-take}
 use Rattle.format.proofs.Masters.{Master}
 use Rattle.format.proofs.Header.{header-facts}
