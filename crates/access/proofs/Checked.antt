@@ -9,12 +9,12 @@ use mir.Syntax.{w8}
 use borrow.Author.Tests.{not-false}
 use lib.ListN.{length, getD, take, length-take}
 use Rattle.bigendian.specs.BigEndian.{fromBE, Bytes}
+use Rattle.bigendian.proofs.Parts.{slice-take}
 use Rattle.block_type.specs.Limits.{lengthAt, firstAt, chainAt}
 use Rattle.format.specs.WellFormed.{wellFormed, zoneOf, lengthField, firstField, mastersField, chainField}
 use Rattle.format.specs.Steps.{Fields}
 use Rattle.format.proofs.Bool.{and-left}
 use Rattle.format.proofs.Header.{header-facts}
-use Rattle.bigendian.proofs.Parts.{slice-take}
 use Rattle.structure.specs.Structure.{decode, len}
 use Rattle.structure.proofs.Table.{whole, len-is}
 use Rattle.structure.specs.IsZone.{IsZone, is-zone}

@@ -18,11 +18,11 @@ use Rattle.format.proofs.Live.{live-of, live-high}
 use Rattle.format.proofs.Handles.{handles, handles-high}
 use Rattle.structure.specs.Structure.{placeOf, decodeZone, decodeBlock}
 use Rattle.structure.proofs.Table.{Whole, start-is}
-use Rattle.structure.proofs.Decoded.{places}
 use Rattle.structure.proofs.Back.{master-of}
 use Rattle.access.specs.Edit.{placeIn}
 use Rattle.structure.specs.IsZone.{IsZone}
 use Rattle.structure.proofs.IsZone.{whole-of}
+use Rattle.structure.proofs.Decoded.{places}
 
 module _ (z : List ℕ) (i : IsZone z) (h : ℕ) where
   w : Whole z

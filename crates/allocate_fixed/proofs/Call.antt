@@ -9,6 +9,7 @@ use lib.Dec.{leb}
 use lib.ListN.{length, getD, take, drop}
 use mir.Val.{Fits}
 use mir.Syntax.{w8, w32, w64}
+use Rattle.bigendian.proofs.Bytes.{bytes-none}
 use Rattle.block_type.specs.Limits.{fixedHeader, fixedNeed, fixedLimit}
 use Rattle.format.specs.WellFormed.{firstField}
 use Rattle.structure.specs.Structure.{Structure, start, len, decodeZone, encode}
@@ -23,7 +24,6 @@ use Rattle.bays.specs.Places.{BayN, bayN, baysAt, highBay, baysOf}
 use Rattle.bays.proofs.High.{high-is, high-found}
 use Rattle.bay_end.proofs.Found.{zone-tiled, zone-high}
 use Rattle.call_laws.specs.Frame.{zoneAt, Does, PlannedIn, refuses, goes, Planned}
-use Rattle.bigendian.proofs.Bytes.{bytes-none}
 use Rattle.call_laws.proofs.Frame.{frame-ready, frame-done}
 use Rattle.allocate_fixed.specs.Placed.{room, placed, Site}
 use Rattle.allocate_fixed.specs.Ready.{ReadyIn}

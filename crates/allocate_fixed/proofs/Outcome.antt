@@ -9,6 +9,7 @@ use lib.ListN.{length, replicate, length-replicate}
 use lib.Dec.{leb, eqb}
 use borrow.Author.Tests.{eq-eqb, ne-eqb, leb-true}
 use Rattle.bigendian.specs.BigEndian.{Bytes}
+use Rattle.bigendian.proofs.Bytes.{bytes-none}
 use Rattle.block_type.specs.Limits.{fixedHeader, fixedNeed, firstBlock}
 use Rattle.calls.specs.Calls.{by-pointer, Answer, told, shows, Call, allocate-fixed, size, view}
 use Rattle.calls.specs.Bays.{Bays, last, more, over, findF}
@@ -26,7 +27,6 @@ use Rattle.zone.proofs.Found.{high-found}
 use Rattle.zone.proofs.Walk.{each-got}
 use Rattle.zone.proofs.Run.{well-whole}
 use Rattle.call_laws.proofs.Outcome.{step}
-use Rattle.bigendian.proofs.Bytes.{bytes-none}
 use Rattle.call_laws.proofs.Accepted.{Accepted, accepted, cleared, answered, after}
 use Rattle.call_laws.proofs.Named.{size-there, view-there}
 

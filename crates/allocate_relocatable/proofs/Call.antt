@@ -7,6 +7,7 @@ use native.Mathlib.Omega.{arith}
 use mir.Val.{Fits}
 use mir.Syntax.{w8, w32}
 use lib.ListN.{length, getD, take, drop, replicate, length-replicate}
+use Rattle.bigendian.proofs.Bytes.{bytes-none}
 use Rattle.block_type.specs.Limits.{relocHeader, relocNeed, up4}
 use Rattle.structure.specs.Structure.{decodeZone, encode}
 use Rattle.kinds.specs.Kinds.{Item, item, itemSize}
@@ -18,7 +19,6 @@ use Rattle.zone.specs.Call.{result, call}
 use Rattle.bays.specs.Places.{baysOf}
 use Rattle.place.specs.Fit.{blank}
 use Rattle.call_laws.specs.Frame.{Does, Planned}
-use Rattle.bigendian.proofs.Bytes.{bytes-none}
 use Rattle.call_laws.proofs.Frame.{frame-ready, frame-done}
 use Rattle.allocate_relocatable.specs.Ready.{allocated, GoingIn, ReadyIn}
 use Rattle.allocate_relocatable.proofs.Placed.{below-end}

@@ -8,6 +8,7 @@ use native.Mathlib.Omega.{arith}
 use lib.ListN.{length, replicate, length-replicate}
 use borrow.Author.Tests.{eq-eqb}
 use Rattle.bigendian.specs.BigEndian.{Bytes}
+use Rattle.bigendian.proofs.Bytes.{bytes-none}
 use Rattle.block_type.specs.Limits.{up4, zoneHeader}
 use Rattle.calls.specs.Calls.{by-handle, Answer, told, shows, Call, allocate-relocatable, size, view}
 use Rattle.calls.specs.Bays.{Bays, over, findS, maxS}
@@ -24,7 +25,6 @@ use Rattle.zone.proofs.Walk.{each-got}
 use Rattle.zone.proofs.Handles.{occurs, occurs-once}
 use Rattle.zone.proofs.Run.{well-whole}
 use Rattle.call_laws.proofs.Outcome.{step}
-use Rattle.bigendian.proofs.Bytes.{bytes-none}
 use Rattle.call_laws.proofs.Accepted.{Accepted, accepted, cleared, answered, after}
 use Rattle.call_laws.proofs.Named.{size-there, view-there}
 use Rattle.call_laws.proofs.Placed.{low-found}

@@ -5,6 +5,9 @@ use Prim.Native.Nat.{ℕ, zero, suc, _+_, _<_, _≤_, _-_, _/_}
 use native.Mathlib.Omega.{arith}
 use lib.ListN.{length, take, drop, length-append, length-drop, drop-of-length-le, replicate}
 use lib.Seq.{drop-drop, take-at, drop-at, take-take, drop-append-add}
+use Rattle.bigendian.proofs.Parts.{drop-zeros, take-zeros, drop-take}
+use Rattle.bigendian.specs.BigEndian.{toBE, slice}
+use Rattle.bigendian.proofs.Laws.{length-toBE}
 use Rattle.block_type.specs.Limits.{smallestBlock, freeHeader}
 use Rattle.format.specs.WellFormed.{typeOf, sizeOf}
 use Rattle.format.proofs.Walk.{blocks-cons, blocks-nil, kind-take, size-take}
@@ -13,9 +16,6 @@ use Rattle.bay.specs.Bay.{Cell, free, held, cellSize, baySize, gap, pack
 use Rattle.bay.specs.Bytes.{encodeCell}
 use Rattle.bay.specs.Sound.{bytesOf, cellsOf, Sound1, Sound, IsBay, is-bay, cellAt, Stepped}
 use Rattle.bay.proofs.CellBytes.{Enc, enc}
-use Rattle.bigendian.proofs.Parts.{drop-zeros, take-zeros, drop-take}
-use Rattle.bigendian.specs.BigEndian.{toBE, slice}
-use Rattle.bigendian.proofs.Laws.{length-toBE}
 
 -- ---- a block in front
 

@@ -11,13 +11,14 @@ use borrow.Author.Tests.{leb-true, leb-false, lt-leb, eq-eqb}
 use Rattle.calls.specs.Bays.{over}
 use Rattle.kinds.specs.Kinds.{Item}
 use Rattle.calls.specs.State.{total, alter, sized}
+use Rattle.calls.proofs.Counted.{get-none, alter-none}
 use Rattle.bay.specs.Bay.{Cell, free, held, baySize, baySum, items, gap, packed, resized, inPlace, growHere, reshape}
 use Rattle.bay.specs.Counted.{count}
 use Rattle.bay.specs.Ends.{startFree, pastStart}
 use Rattle.bay.proofs.Laws.{items-append, bsize-split, gap-one}
 use Rattle.bay.proofs.Sound.{Sound, s-nil, s-end, s-free, s-held}
 use Rattle.bay.proofs.Choice.{packed-is, here-after, at-handle, grows-in-place}
-use Rattle.bay.proofs.Resize.{length-sized, get-none, alter-none}
+use Rattle.bay.proofs.Resize.{length-sized}
 
 -- ---- free bytes in front of sound cells: what follows a free block is not free
 

@@ -11,6 +11,7 @@ use borrow.Author.Tests.{leb-true, leb-false}
 use Rattle.calls.specs.Bays.{over}
 use Rattle.kinds.specs.Kinds.{Item, itemSize, is}
 use Rattle.calls.specs.State.{total, alter, get, sized}
+use Rattle.calls.proofs.Counted.{alter-none}
 use Rattle.bay.specs.Bay.{Cell, free, held, baySize, baySum, items, gap, packed, resized, growInto, inPlace, growHere, reshape}
 use Rattle.bay.specs.Counted.{count, roomFor}
 use Rattle.bay.proofs.Each.{Each, nothing, just, each-over, each-cond, each-cond′, each-getD, each-weaken}
@@ -19,23 +20,6 @@ use Rattle.bay.proofs.Sound.{Block, Sound, s-nil, s-end, s-free, s-held
 
 pub length-sized : (a : ℕ) (l : List ℕ) → length (sized a l) ≡ a
 length-sized a l = simp (length-append, length-take, length-replicate) (omega arith)
-
--- without the handle
-pub get-none : (h : ℕ) (es : List Item) → count h es ≡ 0 → get h es ≡ none
-get-none h [] q = refl
-get-none h (e ∷ es) q = go (is h e) q (get-none h es)
-  where
-    go : (t : Bool) → cond t (suc (count h es)) (count h es) ≡ 0 → (count h es ≡ 0 → get h es ≡ none) → cond t (some e) (get h es) ≡ none
-    go true p r = absurd (omega arith)
-    go false p r = r p
-
-pub alter-none : (h : ℕ) (f : List ℕ → List ℕ) (es : List Item) → count h es ≡ 0 → map (alter h f) es ≡ es
-alter-none h f [] q = refl
-alter-none h f (e ∷ es) q = go (is h e) refl q (λ k. alter-none h f es k)
-  where
-    go : (t : Bool) → is h e ≡ t → cond t (suc (count h es)) (count h es) ≡ 0 → (count h es ≡ 0 → map (alter h f) es ≡ es) → map (alter h f) (e ∷ es) ≡ e ∷ es
-    go true p q r = absurd (omega arith)
-    go false p q r = rw p (ap (e ∷_) (r q))
 
 pub record Shaped (h a : ℕ) (cs ds : List Cell) : Type 0 where
   pub size : baySize ds ≡ baySize cs

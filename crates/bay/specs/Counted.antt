@@ -2,23 +2,19 @@
 use mathlib.Core.Bool.{Bool, false, cond}
 use mathlib.Core.Option.{Option, none, some}
 use mathlib.Core.List.{List, [], _∷_}
-use Prim.Native.Nat.{ℕ, suc, _-_}
+use Prim.Native.Nat.{ℕ, _-_}
 use lib.ListN.{length}
 use lib.Dec.{leb}
 use Rattle.calls.specs.Bays.{Bays, sumS}
 use Rattle.kinds.specs.Kinds.{Item, is}
 use Rattle.calls.specs.State.{Fixed}
+pub use Rattle.calls.specs.Counted.{count}
 use Rattle.bay.specs.Bay.{Cell, items}
 
 -- the items with another handle
 abbrev pub remove : ℕ → List Item → List Item
 remove h [] = []
 remove h (e ∷ es) = cond (is h e) (remove h es) (e ∷ remove h es)
-
--- how many items have the handle
-abbrev pub count : ℕ → List Item → ℕ
-count h [] = 0
-count h (e ∷ es) = cond (is h e) (suc (count h es)) (count h es)
 
 -- "its own bay's sum reaches a − b"; n is that sum
 abbrev pub roomFor : ℕ → ℕ → Option Item → Bool

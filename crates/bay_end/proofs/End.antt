@@ -7,18 +7,18 @@ use native.Mathlib.Omega.{arith}
 use lib.Dec.{eqb}
 use lib.ListN.{length, length-append}
 use Rattle.structure.proofs.ZoneLayout.{lay, lay-same}
-use Rattle.bigendian.proofs.Overwrite.{write-mid}
 use Rattle.structure.proofs.Append.{sizes-append, place-append, handles-append}
 use Rattle.block_type.specs.Limits.{masterSize, zoneHeader, lengthAt}
 use Rattle.bigendian.specs.BigEndian.{toBE, overwrite}
 use Rattle.bigendian.proofs.Laws.{length-toBE}
+use Rattle.bigendian.proofs.Overwrite.{write-mid}
 use Rattle.format.proofs.Count.{occurs, offsets}
 use Rattle.bay.specs.Bay.{Cell, gap}
 use Rattle.structure.specs.Structure.{Block, cell, Structure, sizes, count, start, len, headOf, placeOf, nextOf, value, encode, handlesOf}
+use Rattle.structure.proofs.Cells.{gap-handles, gap-sizes, gap-place}
 use Rattle.row.specs.Row.{bytesOf, Sound}
 use Rattle.row.proofs.Laws.{bytes-append, bytes-long, sound-left, sound-right}
 use Rattle.surgery.proofs.Image.{img, encode-img, img-rest, img-same}
-use Rattle.structure.proofs.Cells.{gap-handles, gap-sizes, gap-place}
 
 -- another length
 lay-length : (l l′ f m c : ℕ) (vs r : List ℕ) → overwrite (lay l f m c vs r) lengthAt (toBE 4 l′) ≡ lay l′ f m c vs r

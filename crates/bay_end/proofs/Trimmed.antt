@@ -6,10 +6,10 @@ use native.Mathlib.Nat.{zero-add}
 use native.Mathlib.Omega.{arith}
 use lib.ListN.{length, take, drop, replicate, length-append, replicate-append-replicate}
 use lib.Seq.{length-take-le}
-use Rattle.bigendian.proofs.Overwrite.{write-mid, write-pad}
 use Rattle.block_type.specs.Limits.{freeHeader}
 use Rattle.bigendian.specs.BigEndian.{toBE, overwrite}
 use Rattle.bigendian.proofs.Laws.{length-toBE}
+use Rattle.bigendian.proofs.Overwrite.{write-mid, write-pad}
 use Rattle.bay.specs.Bay.{gap}
 use Rattle.bay.specs.Sound.{bytesOf}
 use Rattle.bay.proofs.BayBytes.{gap-some, free-zeros}

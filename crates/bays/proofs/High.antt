@@ -11,6 +11,7 @@ use Rattle.format.proofs.Bool.{not-both}
 use Rattle.structure.specs.Structure.{Block, cell, fixed}
 use Rattle.calls.specs.Bays.{Bays, last, more, maxS, lastS}
 use Rattle.calls.specs.State.{Fixed, fsize, newFixed, cutHigh}
+use Rattle.calls.proofs.Reach.{leb-max}
 use Rattle.bay.specs.Bay.{Cell, baySize, baySum}
 use Rattle.zone.specs.Group.{flatBay, flatten}
 use Rattle.zone.proofs.Places.{Tiled}
@@ -19,7 +20,6 @@ use Rattle.bays.specs.At.{at-last, at-later}
 use Rattle.bays.specs.Found.{FoundHigh, FoundLast}
 use Rattle.bays.proofs.At.{flat-later, tiled-place, tiled-rest, tiled-last, tiled-long, numbers-first, numbers-later}
 use Rattle.bays.proofs.Low.{fit-is}
-use Rattle.calls.proofs.Reach.{leb-max}
 
 -- ---- whether there is one
 

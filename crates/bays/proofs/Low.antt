@@ -10,13 +10,13 @@ use Rattle.format.proofs.Bool.{not-both}
 use Rattle.structure.specs.Structure.{Block}
 use Rattle.calls.specs.Bays.{Bays, last, more, onLowest, maxS}
 use Rattle.calls.specs.State.{Fixed, fsize}
+use Rattle.calls.proofs.Reach.{leb-max}
 use Rattle.bay.specs.Bay.{Cell, baySum}
 use Rattle.zone.proofs.Places.{Tiled}
 use Rattle.bays.specs.Places.{BayN, bayN, noBay, bayAt, fitAt, lowBay}
 use Rattle.bays.specs.At.{At, at-last, at-here, at-later}
 use Rattle.bays.specs.Found.{Found}
 use Rattle.bays.proofs.At.{at-within, tiled-rest, numbers-first, numbers-later}
-use Rattle.calls.proofs.Reach.{leb-max}
 
 -- ---- whether there is one
 

@@ -14,13 +14,13 @@ use Rattle.structure.specs.Structure.{Block, cell, fixed, size, join, code}
 use Rattle.calls.specs.Bays.{Bays, last, more}
 use Rattle.calls.specs.State.{Fixed}
 use Rattle.bay.specs.Bay.{Cell, free, held, cellSize, baySize, baySum}
+use Rattle.bay.proofs.Laws.{bsize-append, bsum-append}
 use Rattle.row.specs.Row.{row, blocksOf, Stepped, blockAt}
 use Rattle.row.proofs.Laws.{row-end}
 use Rattle.zone.specs.Group.{inFront, group}
+use Rattle.zone.proofs.GroupLaws.{front, front-nil}
 use Rattle.bays.specs.Places.{baysAt, freePart, endFree}
 use Rattle.bays.specs.Read.{at-end, at-fixed, Read}
-use Rattle.zone.proofs.GroupLaws.{front, front-nil}
-use Rattle.bay.proofs.Laws.{bsize-append, bsum-append}
 
 -- ---- the free part of a block
 

@@ -12,13 +12,13 @@ use lib.ListN.{length, getD, take, drop, length-drop}
 use lib.Seq.{getD-drop, drop-drop}
 use Rattle.block_type.specs.Limits.{longestZone, masterSize, mostMasters, typeUnit, zoneHeader, freeHeader, relocHeader, smallestBlock, freeCode, fixedCode, relocCode, tagAt, typeByteUnit, zerosAt}
 use Rattle.bigendian.specs.BigEndian.{fromBE, slice}
+use Rattle.bigendian.proofs.Parts.{drop-take}
 use Rattle.memory.specs.Zeros.{allZero}
 use Rattle.format.proofs.Bool.{and-left, and-right, is-false, not-both}
 use Rattle.format.specs.WellFormed.{headerOk, lengthField, firstField, mastersField, typeOf, sizeOf, handleOf, isFree, isReloc, splitBlocks, isMaster, relocs}
 use Rattle.format.specs.OneWalk.{links, typeRule, freeRule, relocRule, blockOk, blocksOk, ruleOf}
 use Rattle.format.proofs.Masters.{is-master}
 use Rattle.format.proofs.Walk.{is-first, first-rule, turn, stop, end, end-count}
-use Rattle.bigendian.proofs.Parts.{drop-take}
 use Rattle.format.specs.Steps.{GoodSize}
 
 pub kind-law : (z : List ℕ) (at : ℕ) → getD z at 0 / typeByteUnit ≡ typeOf (drop at z)

@@ -1,6 +1,6 @@
 -- A call on a well-formed buffer: the equations that a call's proof ends with, and what stands in the buffer after it.
-use mathlib.Core.Path.{_≡_, refl, sym, ap, _∙_, subst}
-use mathlib.Core.Bool.{true, false, cond}
+use mathlib.Core.Path.{_≡_, refl, sym, ap, _∙_}
+use mathlib.Core.Bool.{true, cond}
 use mathlib.Core.List.{List, _++_}
 use Prim.Native.Nat.{ℕ, zero, suc, _-_, max}
 use native.Mathlib.Omega.{arith}
@@ -15,7 +15,7 @@ use Rattle.calls.specs.Table.{refusalOf}
 use Rattle.bay.specs.Bay.{Cell}
 use Rattle.zone.specs.Work.{Zone, facts, work}
 use Rattle.zone.specs.Group.{group}
-use Rattle.zone.specs.Call.{inLine, zoneIn, result, replacing, outcome, callWith, call}
+use Rattle.zone.specs.Call.{inLine, zoneIn, result, replacing, outcome, call}
 use Rattle.zone.proofs.Keep.{Whole, len-line}
 use Rattle.zone.proofs.Grouped.{work-whole, work-buffer}
 use Rattle.zone.proofs.Run.{Stored, stored-well, stored-decode, stored-bays, stored-after, number-is, well-whole, well-stored, beyond}
@@ -65,12 +65,7 @@ module _ (s : List ℕ) (z : Zone) (w : Whole z) (t : Stored s z) where
       go zero = refl
       go (suc n) = rw (eqb·suc-zero n) (ap (result (refused c (suc n))) (sym same-stored))
 
--- ---- the buffer is not well-formed: 1, for every call but check
-
-pub call-ill : (s : List ℕ) (c : Call) → wellFormed s ≡ false → refusalOf c (facts false (zoneIn s)) ≡ 1 → call c s ≡ result (refused c 1) s
-call-ill s c w e = ap (λ (n : ℕ). callWith n c s) (subst (λ t. refusalOf c (facts t (zoneIn s)) ≡ 1) (sym w) e)
-
--- ---- it is
+-- ---- a well-formed buffer
 
 module _ (s : List ℕ) (y : Bytes s) (wf : wellFormed s ≡ true) where
   abbrev z : Zone

@@ -9,12 +9,12 @@ use borrow.Author.Tests.{eq-eqb, leb-true}
 use Rattle.calls.specs.Bays.{Bays, last, more, orElse}
 use Rattle.kinds.specs.Kinds.{Item, itemSize}
 use Rattle.calls.specs.State.{get, Fixed}
+use Rattle.calls.proofs.Counted.{get-none}
 use Rattle.bay.specs.Bay.{Cell, items, baySum, put}
 use Rattle.bay.specs.Counted.{count, live}
 use Rattle.bay.proofs.Each.{Each, nothing, just, each-over, each-cond}
 use Rattle.bay.proofs.Perm.{perm-count, perm-get}
 use Rattle.bay.proofs.Holes.{put-keeps}
-use Rattle.bay.proofs.Resize.{get-none}
 use Rattle.zone.specs.Search.{placeLow}
 use Rattle.zone.proofs.Once.{blockOf}
 

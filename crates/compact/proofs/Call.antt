@@ -7,6 +7,8 @@ use lib.ListN.{length, getD, take, drop, length-take}
 use mir.Val.{Fits}
 use mir.Syntax.{w8, w32}
 use Rattle.bigendian.specs.BigEndian.{fromBE}
+use Rattle.bigendian.proofs.Parts.{slice-take}
+use Rattle.bigendian.proofs.Bytes.{bytes-none}
 use Rattle.block_type.specs.Limits.{firstAt}
 use Rattle.format.specs.WellFormed.{firstField}
 use Rattle.structure.specs.Structure.{Structure, fixed, sizes, start, decodeZone, encode}
@@ -22,8 +24,6 @@ use Rattle.zone.proofs.GroupLaws.{flatten-group}
 use Rattle.bays.proofs.At.{bay-sizes}
 use Rattle.call_laws.specs.Frame.{Does, PlannedIn, goes, Planned}
 use Rattle.access.proofs.Checked.{zone-8}
-use Rattle.bigendian.proofs.Parts.{slice-take}
-use Rattle.bigendian.proofs.Bytes.{bytes-none}
 use Rattle.call_laws.proofs.Frame.{frame-ready, frame-done}
 use Rattle.compact.specs.Compacted.{largest, compacted}
 use Rattle.compact.specs.Ready.{ReadyIn}

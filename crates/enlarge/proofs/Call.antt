@@ -9,6 +9,7 @@ use lib.Seq.{take-add}
 use mir.Val.{Fits}
 use mir.Syntax.{w8, w64}
 use Rattle.bigendian.specs.BigEndian.{toBE, overwrite}
+use Rattle.bigendian.proofs.Bytes.{bytes-none}
 use Rattle.block_type.specs.Limits.{lengthAt}
 use Rattle.format.specs.WellFormed.{wellFormed, lengthField}
 use Rattle.structure.specs.Structure.{encodeBlock, decodeZone, cell}
@@ -18,7 +19,6 @@ use Rattle.bay.specs.Bay.{free}
 use Rattle.zone.specs.Call.{result, call}
 use Rattle.call_laws.specs.Frame.{goes, Planned}
 use Rattle.access.proofs.Checked.{bytes-of, take-len, has-zone, has-whole}
-use Rattle.bigendian.proofs.Bytes.{bytes-none}
 use Rattle.call_laws.proofs.Frame.{plan-no, plan-well, frame-fits, frame-ready, frame-grown, frame-same}
 use Rattle.enlarge.specs.Enlarge.{accepts, lastFree}
 use Rattle.enlarge.specs.Ready.{ReadyIn}

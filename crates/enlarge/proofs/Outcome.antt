@@ -8,21 +8,21 @@ use lib.ListN.{length, getD}
 use mir.Val.{Fits}
 use mir.Syntax.{w8}
 use Rattle.bigendian.specs.BigEndian.{Bytes}
+use Rattle.bigendian.proofs.Bytes.{bytes-none}
 use Rattle.format.specs.WellFormed.{wellFormed, zoneOf, lengthField}
 use Rattle.structure.specs.Structure.{decodeZone}
 use Rattle.calls.specs.Calls.{Answer, told, enlarge, length-of, sums}
 use Rattle.calls.specs.Bays.{Bays, last, more, onLast, sumS}
 use Rattle.bay.specs.Bay.{Cell, baySum, gap, joinBays}
+use Rattle.bay.proofs.Laws.{bsum-gap, bsum-weld}
 use Rattle.calls.specs.State.{Fixed}
 use Rattle.zone.specs.Call.{zoneIn, Result, call}
 use Rattle.call_laws.specs.Frame.{Planned}
-use Rattle.bigendian.proofs.Bytes.{bytes-none}
 use Rattle.call_laws.proofs.Accepted.{Accepted, accepted, before, after}
 use Rattle.call_laws.proofs.Frame.{plan-ill, frame-no}
 use Rattle.enlarge.specs.Enlarge.{accepts, lastFree}
 use Rattle.enlarge.specs.Ready.{ReadyIn}
 use Rattle.enlarge.proofs.Call.{plan-9, plan-0, call-idle}
-use Rattle.bay.proofs.Laws.{bsum-gap, bsum-weld}
 
 -- ---- the sum of the bays
 

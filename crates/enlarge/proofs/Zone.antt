@@ -12,10 +12,10 @@ use Rattle.structure.proofs.Append.{sizes-append}
 use Rattle.free_block.proofs.Hole.{free-hole}
 use Rattle.blank.specs.Between.{Hole, nothing, zeros, Between}
 use Rattle.bigendian.specs.BigEndian.{slice, toBE, overwrite}
+use Rattle.bigendian.proofs.Parts.{slice-take}
 use Rattle.block_type.specs.Limits.{freeHeader, longestZone, lengthAt}
 use Rattle.format.specs.WellFormed.{firstField}
 use Rattle.format.proofs.Bool.{and-left, and-right}
-use Rattle.bigendian.proofs.Parts.{slice-take}
 use Rattle.structure.specs.Structure.{Block, Structure, sizes, start, len, encodeBlock, join, encode, decodeZone, cell}
 use Rattle.structure.specs.Valid.{Valid, Tiled}
 use Rattle.structure.proofs.Table.{Whole, len-is, encode-zone}

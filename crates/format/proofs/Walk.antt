@@ -10,6 +10,7 @@ use lib.ListN.{length, take, drop, length-take, length-drop, drop-of-length-le}
 use lib.Seq.{take-take, getD-take, drop-drop}
 use Rattle.block_type.specs.Limits.{typeUnit, smallestBlock, freeCode, tagAt}
 use Rattle.bigendian.specs.BigEndian.{fromBE}
+use Rattle.bigendian.proofs.Parts.{drop-pred, drop-take}
 use Rattle.format.proofs.Bool.{and-left, and-right}
 pub use Rattle.format.specs.Steps.{Turn}
 use Rattle.format.specs.WellFormed.{typeOf, sizeOf, handleOf, isFree, isReloc, splitFrom, splitBlocks, relocs}

@@ -43,7 +43,7 @@ module _ (s : Structure) (v : Valid s) {bs′ : List Block} {b : Block} (a : Aro
   unfolding join
   x-bytes = sym (append-nil x)
 
-  same-size : sizes new ≡ sizes (inside s v a)
+  pub same-size : sizes new ≡ sizes (inside s v a)
   unfolding sizes
   same-size = omega (arith, inside-sizes s v a)
 
@@ -87,7 +87,7 @@ module _ (s : Structure) (v : Valid s) {bs′ : List Block} {b : Block} (a : Aro
     abbrev ks : List ℕ
     ks = h ∷ s .chain
 
-    count-owned : length (handlesOf new) + length ks ≡ length (handlesOf (inside s v a)) + length (s .chain)
+    pub count-owned : length (handlesOf new) + length ks ≡ length (handlesOf (inside s v a)) + length (s .chain)
     count-owned = rw (master, no-handles) (omega arith)
 
     inside-once : (k : ℕ) → occurs k (handlesOf (inside s v a)) ≡ one k h + 0

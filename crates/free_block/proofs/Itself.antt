@@ -8,10 +8,10 @@ use lib.Seq.{drop-drop, drop-at}
 use borrow.Author.Tests.{eq-eqb}
 use Rattle.format.specs.Occurs.{occurs}
 use Rattle.format.proofs.Count.{one-same, occurs-append}
-use Rattle.bigendian.proofs.Parts.{drop-take}
 use Rattle.block_type.specs.Limits.{typeUnit}
 use Rattle.bigendian.specs.BigEndian.{toBE, slice}
 use Rattle.bigendian.proofs.Laws.{length-toBE}
+use Rattle.bigendian.proofs.Parts.{drop-take}
 use Rattle.kinds.specs.Kinds.{Item, codeOf, headerOf, tagOf, masterOf, itemSize}
 use Rattle.kinds.proofs.KindLaws.{tag-long}
 use Rattle.bay.specs.Bay.{held, baySize}

@@ -12,13 +12,13 @@ use Rattle.bay.proofs.Free.{lower, upper, lower-is, upper-is, joined-is}
 use Rattle.structure.specs.Structure.{Block, cell, Structure, size, sizes, handlesOf}
 use Rattle.structure.specs.Valid.{Tiled, Valid}
 use Rattle.structure.proofs.Append.{sizes-append, handles-append}
+use Rattle.structure.proofs.Cells.{tiled-cells, gap-sizes, gap-handles}
 use Rattle.row.specs.Row as Row
 use Rattle.row.proofs.Laws.{low-of, sound-left, sound-right, sound-four}
 use Rattle.row.proofs.Zone.{valid-sound}
 use Rattle.surgery.proofs.Sound.{tiled-right}
 use Rattle.settle.proofs.Cells.{all-sizes}
 use Rattle.free_block.specs.Around.{Around}
-use Rattle.structure.proofs.Cells.{tiled-cells, gap-sizes, gap-handles}
 
 -- what stands before the block
 pub lows-sizes : {bs bs′ : List Block} {b : Block} (a : Around bs bs′ b) → sizes (a .pre ++ map cell (a .low)) ≡ sizes (a .pre) + baySize (a .low)

@@ -8,6 +8,7 @@ use mir.Syntax.{w8}
 use lib.ListN.{length, getD, take, drop}
 use Rattle.access.proofs.Checked.{zone-14}
 use Rattle.bigendian.specs.BigEndian.{toBE, overwrite}
+use Rattle.bigendian.proofs.Bytes.{bytes-none}
 use Rattle.block_type.specs.Limits.{masterSize, relocHeader, argumentRange, chainAt}
 use Rattle.format.specs.WellFormed.{firstField, chainField}
 use Rattle.bay.specs.Bay.{free, held}
@@ -21,7 +22,6 @@ use Rattle.free_block.proofs.Between.{freeing-between, freeing-master, freeing-
 use Rattle.calls.specs.Calls.{told, free-handle}
 use Rattle.zone.specs.Call.{result, call}
 use Rattle.call_laws.specs.Frame.{PlannedIn, refuses, goes, Planned}
-use Rattle.bigendian.proofs.Bytes.{bytes-none}
 use Rattle.call_laws.proofs.Frame.{frame-ready, frame-done}
 use Rattle.free_handle.specs.Ready.{ReadyIn}
 use Rattle.free_handle.proofs.Bays.{no-block, frees}

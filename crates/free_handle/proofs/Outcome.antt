@@ -8,6 +8,7 @@ use native.Mathlib.Omega.{arith}
 use lib.ListN.{length}
 use lib.Dec.{leb}
 use Rattle.bigendian.specs.BigEndian.{Bytes}
+use Rattle.bigendian.proofs.Bytes.{bytes-none}
 use Rattle.block_type.specs.Limits.{relocHeader, relocLimit, relocNeed}
 use Rattle.calls.specs.Calls.{by-handle, Call, Answer, told, allocate-relocatable, free-handle, size, sums}
 use Rattle.calls.specs.Bays.{Bays, last, more, over, mapS, orElse, sumS, maxS}
@@ -16,18 +17,17 @@ use Rattle.calls.specs.State.{get, Fixed}
 use Rattle.bay.specs.Bay.{Cell, baySum, items, release}
 use Rattle.bay.specs.Counted.{count, remove, live}
 use Rattle.calls.specs.Table.{cause, below, isNone, first, order}
+use Rattle.calls.proofs.First.{or-left}
 use Rattle.zone.specs.Work.{Zone, work}
 use Rattle.zone.specs.Call.{call, zoneIn}
 use Rattle.bay.proofs.Each.{Each, nothing, just}
 use Rattle.bay.proofs.Laws.{release-items}
 use Rattle.zone.proofs.Sums.{find-sum}
 use Rattle.zone.proofs.Handles.{get-count}
-use Rattle.zone.proofs.Once.{taken, sum-released, blockOf}
 use Rattle.zone.proofs.Grouped.{single-live}
 use Rattle.zone.proofs.Run.{well-whole}
+use Rattle.zone.proofs.Once.{taken, sum-released, blockOf}
 use Rattle.call_laws.proofs.Outcome.{step, stepAs}
-use Rattle.bigendian.proofs.Bytes.{bytes-none}
-use Rattle.calls.proofs.First.{or-left}
 use Rattle.call_laws.proofs.Accepted.{Accepted, accepted, cleared, before, after}
 use Rattle.call_laws.proofs.Named.{size-there, size-gone}
 

@@ -10,6 +10,7 @@ use lib.Dec.{eqb}
 use borrow.Author.Tests.{eqb-true}
 use lib.ListN.{length, getD, take, drop}
 use Rattle.bigendian.specs.BigEndian.{overwrite}
+use Rattle.bigendian.proofs.Bytes.{bytes-none}
 use Rattle.block_type.specs.Limits.{fixedCode, fixedHeader, freeHeader}
 use Rattle.format.specs.WellFormed.{typeOf, firstField}
 use Rattle.format.proofs.Bool.{and-right}
@@ -34,7 +35,6 @@ use Rattle.free_block.proofs.Around.{around-same}
 use Rattle.free_block.proofs.Found.{here-size, freeing}
 use Rattle.free_block.proofs.Between.{freeing-between, freeing-plain}
 use Rattle.call_laws.specs.Frame.{PlannedIn, refuses, goes, Planned}
-use Rattle.bigendian.proofs.Bytes.{bytes-none}
 use Rattle.call_laws.proofs.Frame.{frame-ready, frame-done}
 use Rattle.free_pointer.specs.Ready.{freed, ReadyIn}
 use Rattle.free_pointer.proofs.Bays.{Named, named, no-block, found, frees}

@@ -9,6 +9,7 @@ use lib.ListN.{length}
 use lib.Dec.{eqb}
 use borrow.Author.Tests.{eqb-true, ne-eqb}
 use Rattle.bigendian.specs.BigEndian.{Bytes}
+use Rattle.bigendian.proofs.Bytes.{bytes-none}
 use Rattle.block_type.specs.Limits.{fixedHeader}
 use Rattle.calls.specs.Calls.{by-pointer, Answer, told, free-pointer, size, sums}
 use Rattle.calls.specs.Bays.{Bays, last, more, over, findF, sumS}
@@ -19,12 +20,11 @@ use Rattle.calls.proofs.First.{or-left}
 use Rattle.zone.specs.Work.{Zone, freePointer}
 use Rattle.zone.specs.Call.{zoneIn, call}
 use Rattle.bay.proofs.Each.{Each, nothing, just, each-weaken}
+use Rattle.bay.proofs.Laws.{bsum-gap, bsum-weld}
 use Rattle.zone.proofs.Places.{Tiled, tile-last, tile-more}
 use Rattle.zone.proofs.Run.{well-whole}
-use Rattle.bigendian.proofs.Bytes.{bytes-none}
 use Rattle.call_laws.proofs.Accepted.{Accepted, accepted, cleared, before, after}
 use Rattle.call_laws.proofs.Named.{size-there, size-gone}
-use Rattle.bay.proofs.Laws.{bsum-gap, bsum-weld}
 
 -- ---- the fixed block is gone
 

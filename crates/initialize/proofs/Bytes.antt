@@ -18,10 +18,10 @@ use Rattle.calls.specs.State.{handlesFrom}
 use Rattle.zone.specs.Work.{fresh}
 use Rattle.zone.specs.Group.{flatBay}
 use Rattle.zone.specs.Call.{inLine, Result, result, initializeWith, initialize}
+use Rattle.zone.proofs.Handles.{length-handles}
 use Rattle.calls.specs.Table.{Cause, cause, first, order}
 use Rattle.initialize.specs.Fresh.{sizeBytes, headBytes, chainBytes, freeBytes, freshBytes, accepts, Fresh}
 use Rattle.initialize.proofs.Write.{bad-is, accepted, head-long, chain-long, free-long}
-use Rattle.zone.proofs.Handles.{length-handles}
 
 two-zeros : 0 ∷ 0 ∷ [] ≡ toBE 2 0
 unfolding toBE

@@ -13,17 +13,15 @@ use Rattle.calls.specs.Bays.{last, more, over, orElse, findS, maxS, sumS}
 use Rattle.kinds.specs.Kinds.{Item, is}
 use Rattle.calls.specs.State.{get}
 use Rattle.calls.specs.Table.{below, isNone, isEmpty, cause, first, beforeNoBay, order}
+use Rattle.calls.proofs.Reach.{leb-max}
+use Rattle.calls.specs.Counted.{count}
+use Rattle.calls.proofs.Counted.{get-none}
 use Rattle.ledger.specs.Ledger.{Bay, Layout, Ledger, sumOf, stepWith, step}
 use Rattle.ledger.specs.Space.{Request, relocatable, fixed, resized, callOf, resizeNeed, needOf, fits, earlier}
-use Rattle.calls.proofs.Reach.{leb-max}
 
--- how many entries have the handle, in a bay and in all
-abbrev pub countIn : ℕ → List Item → ℕ
-countIn h [] = 0
-countIn h (e ∷ es) = cond (is h e) (suc (countIn h es)) (countIn h es)
-
+-- how many entries have the handle
 abbrev pub liveIn : ℕ → Layout → ℕ
-liveIn h l = sumS (λ (b : Bay). countIn h (b .entries)) l
+liveIn h l = sumS (λ (b : Bay). count h (b .entries)) l
 
 -- ---- the same of every bay: the largest sum decides
 
@@ -33,24 +31,15 @@ fits-all q n e (more b x l) = ap₂ _||_ (ap (λ (k : ℕ). leb k (sumOf b)) (e 
 
 -- ---- a resize, where the handle stands at most once
 
--- whether it is found, by how often it stands there
-get-absent : (h : ℕ) (es : List Item) → countIn h es ≡ 0 → get h es ≡ none
-get-absent h [] n = refl
-get-absent h (e ∷ es) n = go (is h e) (λ k. get-absent h es k) n
-  where
-    go : (t : Bool) → (countIn h es ≡ 0 → get h es ≡ none) → cond t (suc (countIn h es)) (countIn h es) ≡ 0 → cond t (some e) (get h es) ≡ none
-    go true f n = absurd (omega arith)
-    go false f n = f n
-
 data Once (n : ℕ) : Option Item → Type 0 where
   not-here : Once n none
   here : {e : Item} → 1 ≤ n → Once n (some e)
 
-get-once : (h : ℕ) (es : List Item) → Once (countIn h es) (get h es)
+get-once : (h : ℕ) (es : List Item) → Once (count h es) (get h es)
 get-once h [] = not-here
 get-once h (e ∷ es) = go (is h e) (get-once h es)
   where
-    go : (t : Bool) {o : Option Item} → Once (countIn h es) o → Once (cond t (suc (countIn h es)) (countIn h es)) (cond t (some e) o)
+    go : (t : Bool) {o : Option Item} → Once (count h es) o → Once (cond t (suc (count h es)) (count h es)) (cond t (some e) o)
     go true k = here (omega arith)
     go false k = k
 
@@ -61,8 +50,8 @@ module _ (h a : ℕ) where
 
   -- no bay has the handle
   none-has : (l : Layout) → liveIn h l ≡ 0 → reached l ≡ leb (relocHeader + a) (maxS sumOf l)
-  none-has (last b) n = rw (get-absent h (b .entries) n)
-  none-has (more b x l) n = rw (get-absent h (b .entries) (omega arith), none-has l (omega arith)) (leb-max (relocHeader + a) (sumOf b) (maxS sumOf l))
+  none-has (last b) n = rw (get-none h (b .entries) n)
+  none-has (more b x l) n = rw (get-none h (b .entries) (omega arith), none-has l (omega arith)) (leb-max (relocHeader + a) (sumOf b) (maxS sumOf l))
 
   abbrev found : Layout → Option Item
   found l = findS (λ (b : Bay). get h (b .entries)) l
@@ -103,7 +92,7 @@ module _ (h a : ℕ) where
       later none s = leb-max (relocHeader + a) (sumOf b) (maxS sumOf l)
       later (some e) s = or-swap (leb (relocHeader + a) (sumOf b)) (leb (a - length (e .bytes)) (Option·getD s 0)) _ ∙ ap (leb (a - length (e .bytes)) (Option·getD s 0) ||_) (leb-max (relocHeader + a) (sumOf b) (maxS sumOf l))
 
-      go : (o : Option Item) → Once (countIn h (b .entries)) o → (liveIn h l ≤ 1 → reached l ≡ enough (own l) (maxS sumOf l) (found l))
+      go : (o : Option Item) → Once (count h (b .entries)) o → (liveIn h l ≤ 1 → reached l ≡ enough (own l) (maxS sumOf l) (found l))
           → leb (resizeNeed a o) (sumOf b) || reached l ≡ enough (orElse (over (λ (e : Item). sumOf b) o) (own l)) (max (sumOf b) (maxS sumOf l)) (orElse o (found l))
       go none not-here r = ap (leb (relocHeader + a) (sumOf b) ||_) (r (omega arith)) ∙ later (found l) (own l)
       go (some e) (here k) r = ap (leb (a - length (e .bytes)) (sumOf b) ||_) (none-has l (omega arith)) ∙ own-bay (length (e .bytes)) (sumOf b) (maxS sumOf l)

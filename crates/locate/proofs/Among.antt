@@ -12,7 +12,7 @@ use Rattle.block_type.specs.Limits.{fixedHeader, relocHeader, fixedCode}
 use Rattle.structure.specs.Structure.{Block, fixed, size, cell, code}
 use Rattle.calls.specs.Calls.{Target, by-handle, by-pointer}
 use Rattle.calls.specs.Bays.{Bays, last, more, over, orElse, findS, findF}
-use Rattle.kinds.specs.Kinds.{Item}
+use Rattle.kinds.specs.Kinds.{Item, itemSize, masterOf}
 use Rattle.calls.specs.State.{get, Fixed, pointer, content}
 use Rattle.bay.specs.Bay.{items, Cell, free, held}
 use Rattle.zone.specs.Group.{inFront, group}
@@ -87,6 +87,6 @@ content-among (by-pointer p) at (fixed d ∷ bs) = found (eqb p (at + fixedHeade
         ≡ cond t (some d) (content items (by-pointer p) (group (at + (fixedHeader + length d)) bs))
     found true = refl
     found false = refl
-content-among (by-handle h) at (cell (held it) ∷ bs) = front-held h (record { handle = (it .handle); bytes = (it .bytes) }) (group (at + (relocHeader + length (it .bytes))) bs)
-    ∙ ap (cond (eqb h (it .handle)) (some (it .bytes))) (content-among (by-handle h) (at + (relocHeader + length (it .bytes))) bs) ∙ here (eqb h (it .handle)) (at + relocHeader) _ (it .bytes) _ (λ e. omega arith)
-content-among (by-pointer p) at (cell (held it) ∷ bs) = front-pointer p (record { handle = (it .handle); bytes = (it .bytes) }) (group (at + (relocHeader + length (it .bytes))) bs) ∙ content-among (by-pointer p) (at + (relocHeader + length (it .bytes))) bs
+content-among (by-handle h) at (cell (held it) ∷ bs) = front-held h it (group (at + itemSize it) bs)
+    ∙ ap (cond (eqb h (masterOf it)) (some (it .bytes))) (content-among (by-handle h) (at + itemSize it) bs) ∙ here (eqb h (masterOf it)) (at + relocHeader) _ (it .bytes) _ (λ e. omega arith)
+content-among (by-pointer p) at (cell (held it) ∷ bs) = front-pointer p it (group (at + itemSize it) bs) ∙ content-among (by-pointer p) (at + itemSize it) bs

@@ -10,8 +10,8 @@ use lib.Seq.{take-take, drop-drop}
 use borrow.Author.Tests.{ne-eqb}
 use Rattle.block_type.specs.Limits.{longestZone}
 use Rattle.bigendian.specs.BigEndian.{slice, Bytes}
-use Rattle.format.specs.WellFormed.{wellFormed, zoneOf, lengthField}
 use Rattle.bigendian.proofs.Parts.{drop-take}
+use Rattle.format.specs.WellFormed.{wellFormed, zoneOf, lengthField}
 use Rattle.structure.specs.Structure.{start, decodeZone, decode}
 use Rattle.structure.proofs.Round.{rest-is}
 use Rattle.structure.proofs.Table.{Whole, whole, len-is, encode-zone}

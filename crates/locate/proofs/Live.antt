@@ -13,9 +13,9 @@ use Rattle.calls.specs.Bays.{Bays, over}
 use Rattle.calls.specs.State.{Fixed}
 use Rattle.bay.specs.Bay.{Cell}
 use Rattle.zone.specs.Group.{group}
+use Rattle.zone.proofs.Once.{blockOf}
 use Rattle.access.proofs.Among.{handle-place, handle-data}
 use Rattle.locate.proofs.Among.{orNone, content-among}
-use Rattle.zone.proofs.Once.{blockOf}
 
 module _ (h : ℕ) (d : Structure) where
   abbrev bays : Bays (List Cell) Fixed

@@ -7,8 +7,8 @@ use native.Mathlib.Omega.{arith}
 use lib.ListN.{length, getD, drop, set, drop-of-length-le}
 use lib.Seq.{drop-cons}
 use Rattle.bigendian.specs.BigEndian.{overwrite}
-use Rattle.memory.proofs.Writes.{write-step}
 use Rattle.bigendian.proofs.Overwrite.{write-none}
+use Rattle.memory.proofs.Writes.{write-step}
 
 pub copy-step : (s src w : List ℕ) (at k x : ℕ) → k < length src → at + length src ≤ length s → x ≡ getD src k 0
     → overwrite s (at + k) (drop k src) ≡ w → overwrite (set s (at + k) x) (at + (k + 1)) (drop (k + 1) src) ≡ w

@@ -11,9 +11,9 @@ use borrow.Author.Tests.{eq-eqb, ne-eqb}
 use lib.ListN.{length, getD, set, replicate}
 use lib.Seq.{drop-cons, take-suc-set, drop-set-lt, append-snoc}
 use Rattle.bigendian.specs.BigEndian.{slice, overwrite}
-use Rattle.memory.specs.Zeros.{allZero}
 use Rattle.bigendian.proofs.Parts.{slice-add}
 use Rattle.bigendian.proofs.Overwrite.{write-none}
+use Rattle.memory.specs.Zeros.{allZero}
 
 pub cut-step : (s : List ℕ) (i to : ℕ) → i < to → to ≤ length s → slice s i (to - i) ≡ getD s i 0 ∷ slice s (i + 1) (to - (i + 1))
 cut-step s i to h k =

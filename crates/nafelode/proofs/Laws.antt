@@ -6,10 +6,10 @@ use Rattle.bigendian.specs.BigEndian.{Bytes}
 use Rattle.calls.specs.Calls.{Target, Call, Answer, size, read, view, sums, check, length-of, shows}
 use Rattle.zone.specs.Call.{Result, result, call, initialize}
 use Rattle.zone.specs.Promise.{Promise, InitPromise}
+use Rattle.zone.proofs.Works.{equal}
 use Rattle.stretch.proofs.Answers.{view-is}
 use Rattle.tell.proofs.Outcomes as Outcomes
 use Rattle.tell.proofs.Outcomes.{unchanged}
-use Rattle.zone.proofs.Works.{equal}
 
 pub promised : (c : Call) (s e : List ℕ) (a : Answer) → result a e ≡ call c s → Promise c s a e
 promised c s e a q = record { answer = equal (ap (λ (r : Result). r .answer) q); bytes = ap (λ (r : Result). r .bytes) q }

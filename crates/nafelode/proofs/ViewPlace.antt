@@ -10,9 +10,9 @@ use lib.Dec.{eqb}
 use borrow.Author.Tests.{ne-eqb}
 use Rattle.format.specs.Occurs.{occurs}
 use Rattle.bigendian.specs.BigEndian.{Bytes, fromBE}
+use Rattle.bigendian.proofs.Parts.{drop-take}
 use Rattle.block_type.specs.Limits.{masterSize}
 use Rattle.format.specs.WellFormed.{wellFormed, zoneOf, firstField, lengthField, masterAt, isMaster, splitBlocks}
-use Rattle.bigendian.proofs.Parts.{drop-take}
 use Rattle.format.proofs.Handles.{handles}
 use Rattle.calls.specs.Calls.{Target, by-handle, by-pointer, view}
 use Rattle.zone.specs.Call.{numberOf}

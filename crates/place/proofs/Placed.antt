@@ -17,10 +17,10 @@ use Rattle.bay.proofs.SoundLaws.{gap-sound}
 use Rattle.structure.specs.Structure.{Block, cell, Structure, sizes, count, start, headOf, nextOf, encode, handlesOf}
 use Rattle.structure.specs.Valid.{Valid}
 use Rattle.structure.proofs.Round.{offset-is}
+use Rattle.structure.proofs.Cells.{gap-handles}
 use Rattle.slide.specs.ZoneBay.{settled}
 use Rattle.settle.proofs.Any.{settle-chain}
 use Rattle.settle.proofs.Bay.{cells-sound}
-use Rattle.structure.proofs.Cells.{gap-handles}
 
 module _ (s : Structure) (v : Valid s) (h : ℕ) (ks : List ℕ) (linked : s .chain ≡ h ∷ ks) where
   in-chain : occurs h (s .chain) ≡ suc (occurs h ks)

@@ -8,6 +8,7 @@ use native.Mathlib.Omega.{arith}
 use lib.ListN.{length, getD, drop, replicate, length-replicate}
 use lib.Dec.{eqb}
 use Rattle.bigendian.specs.BigEndian.{Bytes, fromBE, slice}
+use Rattle.bigendian.proofs.Bytes.{bytes-none}
 use Rattle.memory.specs.Zeros.{allZero}
 use Rattle.format.specs.WellFormed.{wellFormed, headerOk}
 use Rattle.calls.specs.Calls.{Call, by-handle, allocate-relocatable, allocate-fixed, free-handle, free-pointer, resize, read, write, compact, enlarge, shrink, Answer, beside, secondOf, refused}
@@ -23,7 +24,6 @@ use Rattle.zone.proofs.Initial.{Accepted, accepted, fresh-stored}
 use Rattle.zone.proofs.Theorem.{Point, onward, first-point}
 use Rattle.records.specs.Records.{Action, initialize, call, read-byte, nothing, actions, actionOf, Ran, act, Line, line, text, printed, recordsOf, output, withValue, withByte, ran, recordLength, aAt, bAt, dAt}
 use Rattle.records.specs.Book.{bufferLength, bookCall, bookAct, bookLines, ByTheBook}
-use Rattle.bigendian.proofs.Bytes.{bytes-none}
 
 -- ---- the calls that a record can ask for: they are lent bytes, and refused with 1 where there is no zone
 

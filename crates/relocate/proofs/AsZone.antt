@@ -12,11 +12,11 @@ use Rattle.kinds.specs.Kinds.{Item}
 use Rattle.structure.specs.Structure.{Structure, encode, decode, decodeZone}
 use Rattle.structure.specs.Valid.{Valid}
 use Rattle.structure.proofs.Round.{length-is, heads-self, well-formed, decode-encode}
+use Rattle.zone.proofs.Once.{blockOf}
 use Rattle.access.specs.Edit.{placeIn, dataIn}
 use Rattle.bays.specs.Places.{baysOf}
 use Rattle.locate.proofs.Live.{place-gone, place-live}
 use Rattle.structure.specs.IsZone.{IsZone, is-zone}
-use Rattle.zone.proofs.Once.{blockOf}
 
 zone-self : (s : Structure) → Valid s → zoneOf (encode s) ≡ encode s
 zone-self s v = take-all (lengthField (encode s)) (encode s) (omega (arith, heads-self s v .is-len, length-is s v))

@@ -8,6 +8,7 @@ use lib.Seq.{take-all, length-take-le}
 use Rattle.block_type.specs.Limits.{relocCode, relocHeader, typeUnit, longestZone}
 use Rattle.bigendian.specs.BigEndian.{toBE, overwrite}
 use Rattle.bigendian.proofs.Laws.{length-toBE}
+use Rattle.bigendian.proofs.Overwrite.{write-mid}
 use Rattle.kinds.specs.Kinds.{Item, item, itemSize}
 use Rattle.calls.specs.State.{sized}
 use Rattle.bay.specs.Bay.{held, gap}
@@ -15,7 +16,6 @@ use Rattle.bay.specs.Sound.{bytesOf, Sound1}
 use Rattle.bay.proofs.BayBytes.{bytes-long}
 use Rattle.bay.proofs.Laws.{bsize-gap}
 use Rattle.bay.proofs.SoundLaws.{gap-sound}
-use Rattle.bigendian.proofs.Overwrite.{write-mid}
 use Rattle.place.specs.Fit.{blank}
 
 -- a block and the free rest behind it have the bytes of the free block

@@ -30,7 +30,7 @@ use Rattle.surgery.proofs.Replace.{sizes-parts, start-same}
 use Rattle.settle.proofs.Cells.{all-sizes}
 use Rattle.free_block.specs.Around.{Around}
 use Rattle.free_block.proofs.Parts as Parts
-use Rattle.free_block.proofs.Bytes.{master-in, freed-owned}
+use Rattle.free_block.proofs.Bytes.{master-in, freed-owned, same-size, count-owned}
 use Rattle.place.proofs.InBay.{fill-placed}
 use Rattle.relocate.specs.Move.{Apart, below, above}
 
@@ -53,22 +53,14 @@ module _ (s : Structure) (v : Valid s) {bs′ : List Block} {e₀ : Item} (a : A
   abbrev new : List Block
   new = cell (free (Parts.amount s v a)) ∷ []
 
-  fewer : length (handlesOf new) + length (h ∷ s .chain) ≡ length (handlesOf (Parts.inside s v a)) + length (s .chain)
-  unfolding handlesOf
-  fewer = rw (Parts.inside-handles s v a ∙ handles) (omega arith)
-
-  new-size : sizes new ≡ sizes (Parts.inside s v a)
-  unfolding sizes
-  new-size = omega (arith, Parts.inside-sizes s v a)
-
   pub freed-start : start (record { chain = h ∷ s .chain; blocks = bs′ }) ≡ start s
   freed-start =
       ap (λ (bs : List Block). start (record { chain = h ∷ s .chain; blocks = bs })) (Parts.new-parts s v a)
-      ∙ start-same s v (Parts.before s v a) (Parts.inside s v a) new (Parts.after s v a) (h ∷ s .chain) (Parts.old-parts s v a) new-size (Parts.free-sound s v a) fewer
+      ∙ start-same s v (Parts.before s v a) (Parts.inside s v a) new (Parts.after s v a) (h ∷ s .chain) (Parts.old-parts s v a) (same-size s v a) (Parts.free-sound s v a) (count-owned s v a h handles)
 
   same-sizes : sizes bs′ ≡ sizes (s .blocks)
   same-sizes =
-      omega (arith, ap sizes (Parts.new-parts s v a), sizes-parts (Parts.before s v a) new (Parts.after s v a), new-size, Parts.inside-sizes s v a, Parts.all-sizes-are s v a)
+      omega (arith, ap sizes (Parts.new-parts s v a), sizes-parts (Parts.before s v a) new (Parts.after s v a), same-size s v a, Parts.inside-sizes s v a, Parts.all-sizes-are s v a)
 
   module _ (v₂ : Valid (record { chain = h ∷ s .chain; blocks = bs′ })) (before after : List Block) (bay : List Cell) (parts : bs′ ≡ before ++ (map cell bay ++ after))
       (x : Hole) (is : bay ≡ x .before ++ (free (x .size) ∷ x .after)) (e : Item) (em : masterOf e ≡ h) (ok : Sound1 (held e)) (fits : itemSize e ≤ x .size)

@@ -35,6 +35,7 @@ use Rattle.zone.proofs.Places.{Tiled}
 use Rattle.zone.proofs.GroupLaws.{flatten-group, group-flatten}
 use Rattle.zone.proofs.Grouped.{whole-bays, single-live}
 use Rattle.zone.proofs.Keep as Keep
+use Rattle.zone.proofs.Once.{blockOf}
 use Rattle.bays.specs.Places.{baysOf, baysAt}
 use Rattle.bays.proofs.Zone.{zone-bays}
 use Rattle.slide.specs.ZoneBay.{bayCells, ZoneBay, settled}
@@ -49,7 +50,6 @@ use Rattle.relocate.proofs.AsZone.{zone-of, back-of, its-data}
 use Rattle.relocate.proofs.Choice.{without, under-freed}
 use Rattle.structure.specs.IsZone.{IsZone}
 use Rattle.structure.proofs.IsZone.{whole-of}
-use Rattle.zone.proofs.Once.{blockOf}
 
 module _ (z : List ℕ) (h b a from to at n : ℕ) (t : Bool) (y : RelocateIn z h b a from to at n t) where
   abbrev x : Relocate z h b a from to at n t

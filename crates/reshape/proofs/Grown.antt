@@ -5,15 +5,15 @@ use Prim.Native.Nat.{ℕ, _+_, _-_, _*_, _/_, _%_, _<_, _≤_}
 use native.Mathlib.Omega.{arith}
 use lib.ListN.{length, take, drop, replicate, length-replicate, length-append, length-take, length-drop, take-append-drop, drop-of-length-le}
 use lib.Seq.{drop-drop, drop-append-add}
-use Rattle.bigendian.proofs.Overwrite.{write-mid}
 use Rattle.block_type.specs.Limits.{freeHeader, relocCode, typeUnit, tagAt}
 use Rattle.bigendian.specs.BigEndian.{toBE, slice, overwrite}
 use Rattle.bigendian.proofs.Laws.{length-toBE}
+use Rattle.bigendian.proofs.Overwrite.{write-mid}
+use Rattle.bigendian.proofs.Parts.{drop-zeros, slice-rest}
 use Rattle.bay.specs.Bay.{free, gap}
 use Rattle.bay.specs.Bytes.{encodeCell}
 use Rattle.bay.specs.Sound.{bytesOf}
 use Rattle.bay.proofs.BayBytes.{gap-some, gap-none}
-use Rattle.bigendian.proofs.Parts.{drop-zeros, slice-rest}
 use Rattle.reshape.specs.Grow.{grownBytes, Room}
 
 module _ (A H D B G : List ℕ) (at o top run more : ℕ) (lA : length A ≡ at) (lH : length H ≡ tagAt) (lD : at + tagAt + length D ≡ o) (lB : length B ≡ run) (lG : more ≤ length G) (et : top ≡ o + more) where

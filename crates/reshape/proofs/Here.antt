@@ -4,10 +4,10 @@ use mathlib.Core.List.{List, [], _∷_, _++_, append-assoc}
 use Prim.Native.Nat.{ℕ, zero, suc, _+_, _-_, _*_, _/_, _%_, _<_, _≤_, min}
 use native.Mathlib.Omega.{arith}
 use lib.ListN.{length, take, drop, replicate, length-replicate, length-append, length-take, length-drop, take-append-drop, replicate-append-replicate}
-use Rattle.bigendian.proofs.Overwrite.{write-mid}
 use Rattle.block_type.specs.Limits.{freeHeader, typeUnit, tagAt}
 use Rattle.bigendian.specs.BigEndian.{toBE, slice, overwrite}
 use Rattle.bigendian.proofs.Laws.{length-toBE}
+use Rattle.bigendian.proofs.Overwrite.{write-mid}
 use Rattle.kinds.specs.Kinds.{Item, codeOf, headerOf, tagOf}
 use Rattle.kinds.proofs.KindLaws.{tag-long}
 use Rattle.calls.specs.State.{sized}

@@ -15,10 +15,10 @@ use Rattle.bay.proofs.Choice.{packed-is}
 use Rattle.bay.proofs.Laws.{items-append, bsize-gap, bsize-packed}
 use Rattle.bay.proofs.SoundLaws.{gap-sound}
 use Rattle.structure.specs.Structure.{Block, cell, placeOf, handlesOf}
+use Rattle.structure.proofs.Cells.{gap-handles}
 use Rattle.slide.specs.ZoneBay.{Low}
 use Rattle.slide.proofs.Compact.{gap-low}
 use Rattle.reshape.proofs.GrownBay.{laid}
-use Rattle.structure.proofs.Cells.{gap-handles}
 
 packed-append : (xs ys : List Item) (t : List Cell) → packed (xs ++ ys) t ≡ packed xs (packed ys t)
 packed-append [] ys t = refl

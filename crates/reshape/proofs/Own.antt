@@ -11,9 +11,9 @@ use Rattle.kinds.specs.Kinds.{Item, headerOf, itemSize, is}
 use Rattle.calls.specs.Bays.{Bays, last, more, over, orElse, findS, onLowest}
 use Rattle.calls.specs.State.{Fixed, fsize, get, ownSum}
 use Rattle.calls.specs.Table.{isNone}
+use Rattle.calls.proofs.Counted.{get-none}
 use Rattle.bay.specs.Bay.{Cell, free, held, baySize, baySum, items}
 use Rattle.bay.specs.Counted.{count, live}
-use Rattle.bay.proofs.Resize.{get-none}
 use Rattle.structure.specs.Structure.{Block, cell, fixed, placeOf}
 use Rattle.access.specs.Edit.{dataOf}
 use Rattle.zone.specs.Group.{flatBay, flatten}

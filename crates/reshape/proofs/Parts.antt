@@ -17,6 +17,7 @@ use Rattle.bay.proofs.Reshape.{gap-lead, reshape-here}
 use Rattle.structure.specs.Structure.{Block, cell, Structure, sizes, start, len, encode}
 use Rattle.structure.specs.Valid.{Tiled, Valid}
 use Rattle.structure.proofs.Round.{rest-is}
+use Rattle.structure.proofs.Cells.{tiled-cells}
 use Rattle.row.specs.Row as Row
 use Rattle.row.proofs.Laws.{bytes-append, bytes-long, sound-left, sound-right}
 use Rattle.zone.specs.Group.{flatten}
@@ -29,7 +30,6 @@ use Rattle.surgery.proofs.Sound.{tiled-right}
 use Rattle.surgery.proofs.Replace.{sizes-parts}
 use Rattle.settle.proofs.Cells.{all-sizes}
 use Rattle.reshape.specs.Own.{Own, bayOf, dataAt}
-use Rattle.structure.proofs.Cells.{tiled-cells}
 
 -- cells of a bay among the blocks: those on the left, then c and g, then those on the right
 regroup : (before after : List Block) (l g r : List Cell) (c : Cell)

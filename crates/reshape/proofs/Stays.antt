@@ -4,9 +4,9 @@ use mathlib.Core.List.{List, [], _∷_, _++_, map}
 use Prim.Native.Nat.{ℕ, zero, suc, _+_, _-_, _*_, _/_, _%_, _<_, _≤_, min}
 use native.Mathlib.Omega.{arith}
 use lib.ListN.{length, take, drop, replicate, length-take, take-append-drop}
-use Rattle.bigendian.proofs.Overwrite.{write-mid}
 use Rattle.block_type.specs.Limits.{longestZone, relocHeader, relocCode, relocLimit, typeUnit}
 use Rattle.bigendian.specs.BigEndian.{toBE, slice, overwrite}
+use Rattle.bigendian.proofs.Overwrite.{write-mid}
 use Rattle.kinds.specs.Kinds.{headerOf}
 use Rattle.kinds.proofs.KindLaws.{facts}
 use Rattle.bay.specs.Bay.{Cell, held, baySize, gap, resized}

@@ -1,18 +1,18 @@
 -- A block and the free bytes behind it replaced by the same block at another size: no master changes.
 use mathlib.Core.Path.{_≡_, sym, ap, _∙_, ap₂}
 use mathlib.Core.List.{List, [], _∷_, _++_, map}
+use mathlib.Core.Bool.{cond}
 use Prim.Native.Nat.{ℕ, _+_}
+use lib.Dec.{eqb}
 use Rattle.bigendian.specs.BigEndian.{overwrite}
 use Rattle.kinds.specs.Kinds.{Item, headerOf, masterOf, itemSize}
 use Rattle.bay.specs.Bay.{Cell, held, baySize, gap}
 use Rattle.bay.specs.Sound.{bytesOf, Sound}
 use Rattle.structure.specs.Structure.{Block, cell, Structure, sizes, start, placeOf, encode, handlesOf}
 use Rattle.structure.specs.Valid.{Valid}
-use Rattle.settle.proofs.Cells.{all-bytes, all-sizes, all-sound}
 use Rattle.structure.proofs.Cells.{gap-handles, gap-place}
 use Rattle.surgery.proofs.Stays.{stays}
-use mathlib.Core.Bool.{cond}
-use lib.Dec.{eqb}
+use Rattle.settle.proofs.Cells.{all-bytes, all-sizes, all-sound}
 
 one-handle : (e : Item) (n : ℕ) → handlesOf (map cell (held e ∷ gap n [])) ≡ masterOf e ∷ []
 unfolding handlesOf

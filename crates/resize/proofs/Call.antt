@@ -7,6 +7,7 @@ use Prim.Native.Nat.{ℕ}
 use mir.Val.{Fits}
 use mir.Syntax.{w8}
 use lib.ListN.{length, getD, take, drop}
+use Rattle.bigendian.proofs.Bytes.{bytes-none}
 use Rattle.structure.specs.Structure.{decodeZone, encode}
 use Rattle.calls.specs.Calls.{told, resize}
 use Rattle.zone.specs.Group.{flatten}
@@ -14,7 +15,6 @@ use Rattle.zone.specs.Work.{resizeIn}
 use Rattle.zone.specs.Call.{result, call}
 use Rattle.bays.specs.Places.{baysOf}
 use Rattle.call_laws.specs.Frame.{Does, Planned}
-use Rattle.bigendian.proofs.Bytes.{bytes-none}
 use Rattle.call_laws.proofs.Frame.{frame-ready, frame-done}
 use Rattle.resize.specs.Ready.{resizedTo, WayIn, ReadyIn}
 use Rattle.resize.specs.declared.Way.{Way}

@@ -9,6 +9,7 @@ use lib.ListN.{length}
 use lib.Dec.{eqb}
 use borrow.Author.Tests.{eqb-true}
 use Rattle.bigendian.specs.BigEndian.{Bytes}
+use Rattle.bigendian.proofs.Bytes.{bytes-none}
 use Rattle.block_type.specs.Limits.{relocHeader, up4}
 use Rattle.calls.specs.Calls.{by-handle, Answer, told, shows, Call, resize, size, view}
 use Rattle.calls.specs.Bays.{Bays, last, more, over, orElse, mapS, maxS}
@@ -17,6 +18,7 @@ use Rattle.kinds.specs.Kinds.{Item, is}
 use Rattle.calls.specs.State.{get, alter, sized, Fixed, content, ownSum}
 use Rattle.calls.specs.Table.{below, isNone}
 use Rattle.calls.proofs.First.{or-left}
+use Rattle.calls.proofs.Counted.{get-none}
 use Rattle.bay.specs.Bay.{Cell, items, baySum, release, resized, reshape}
 use Rattle.bay.specs.Counted.{count, roomFor, live}
 use Rattle.zone.specs.Search.{own, resizeIn}
@@ -29,15 +31,13 @@ use Rattle.zone.proofs.Sums.{mapS-zero}
 use Rattle.bay.proofs.Resize.{length-sized}
 use Rattle.zone.proofs.Own.{own-shaped}
 use Rattle.zone.proofs.Found.{resize-found, Named, unnamed, named, block-named}
-use Rattle.zone.proofs.Once.{often, count-get, blockOf}
 use Rattle.zone.proofs.Walk.{each-got}
 use Rattle.zone.proofs.Handles.{count-remove-same}
 use Rattle.zone.proofs.Grouped.{single-live}
 use Rattle.zone.proofs.Run.{well-whole}
-use Rattle.bigendian.proofs.Bytes.{bytes-none}
+use Rattle.zone.proofs.Once.{often, count-get, blockOf}
 use Rattle.call_laws.proofs.Accepted.{Accepted, accepted, cleared, before, after}
 use Rattle.call_laws.proofs.Named.{size-there, view-there}
-use Rattle.bay.proofs.Resize.{get-none}
 use Rattle.call_laws.proofs.Placed.{low-found}
 
 -- ---- the item of a handle, in one bay

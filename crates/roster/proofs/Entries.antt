@@ -5,24 +5,24 @@ use mathlib.Core.List.{List, [], _∷_, _++_, append-assoc}
 use Prim.Native.Nat.{ℕ, zero, suc, _+_, _-_, _*_, _≤_, _<_}
 use native.Mathlib.Omega.{arith}
 use lib.Dec.{eqb}
-use borrow.Author.Tests.{eq-eqb, ne-eqb}
 use lib.ListN.{length, length-append}
 use mir.Val.{Fits}
 use mir.Syntax.{w32}
-use Rattle.block_type.specs.Limits.{masterSize, zoneHeader, argumentRange, firstBlock, mostMasters, mastersAt, recordSize, amountAt}
+use borrow.Author.Tests.{eq-eqb, ne-eqb}
 use Rattle.bigendian.specs.BigEndian.{toBE, overwrite}
 use Rattle.bigendian.proofs.Laws.{length-toBE, be-toBE}
+use Rattle.bigendian.proofs.Overwrite.{len-write, write-more, write-none}
+use Rattle.block_type.specs.Limits.{masterSize, zoneHeader, argumentRange, firstBlock, mostMasters, mastersAt, recordSize, amountAt}
 use Rattle.format.specs.WellFormed.{mastersField, offsets}
+use Rattle.calls.specs.Calls.{Card}
 use Rattle.structure.specs.Structure.{decodeZone, start}
 use Rattle.structure.proofs.Table.{len-is}
-use Rattle.access.specs.Edit.{placeIn, dataIn}
-use Rattle.access.proofs.Size.{size-none, data-fits}
-use Rattle.bigendian.proofs.Overwrite.{len-write, write-more, write-none}
-use Rattle.calls.specs.Calls.{Card}
-use Rattle.zone.specs.Roster.{cardBytes, cardsIn}
-use Rattle.roster.specs.Listed.{cardOf, cardsOf, allCards, Entered}
 use Rattle.structure.specs.IsZone.{IsZone}
 use Rattle.structure.proofs.IsZone.{whole-of}
+use Rattle.zone.specs.Roster.{cardBytes, cardsIn}
+use Rattle.access.specs.Edit.{placeIn, dataIn}
+use Rattle.access.proofs.Size.{size-none, data-fits}
+use Rattle.roster.specs.Listed.{cardOf, cardsOf, allCards, Entered}
 
 -- ---- one record
 

@@ -13,6 +13,7 @@ use mir.Syntax.{w8, w32}
 use Rattle.block_type.specs.Limits.{recordSize}
 use Rattle.bigendian.specs.BigEndian.{overwrite, Bytes}
 use Rattle.format.specs.WellFormed.{wellFormed, zoneOf, countOf, lengthField}
+use Rattle.bay.proofs.Perm.{perm-length}
 use Rattle.structure.specs.Structure.{decode, decodeZone, start}
 use Rattle.calls.specs.Calls.{Card, Answer, roster, shows, lists}
 use Rattle.zone.specs.Call.{call, zoneIn}
@@ -21,9 +22,8 @@ use Rattle.access.proofs.Checked.{is-well, fields-of}
 use Rattle.tell.proofs.CheckLaws.{count-live, count-blocks, count-few}
 use Rattle.roster.specs.Listed.{Rostered, allCards, Planned, refused, ready}
 use Rattle.roster.proofs.Order.{length-cards, bayCards, cards-are, all-order}
-use Rattle.structure.specs.IsZone.{IsZone, is-zone}
 use Rattle.roster.proofs.Entries.{length-bytes, cards-back, all-small}
-use Rattle.bay.proofs.Perm.{perm-length}
+use Rattle.structure.specs.IsZone.{IsZone, is-zone}
 
 -- ---- the plan
 

@@ -19,25 +19,21 @@ use Rattle.structure.proofs.Sound.{valid-zone}
 use Rattle.structure.proofs.Table.{count-is}
 use Rattle.access.specs.Edit.{dataOf, placeIn, dataIn}
 use Rattle.calls.specs.Calls.{Card}
-use Rattle.calls.specs.Bays.{Bays, last, more, concatS}
+use Rattle.calls.specs.Bays.{Bays, concatS}
 use Rattle.kinds.specs.Kinds.{Item, masterOf, headerOf, itemSize}
 use Rattle.calls.specs.State.{Fixed, card}
 use Rattle.bay.specs.Bay.{Cell, free, held, items}
-use Rattle.zone.specs.Group.{inFront, group}
+use Rattle.zone.specs.Group.{group}
+use Rattle.zone.proofs.MetBlocks.{cardsB, cards-strip}
+use Rattle.zone.proofs.GroupLaws.{flatten-group}
 use Rattle.roster.specs.Listed.{cardOf, cardsOf, allCards}
 use Rattle.structure.specs.IsZone.{IsZone}
 use Rattle.structure.proofs.IsZone.{whole-of}
 
 -- ---- in the order of the blocks
 
-unfoldable pub blockCards : List Block → List Card
-blockCards [] = []
-blockCards (cell (free n) ∷ bs) = blockCards bs
-blockCards (fixed d ∷ bs) = blockCards bs
-blockCards (cell (held it) ∷ bs) = cardOf (masterOf it) (it .bytes) ∷ blockCards bs
-
-pub length-cards : (bs : List Block) → length (blockCards bs) ≡ length (handlesOf bs)
-unfolding blockCards handlesOf
+pub length-cards : (bs : List Block) → length (cardsB bs) ≡ length (handlesOf bs)
+unfolding handlesOf
 length-cards [] = refl
 length-cards (cell (free n) ∷ bs) = length-cards bs
 length-cards (fixed d ∷ bs) = length-cards bs
@@ -47,20 +43,8 @@ length-cards (cell (held it) ∷ bs) = ap suc (length-cards bs)
 abbrev pub bayCards : Bays (List Cell) Fixed → List Card
 bayCards s = concatS (λ (b : List Cell). map card (items b)) s
 
-cards-gap : (n : ℕ) (s : Bays (List Cell) Fixed) → bayCards (inFront (free n) s) ≡ bayCards s
-cards-gap n (last b) = refl
-cards-gap n (more b x s) = refl
-
-cards-held : (e : Item) (s : Bays (List Cell) Fixed) → bayCards (inFront (held e) s) ≡ card e ∷ bayCards s
-cards-held e (last b) = refl
-cards-held e (more b x s) = refl
-
-pub cards-are : (p : ℕ) (bs : List Block) → blockCards bs ≡ bayCards (group p bs)
-unfolding blockCards
-cards-are p [] = refl
-cards-are p (cell (free n) ∷ bs) = cards-are (p + n) bs ∙ sym (cards-gap n (group (p + n) bs))
-cards-are p (fixed d ∷ bs) = cards-are (p + (fixedHeader + length d)) bs
-cards-are p (cell (held it) ∷ bs) = ap (card it ∷_) (cards-are (p + itemSize it) bs) ∙ sym (cards-held it (group (p + itemSize it) bs))
+pub cards-are : (p : ℕ) (bs : List Block) → cardsB bs ≡ bayCards (group p bs)
+cards-are p bs = ap cardsB (sym (flatten-group p bs)) ∙ cards-strip (group p bs)
 
 -- ---- in the order of some handles
 
@@ -114,8 +98,8 @@ module _ (e : Item) (at : ℕ) (bs : List Block) where
       go (no q) r = rw (ne-eqb h k q) (swapped (eqb (placeOf h (at + itemSize e) bs) 0) (r (omega (arith, one-other k h (λ p. q (sym p)))) z))
 
 -- each block's handle is one of the handles, which are all different
-in-order : (hs : List ℕ) → ((h : ℕ) → occurs h hs ≤ 1) → (at : ℕ) (bs : List Block) → ((h : ℕ) → occurs h (handlesOf bs) ≤ occurs h hs) → List·Permᴰ (cardsAt hs at bs) (blockCards bs)
-unfolding blockCards handlesOf occurs
+in-order : (hs : List ℕ) → ((h : ℕ) → occurs h hs ≤ 1) → (at : ℕ) (bs : List Block) → ((h : ℕ) → occurs h (handlesOf bs) ≤ occurs h hs) → List·Permᴰ (cardsAt hs at bs) (cardsB bs)
+unfolding handlesOf occurs
 in-order hs f at [] g = rw none-at List·Permᴰ·nil
 in-order hs f at (cell (free n) ∷ bs) g = rw (free-at hs n at bs) (in-order hs f (at + n) bs g)
 in-order hs f at (fixed d ∷ bs) g = rw (fixed-at hs d at bs) (in-order hs f (at + (fixedHeader + length d)) bs g)
@@ -135,7 +119,7 @@ module _ (z : List ℕ) (i : IsZone z) where
   at-zone [] = refl
   at-zone (h ∷ hs) = rw (at-zone hs)
 
-  pub all-order : List·Permᴰ (allCards z) (blockCards (decodeZone z .blocks))
+  pub all-order : List·Permᴰ (allCards z) (cardsB (decodeZone z .blocks))
   unfolding allCards
   all-order =
       let v : Valid (decodeZone z) = valid-zone z (whole-of z i) in

@@ -11,6 +11,7 @@ use Rattle.bigendian.specs.BigEndian.{Bytes}
 use Rattle.block_type.specs.Limits.{recordSize, zoneHeader}
 use Rattle.format.specs.WellFormed.{wellFormed}
 use Rattle.format.proofs.Count.{one}
+use Rattle.kinds.specs.Kinds.{masterOf}
 use Rattle.structure.specs.Structure.{Block, fixed, start, count, decode, cell, handlesOf}
 use Rattle.bay.specs.Bay.{free, held}
 use Rattle.structure.proofs.Sound.{valid}
@@ -20,10 +21,11 @@ use Rattle.zone.specs.Call.{call}
 use Rattle.zone.specs.Group.{group}
 use Rattle.zone.specs.Roster.{cardsIn}
 use Rattle.zone.specs.Promise.{Promise}
+use Rattle.zone.proofs.MetBlocks.{cardsB}
 use Rattle.tell.proofs.Outcomes.{unchanged}
 use Rattle.tell.proofs.CheckLaws.{liveS}
 use Rattle.roster.specs.Listed.{Rostered, rosterAnswer}
-use Rattle.roster.proofs.Order.{blockCards, cards-are}
+use Rattle.roster.proofs.Order.{cards-are}
 
 -- how often a handle is in some records
 unfoldable pub entries : ℕ → List Card → ℕ
@@ -37,12 +39,12 @@ entries-perm h (List·Permᴰ·cons e p) = ap₂ _+_ (ap (λ (c : Card). one h (
 entries-perm h (List·Permᴰ·swap e f) = omega (arith, ap (λ (c : Card). one h (c .handle)) e, ap (λ (c : Card). one h (c .handle)) f)
 entries-perm h (List·Permᴰ·trans p q) = entries-perm h p ∙ entries-perm h q
 
-entries-blocks : (h : ℕ) (bs : List Block) → entries h (blockCards bs) ≡ occurs h (handlesOf bs)
-unfolding entries blockCards occurs handlesOf
+entries-blocks : (h : ℕ) (bs : List Block) → entries h (cardsB bs) ≡ occurs h (handlesOf bs)
+unfolding entries occurs handlesOf
 entries-blocks h [] = refl
 entries-blocks h (cell (free n) ∷ bs) = entries-blocks h bs
 entries-blocks h (fixed d ∷ bs) = entries-blocks h bs
-entries-blocks h (cell (held it) ∷ bs) = ap (one h (it .handle) +_) (entries-blocks h bs)
+entries-blocks h (cell (held it) ∷ bs) = ap (one h (masterOf it) +_) (entries-blocks h bs)
 
 -- whether the second buffer has room for the records
 abbrev hasRoom : List ℕ → List ℕ → Bool
@@ -50,10 +52,10 @@ hasRoom zone entry = leb (recordSize * liveS (group (start (decode zone)) (decod
 
 -- the definition's records are those of the blocks
 records-are : (zone entry : List ℕ) → wellFormed zone ≡ true → 0 ≡ (call (roster entry) zone) .answer .number
-    → (call (roster entry) zone) .answer .records ≡ blockCards (decode zone .blocks)
+    → (call (roster entry) zone) .answer .records ≡ cardsB (decode zone .blocks)
 records-are zone entry w z = go (hasRoom zone entry) refl
   where
-    go : (t : Bool) → hasRoom zone entry ≡ t → (call (roster entry) zone) .answer .records ≡ blockCards (decode zone .blocks)
+    go : (t : Bool) → hasRoom zone entry ≡ t → (call (roster entry) zone) .answer .records ≡ cardsB (decode zone .blocks)
     go true e = rw (w, e) (sym (cards-are (start (decode zone)) (decode zone .blocks)))
     go false e = let x : ⊥ = omega (arith, rw (w, e) at z) in absurd x
 

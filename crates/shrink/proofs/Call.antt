@@ -8,6 +8,7 @@ use borrow.Author.Tests.{eq-eqb, ne-eqb}
 use lib.ListN.{length, getD, take, drop, replicate}
 use mir.Val.{Fits}
 use mir.Syntax.{w8, w32}
+use Rattle.bigendian.proofs.Bytes.{bytes-none}
 use Rattle.format.specs.WellFormed.{firstField}
 use Rattle.structure.specs.Structure.{Structure, fixed, sizes, start, len, decodeZone, encode}
 use Rattle.structure.proofs.Table.{encode-zone}
@@ -29,7 +30,6 @@ use Rattle.bays.proofs.High.{last-found}
 use Rattle.settle.proofs.Bay.{cells-sound}
 use Rattle.bay_end.proofs.Found.{zone-tiled, zone-high}
 use Rattle.call_laws.specs.Frame.{zoneAt, Does, PlannedIn, goes, Planned}
-use Rattle.bigendian.proofs.Bytes.{bytes-none}
 use Rattle.call_laws.proofs.Frame.{frame-ready, frame-cut, frame-same}
 use Rattle.shrink.specs.Stripped.{strips, stripped, Site}
 use Rattle.shrink.specs.Ready.{ReadyIn}

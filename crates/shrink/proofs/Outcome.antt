@@ -5,6 +5,7 @@ use Prim.Native.Nat.{ℕ, zero, suc, _+_, _≤_}
 use native.Mathlib.Omega.{arith}
 use lib.Dec.{eqb·suc-zero}
 use Rattle.bigendian.specs.BigEndian.{Bytes}
+use Rattle.bigendian.proofs.Bytes.{bytes-none}
 use Rattle.structure.specs.Structure.{decode}
 use Rattle.calls.specs.Calls.{Answer, Call, shrink, sums, length-of}
 use Rattle.calls.specs.Bays.{Bays, last, more, onLast, sumS, lastS}
@@ -13,7 +14,6 @@ use Rattle.bay.specs.Bay.{Cell, baySum, takeHigh}
 use Rattle.zone.specs.Work.{Zone, strip}
 use Rattle.zone.specs.Call.{zoneIn, call}
 use Rattle.bay.proofs.Laws.{cut-less, bsize-split}
-use Rattle.bigendian.proofs.Bytes.{bytes-none}
 use Rattle.call_laws.proofs.Accepted.{Accepted, accepted, answered, before, after}
 use Rattle.shrink.specs.Stripped.{strips}
 use Rattle.shrink.proofs.Call.{small}

@@ -15,6 +15,7 @@ use Rattle.bay.proofs.Laws.{cut-less, items-append, items-gap}
 use Rattle.bay.proofs.BayBytes.{gap-none}
 use Rattle.structure.specs.Structure.{Block, cell, Structure, sizes, start, join, encode, decodeZone, handlesOf}
 use Rattle.structure.specs.Valid.{Valid}
+use Rattle.structure.proofs.Cells.{gap-sizes}
 use Rattle.row.specs.Row as Row
 use Rattle.row.proofs.Laws.{sound-append, sound-left}
 use Rattle.calls.specs.Bays.{lastS}
@@ -34,7 +35,6 @@ use Rattle.bay_end.proofs.Taken.{trimmed-is}
 use Rattle.bay_end.proofs.Zone.{run-valid, run-take, run-end, run-kept, run-left, run-long}
 use Rattle.bay_end.proofs.End.{rest, rest-behind, lens, end-changed}
 use Rattle.shrink.specs.Stripped.{stripped, Site}
-use Rattle.structure.proofs.Cells.{gap-sizes}
 
 module _ (z : List ℕ) (n a e sum tail : ℕ) (x : Site z n a e sum tail) where
   abbrev s : Structure

@@ -11,10 +11,10 @@ use lib.Seq.{drop-drop, length-take-le}
 use Rattle.bigendian.specs.BigEndian.{fromBE, toBE, slice, overwrite}
 use Rattle.bigendian.proofs.Laws.{length-toBE}
 use Rattle.bigendian.proofs.Overwrite.{write-length, drop-write}
+use Rattle.bigendian.proofs.Parts.{drop-take}
 use Rattle.block_type.specs.Limits.{freeCode, relocCode, freeHeader, relocHeader, masterSize, tagAt}
 use Rattle.format.specs.WellFormed.{typeOf, sizeOf, handleOf}
 use Rattle.format.proofs.Walk.{kind-take, handle-take}
-use Rattle.bigendian.proofs.Parts.{drop-take}
 use Rattle.kinds.specs.Kinds.{itemIn}
 use Rattle.kinds.proofs.KindLaws.{master-header, master-some, master-none}
 use Rattle.bay.specs.Bay.{Cell, free, held, cellSize, cellCode}

@@ -19,7 +19,7 @@ use Rattle.format.specs.OneWalk.{links, typeRule, freeRule, relocRule, blockOk,
 use Rattle.format.proofs.Masters.{Master}
 use Rattle.format.proofs.Count.{one-same}
 use Rattle.structure.specs.Structure.{Block, fixed, size, code, fixedTag, encodeBlock, decodeBlock, byType, sizes, headOf, placeOf, nextOf, words, join, cell, handlesOf}
-use Rattle.kinds.specs.Kinds.{item, itemIn, itemSize}
+use Rattle.kinds.specs.Kinds.{item, itemIn, itemSize, masterOf}
 use Rattle.kinds.proofs.KindLaws.{facts}
 use Rattle.bay.specs.Bay.{Cell, free, held, cellCode}
 use Rattle.bay.specs.Bytes.{encodeCell}
@@ -132,15 +132,15 @@ module _ (z : List ℕ) (first : ℕ) (small : first ≤ handleRange) where
       cons prev false at (fixed d) bs e (good-of z first prev at (fixed d) e (omega (arith, t .0)) (t .0) (rw k)) (rw k) (rw k (zero-add _))
       (encs false (at + (fixedHeader + length d)) bs (t .3) (record { holds = p .holds; single = p .single }))
   encs prev at (cell (held it) ∷ bs) t p =
-      let q = p .holds (it .handle) (omega (arith, one-same (it .handle) (it .handle) refl)) in
+      let q = p .holds (masterOf it) (omega (arith, one-same (masterOf it) (masterOf it) refl)) in
       let e = enc-cell (held it) (t .0, t .1, omega (arith, q .0 .fits)) in
       let k = e .kind in
       cons prev false at (cell (held it)) bs e (good-of z first prev at (cell (held it)) e (omega arith) (t .0)
-      (rw (k, handle-enc (it .handle) (it .bytes) (omega (arith, q .0 .fits))) (reloc-good z first at (it .handle) (q .0) (rw (eq-eqb (it .handle) (it .handle) refl) at (q .1))))) (rw k) (rw k (omega arith))
+      (rw (k, handle-enc (masterOf it) (it .bytes) (omega (arith, q .0 .fits))) (reloc-good z first at (masterOf it) (q .0) (rw (eq-eqb (masterOf it) (masterOf it) refl) at (q .1))))) (rw k) (rw k (omega arith))
       (encs false (at + itemSize it) bs (t .3) (record {
         holds = λ g l. let r = p .holds g (omega arith) in
-            let other : (g ≡ (it .handle) → ⊥) = λ x. omega (arith, one-same g (it .handle) x, p .single g) in
-            (r .0, (rw (ne-eqb g (it .handle) other) at (r .1)));
+            let other : (g ≡ (masterOf it) → ⊥) = λ x. omega (arith, one-same g (masterOf it) x, p .single g) in
+            (r .0, (rw (ne-eqb g (masterOf it) other) at (r .1)));
         single = λ g. omega (arith, p .single g);
       }))
 

@@ -11,6 +11,8 @@ use lib.Seq.{drop-drop, take-append-seam, drop-append-seam}
 use Rattle.block_type.specs.Limits.{fixedHeader, relocHeader, typeUnit, fixedCode, freeHeader, relocCode, smallestBlock, freeCode, tagAt}
 use Rattle.bigendian.specs.BigEndian.{fromBE, toBE, slice, Bytes}
 use Rattle.bigendian.proofs.Laws.{be2-at}
+use Rattle.bigendian.proofs.Bytes.{bytes-drop, bytes-left, bytes-right, part-bytes}
+use Rattle.bigendian.proofs.Parts.{drop-pred}
 use Rattle.memory.specs.Zeros.{allZero}
 use Rattle.format.proofs.Bool.{and-left, and-right}
 use Rattle.format.specs.WellFormed.{typeOf, sizeOf, handleOf, isFree, splitBlocks, splitFrom}
@@ -19,8 +21,6 @@ use Rattle.format.proofs.Walk.{is-good, size-free, size-used, size-take, blocks
 use Rattle.structure.specs.Structure.{fixed, encodeBlock, decodeBlock, byType, join, cell}
 use Rattle.kinds.specs.Kinds.{itemIn}
 use Rattle.bay.specs.Bay.{free, held}
-use Rattle.bigendian.proofs.Bytes.{bytes-drop, bytes-left, bytes-right, part-bytes}
-use Rattle.bigendian.proofs.Parts.{drop-pred}
 
 -- ---- joining blocks
 

@@ -6,19 +6,19 @@ use Prim.Native.Nat.{ℕ, zero, suc, _+_}
 use native.Mathlib.Nat.{zero-add}
 use native.Mathlib.Omega.{arith}
 use lib.Dec.{eqb}
-use borrow.Author.Tests.{eqb-true, eqb-false, ne-eqb}
 use lib.ListN.{length, drop, length-drop}
-use Rattle.format.specs.Occurs.{occurs}
+use borrow.Author.Tests.{eqb-true, eqb-false, ne-eqb}
 use Rattle.block_type.specs.Limits.{fixedHeader, relocHeader, freeCode, fixedCode, relocCode}
+use Rattle.format.specs.Occurs.{occurs}
 use Rattle.format.proofs.Bool.{and-left, and-right}
 use Rattle.format.specs.WellFormed.{typeOf, sizeOf, handleOf, isFree, isReloc, isMaster, masterAt, relocs, chain}
 use Rattle.format.specs.OneWalk.{links, typeRule, blockOk, blocksOk, ruleOf}
 use Rattle.format.proofs.Walk.{is-good}
 use Rattle.format.proofs.Count.{one, one-same, one-other}
 use Rattle.format.proofs.Handles.{handles, total, is-held}
-use Rattle.structure.specs.Structure.{Block, fixed, size, decodeBlock, byType, sizes, headOf, placeOf, nextOf, cell, handlesOf}
 use Rattle.kinds.specs.Kinds.{itemIn}
 use Rattle.bay.specs.Bay.{free, held}
+use Rattle.structure.specs.Structure.{Block, fixed, size, decodeBlock, byType, sizes, headOf, placeOf, nextOf, cell, handlesOf}
 
 module _ (z : List ℕ) (first : ℕ) (prev : Bool) (at : ℕ) (b : List ℕ) (g : blockOk z first prev at b ≡ true) where
   -- by type

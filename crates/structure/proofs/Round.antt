@@ -17,6 +17,7 @@ use Rattle.format.proofs.OneWalk.{one-walk}
 use Rattle.format.specs.OneWalk.{bodyOk}
 use Rattle.format.proofs.Masters.{Master}
 use Rattle.format.proofs.Count.{All, one-same, one-other, occurs-offset, length-offsets, all-of}
+use Rattle.kinds.specs.Kinds.{itemSize, masterOf}
 use Rattle.structure.specs.Structure.{Block, fixed, Structure, encodeBlock, sizes, count, start, len, headOf, placeOf, nextOf, value, words, join, header, encode, decodeZone, decode, cell, handlesOf}
 use Rattle.bay.specs.Bay.{free, held}
 use Rattle.structure.proofs.Codec.{blocks-join}
@@ -97,16 +98,16 @@ unfolding occurs placeOf handlesOf
 place-none h at [] e = refl
 place-none h at (cell (free n) ∷ bs) e = place-none h (at + n) bs e
 place-none h at (fixed d ∷ bs) e = place-none h (at + (fixedHeader + length d)) bs e
-place-none h at (cell (held it) ∷ bs) e = rw (ne-eqb h (it .handle) (λ x. omega (arith, one-same h (it .handle) x))) (place-none h (at + (relocHeader + length (it .bytes))) bs (omega arith))
+place-none h at (cell (held it) ∷ bs) e = rw (ne-eqb h (masterOf it) (λ x. omega (arith, one-same h (masterOf it) x))) (place-none h (at + itemSize it) bs (omega arith))
 
 place-le : (h at : ℕ) (bs : List Block) → placeOf h at bs ≤ at + sizes bs
 unfolding placeOf sizes
 place-le h at [] = omega arith
 place-le h at (cell (free n) ∷ bs) = omega (arith, place-le h (at + n) bs)
 place-le h at (fixed d ∷ bs) = omega (arith, place-le h (at + (fixedHeader + length d)) bs)
-place-le h at (cell (held it) ∷ bs) = go (eqb h (it .handle)) (place-le h (at + (relocHeader + length (it .bytes))) bs)
+place-le h at (cell (held it) ∷ bs) = go (eqb h (masterOf it)) (place-le h (at + itemSize it) bs)
   where
-    go : (t : Bool) → placeOf h (at + (relocHeader + length (it .bytes))) bs ≤ at + (relocHeader + length (it .bytes)) + sizes bs → cond t (at + relocHeader) (placeOf h (at + (relocHeader + length (it .bytes))) bs) ≤ at + (relocHeader + length (it .bytes) + sizes bs)
+    go : (t : Bool) → placeOf h (at + itemSize it) bs ≤ at + itemSize it + sizes bs → cond t (at + relocHeader) (placeOf h (at + itemSize it) bs) ≤ at + (relocHeader + length (it .bytes) + sizes bs)
     go true i = omega arith
     go false i = omega arith
 

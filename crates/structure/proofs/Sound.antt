@@ -10,6 +10,7 @@ use lib.ListN.{length, drop, length-append, length-drop}
 use Rattle.format.specs.Occurs.{occurs}
 use Rattle.block_type.specs.Limits.{longestZone, zoneHeader, fixedHeader, relocHeader, relocCode, freeCode}
 use Rattle.bigendian.specs.BigEndian.{Bytes}
+use Rattle.bigendian.proofs.Bytes.{bytes-drop, bytes-left, bytes-right}
 use Rattle.format.proofs.Bool.{and-left, and-right}
 use Rattle.format.specs.WellFormed.{firstField, mastersField, chainField, typeOf, sizeOf, handleOf, isFree, isReloc, splitBlocks, relocs, wellFormed, zoneOf, offsets, chain}
 use Rattle.format.specs.OneWalk.{typeRule, freeRule, blockOk, blocksOk, ruleOf}
@@ -23,11 +24,10 @@ use Rattle.structure.specs.Structure.{Block, fixed, decodeBlock, byType,
 use Rattle.kinds.specs.Kinds.{itemIn}
 use Rattle.bay.specs.Bay.{free, held}
 use Rattle.structure.proofs.Codec.{join-blocks}
-use Rattle.bigendian.proofs.Bytes.{bytes-drop, bytes-left, bytes-right}
 use Rattle.structure.proofs.Table.{Whole, whole, count-is, len-is}
-use Rattle.structure.proofs.Decoded.{by}
 use Rattle.structure.proofs.Round.{offset-is}
 use Rattle.structure.specs.Valid.{Tiled, Valid}
+use Rattle.structure.proofs.Decoded.{by}
 
 module _ (z : List ℕ) (first : ℕ) where
   handle-dec : (prev : Bool) (at : ℕ) (b : List ℕ) (bs : List Block) → blockOk z first prev at b ≡ true

@@ -11,11 +11,12 @@ use lib.Seq.{getD-take, drop-cons}
 use Rattle.format.specs.Occurs.{occurs}
 use Rattle.block_type.specs.Limits.{longestZone, masterSize, mostMasters, zoneHeader, lengthAt, firstAt, mastersAt, chainAt, zerosAt}
 use Rattle.bigendian.specs.BigEndian.{fromBE, toBE, Bytes}
+use Rattle.bigendian.proofs.Parts.{slice-take}
+use Rattle.bigendian.proofs.Bytes.{bytes-take, bytes-drop}
 use Rattle.format.proofs.Bool.{and-left, and-right}
 use Rattle.format.specs.WellFormed.{headerOk, lengthField, firstField, mastersField, chainField, splitBlocks, masterAt, relocs, zoneOf, wellFormed, offsets, chain}
 use Rattle.format.proofs.OneWalk.{one-walk}
 use Rattle.format.specs.OneWalk.{bodyOk}
-use Rattle.bigendian.proofs.Parts.{slice-take}
 use Rattle.format.proofs.Masters.{Master}
 use Rattle.format.proofs.Header.{header-facts}
 use Rattle.format.proofs.Count.{All}
@@ -24,7 +25,6 @@ use Rattle.format.proofs.Chain.{length-chain}
 use Rattle.format.proofs.Handles.{handles, total}
 use Rattle.structure.specs.Structure.{Structure, encodeBlock, decodeBlock, count, start, len, headOf, placeOf, value, words, join, header, encode, decodeZone, decode}
 use Rattle.structure.proofs.Codec.{tiles-bytes, join-blocks}
-use Rattle.bigendian.proofs.Bytes.{bytes-take, bytes-drop}
 use Rattle.structure.proofs.Words.{peel, words-of, words-same}
 use Rattle.structure.proofs.Decoded.{sizes-decs, counts-decs, places, head-chain, nexts}
 

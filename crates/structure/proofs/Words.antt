@@ -6,13 +6,13 @@ use native.Mathlib.Nat.{add-zero}
 use native.Mathlib.Omega.{arith}
 use lib.ListN.{length, drop, length-append, length-drop, take-append-drop}
 use lib.Seq.{drop-drop}
-use Rattle.block_type.specs.Limits.{masterSize}
 use Rattle.bigendian.specs.BigEndian.{fromBE, toBE, slice, Bytes}
+use Rattle.bigendian.proofs.Bytes.{bytes-drop, part-bytes}
+use Rattle.bigendian.proofs.Laws.{length-toBE}
+use Rattle.block_type.specs.Limits.{masterSize}
 use Rattle.format.specs.WellFormed.{masterAt, offsets}
 use Rattle.format.proofs.Count.{All}
 use Rattle.structure.specs.Structure.{words}
-use Rattle.bigendian.proofs.Bytes.{bytes-drop, part-bytes}
-use Rattle.bigendian.proofs.Laws.{length-toBE}
 
 -- the n bytes at k, then the rest
 pub peel : (n k : ℕ) (z t : List ℕ) → Bytes z → k + n ≤ length z → t ≡ drop (k + n) z → toBE n (fromBE (slice z k n)) ++ t ≡ drop k z

@@ -12,6 +12,7 @@ use Rattle.format.specs.Occurs.{occurs}
 use Rattle.format.specs.WellFormed.{offsets}
 use Rattle.block_type.specs.Limits.{masterSize, zoneHeader}
 use Rattle.bigendian.specs.BigEndian.{overwrite}
+use Rattle.bigendian.proofs.Overwrite.{write-mid}
 use Rattle.format.proofs.Count.{occurs-append}
 use Rattle.structure.specs.Structure.{Block, Structure, sizes, count, start, len, headOf, placeOf, nextOf, value, encode, handlesOf}
 use Rattle.structure.specs.Valid.{Tiled, Valid}
@@ -21,7 +22,6 @@ use Rattle.row.proofs.Laws.{bytes-append, bytes-long, sound-left, sound-right}
 use Rattle.structure.proofs.Append.{sizes-append, place-append, handles-append}
 use Rattle.surgery.specs.Masters.{setAll}
 use Rattle.structure.proofs.ZoneLayout.{lay-same}
-use Rattle.bigendian.proofs.Overwrite.{write-mid}
 use Rattle.surgery.proofs.Image.{img, encode-img, img-rest, img-same, img-all, all-is, updAll}
 use Rattle.row.proofs.Zone.{valid-sound}
 use Rattle.surgery.proofs.Sound.{handle-in, handle-once}

@@ -12,8 +12,8 @@ use Rattle.bigendian.specs.BigEndian.{Bytes}
 use Rattle.format.specs.WellFormed.{wellFormed, countOf, splitBlocks, zoneOf, firstField}
 use Rattle.structure.specs.Structure.{Block, fixed, decode, decodeZone, start, cell, handlesOf}
 use Rattle.structure.proofs.Table.{Whole, whole}
-use Rattle.structure.proofs.Decoded.{counts-decs}
 use Rattle.structure.proofs.Sound.{valid}
+use Rattle.structure.proofs.Decoded.{counts-decs}
 use Rattle.calls.specs.Bays.{Bays, last, more, sumS}
 use Rattle.kinds.specs.Kinds.{Item, itemSize}
 use Rattle.calls.specs.State.{Fixed}

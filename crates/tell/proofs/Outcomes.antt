@@ -1,7 +1,7 @@
 -- What the answers of sum, length and check say.
-use mathlib.Core.Path.{_≡_, refl, ap, sym, _∙_, subst}
+use mathlib.Core.Path.{_≡_, refl, ap, sym, _∙_}
 use mathlib.Core.Bool.{Bool, true, false, cond}
-use mathlib.Core.List.{List, [], _∷_, List·Permᴰ, Permᴰ·refl}
+use mathlib.Core.List.{List, [], _∷_}
 use Prim.Native.Nat.{ℕ, zero, suc, _+_, _%_, _≤_, max}
 use native.Mathlib.Omega.{arith}
 use lib.Dec.{eqb·suc-zero}
@@ -19,6 +19,7 @@ use Rattle.zone.specs.Claim.{freeIn}
 use Rattle.zone.proofs.MetBlocks.{sumsS, free-walk}
 use Rattle.zone.specs.Group.{group}
 use Rattle.zone.specs.Work.{Zone, work}
+use Rattle.zone.proofs.Works.{equal}
 use Rattle.bay.specs.Bay.{baySum}
 use Rattle.calls.specs.Calls.{Call, Answer, sums, length-of, check}
 use Rattle.access.proofs.Checked.{fields-of, length-is}
@@ -97,24 +98,6 @@ unchanged c s y e = go (numberOf c s) (wellFormed s) refl
     go zero true h = rw h (ap (λ (z : Zone). replacing s (decode s) (inLine z)) e ∙ same-bytes s y h)
     go zero false h = rw h
 
-pub sum-bytes : (s : List ℕ) → Bytes s → (call sums s) .bytes ≡ s
-sum-bytes s y = unchanged sums s y refl
-
-pub length-bytes : (s : List ℕ) → Bytes s → (call length-of s) .bytes ≡ s
-length-bytes s y = unchanged length-of s y refl
-
-pub check-bytes : (s : List ℕ) → Bytes s → (call check s) .bytes ≡ s
-check-bytes s y = unchanged check s y refl
-
 -- an answer that is the definition's, of a call that changes no byte, is what the call promises
 pub promised : (c : Call) (s : List ℕ) (a : Answer) → a ≡ (call c s) .answer → (call c s) .bytes ≡ s → Promise c s a s
-promised c s a e b = record {
-  answer = record {
-    number = ap (λ (x : Answer). x .number) e;
-    value = ap (λ (x : Answer). x .value) e;
-    second = ap (λ (x : Answer). x .second) e;
-    bytes = ap (λ (x : Answer). x .bytes) e;
-    records = subst (λ (x : Answer). List·Permᴰ (a .records) (x .records)) e (Permᴰ·refl (a .records));
-  };
-  bytes = sym b;
-}
+promised c s a e b = record { answer = equal e; bytes = sym b }

@@ -9,6 +9,7 @@ use lib.ListN.{length, take, drop, replicate, length-replicate}
 use lib.Dec.{leb, eqb}
 use borrow.Author.Tests.{leb-true}
 use Rattle.bigendian.specs.BigEndian.{Bytes}
+use Rattle.bigendian.proofs.Bytes.{bytes-take, bytes-zeros, bytes-append}
 use Rattle.calls.specs.Bays.{Bays, last, more, mapS, onFixed, onLast, lastS, findS}
 use Rattle.zone.specs.PickBays.{onLow, onHigh, onJoin}
 use Rattle.kinds.specs.Kinds.{Item, itemSize, is}
@@ -24,7 +25,6 @@ use Rattle.block_type.specs.Limits.{relocLimit, fixedLimit, fixedHeader, up4}
 use Rattle.zone.specs.Search.{lookup, own}
 use Rattle.bay.proofs.Sound.{Block}
 use Rattle.zone.proofs.Walk.{Closed, any, Feeds}
-use Rattle.bigendian.proofs.Bytes.{bytes-take, bytes-zeros, bytes-append}
 use Rattle.zone.specs.Work.{Zone}
 
 -- ---- of every bay and every fixed block

@@ -1,15 +1,15 @@
 -- A bay of a zone and a bay of the ledger that are one: the size is the capacity, and the relocatable blocks are the entries up to order.
 -- Each change of a bay that a call makes keeps it.
 use mathlib.Core.Path.{_≡_, refl, ap, ap₂, _∙_, sym}
-use mathlib.Core.Bool.{Bool, true, false, cond}
+use mathlib.Core.Bool.{true, cond}
 use mathlib.Core.List.{List, [], _∷_, _++_, map, List·Permᴰ, List·Permᴰ·nil, List·Permᴰ·cons, List·Permᴰ·trans, Permᴰ·append-left, Permᴰ·append-right, Permᴰ·append-nil}
-use Prim.Native.Nat.{ℕ, suc, _+_, _%_, _≤_}
+use Prim.Native.Nat.{ℕ, _+_, _%_, _≤_}
 use native.Mathlib.Omega.{arith}
 use lib.ListN.{length}
 use Rattle.kinds.specs.Kinds.{Item, itemSize, is}
 use Rattle.calls.specs.State.{alter, get, sized, Fixed, fsize}
+use Rattle.calls.proofs.Counted.{alter-none}
 use Rattle.ledger.specs.Ledger.{Bay, bay, sumOf, onEntries, without, less}
-use Rattle.ledger.proofs.Space.{countIn}
 use Rattle.bay.specs.Bay.{Cell, baySize, baySum, items, gap, joinBays, compactBay, put, takeHigh, release, edit, reshape}
 use Rattle.bay.specs.Counted.{count, remove}
 use Rattle.zone.specs.Search.{own}
@@ -36,10 +36,6 @@ pub without-is : (h : ℕ) (es : List Item) → without h es ≡ remove h es
 without-is h [] = refl
 without-is h (e ∷ es) = ap₂ (cond (is h e)) (without-is h es) (ap (e ∷_) (without-is h es))
 
-pub count-is : (h : ℕ) (es : List Item) → countIn h es ≡ count h es
-count-is h [] = refl
-count-is h (e ∷ es) = ap₂ (cond (is h e)) (ap suc (count-is h es)) (count-is h es)
-
 -- ---- one bay
 
 module _ {b : List Cell} {c : Bay} (r : Fits b c) where
@@ -49,8 +45,8 @@ module _ {b : List Cell} {c : Bay} (r : Fits b c) where
   pub same-get : (h : ℕ) → count h (items b) ≤ 1 → get h (items b) ≡ get h (c .entries)
   same-get h n = perm-get h (r .perm) n
 
-  pub same-count : (h : ℕ) → countIn h (c .entries) ≡ count h (items b)
-  same-count h = count-is h (c .entries) ∙ sym (perm-count h (r .perm))
+  pub same-count : (h : ℕ) → count h (c .entries) ≡ count h (items b)
+  same-count h = sym (perm-count h (r .perm))
 
   pub put-fits : (e : Item) → Block (itemSize e) → itemSize e ≤ baySum b → Fits (put e b) (onEntries (e ∷_) c)
   put-fits e k h = record {
@@ -76,16 +72,7 @@ module _ {b : List Cell} {c : Bay} (r : Fits b c) where
 
   -- a bay that has not the handle
   pub absent-fits : (h : ℕ) (f : List ℕ → List ℕ) → count h (items b) ≡ 0 → Fits b (onEntries (map (alter h f)) c)
-  absent-fits h f n = record { size = r .size; perm = rw (untouched (c .entries) (same-count h ∙ n)) (r .perm); sound = r .sound }
-    where
-      untouched : (es : List Item) → countIn h es ≡ 0 → map (alter h f) es ≡ es
-      untouched [] n = refl
-      untouched (e ∷ es) n = go (is h e) (λ k. untouched es k) n
-        where
-          go : (t : Bool) → (countIn h es ≡ 0 → map (alter h f) es ≡ es) → cond t (suc (countIn h es)) (countIn h es) ≡ 0
-              → cond t (record { handle = e .handle; bytes = f (e .bytes) }) e ∷ map (alter h f) es ≡ e ∷ es
-          go true g n = absurd (omega arith)
-          go false g n = ap (e ∷_) (g n)
+  absent-fits h f n = record { size = r .size; perm = rw (alter-none h f (c .entries) (same-count h ∙ n)) (r .perm); sound = r .sound }
 
   pub high-fits : (n : ℕ) → n % 4 ≡ 0 → n ≤ baySum b → Fits (takeHigh n b) (less n c)
   high-fits n q h = record { size = omega (arith, cut-less n b h .size, r .size); perm = rw (cut-less n b h .same) (r .perm); sound = cut-sound n q h (r .sound) }

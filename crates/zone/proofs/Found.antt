@@ -23,7 +23,7 @@ use Rattle.zone.specs.Search as Search
 use Rattle.zone.specs.Search.{own, resizeIn}
 use Rattle.zone.proofs.Missing.{Missing, gone, there, low-missing, high-missing, join-missing}
 use Rattle.zone.proofs.Once.{often, count-get, blockOf}
-use Rattle.zone.proofs.ResizeMissing.{own-absent, own-missing, resize-missing}
+use Rattle.zone.proofs.ResizeMissing.{own-absent, own-missing, resize-missing, ownChanged}
 
 -- ---- nothing, or this
 
@@ -86,16 +86,13 @@ module _ {B : Type 0} (j : B → ℕ → B → B) where
 
 -- a resize, where the handle stands at most once
 module _ (h a : ℕ) where
-  abbrev changed : Bays (List Cell) Fixed → Option (Bays (List Cell) Fixed)
-  changed s = onLow (own h a) (reshape h a) s
-
-  own-only : (s : Bays (List Cell) Fixed) → live h s ≤ 1 → Only (onLowest (has h) (reshape h a) s) (changed s)
+  own-only : (s : Bays (List Cell) Fixed) → live h s ≤ 1 → Only (onLowest (has h) (reshape h a) s) (ownChanged h a s)
   own-only (last b) n = one-only (own h a b) _
   own-only (more b x s) n = go (count h (items b)) (get h (items b)) (count-get h (items b) (omega arith)) n (λ l. own-only s l)
     where
-      go : (k : ℕ) (o : Option Item) → k ≡ often o → k + live h s ≤ 1 → (live h s ≤ 1 → Only (onLowest (has h) (reshape h a) s) (changed s))
+      go : (k : ℕ) (o : Option Item) → k ≡ often o → k + live h s ≤ 1 → (live h s ≤ 1 → Only (onLowest (has h) (reshape h a) s) (ownChanged h a s))
           → Only (cond (not (isNone o)) (more (reshape h a b) x s) (more b x (onLowest (has h) (reshape h a) s)))
-          (cond (cond (eqb k 1) (roomFor a (baySum b) o) false) (some (more (reshape h a b) x s)) (over (more b x) (changed s)))
+          (cond (cond (eqb k 1) (roomFor a (baySum b) o) false) (some (more (reshape h a b) x s)) (over (more b x) (ownChanged h a s)))
       go k none e n r = rw e (over-only (more b x) (r (omega arith)))
       go k (some i) e n r = rw e (alone (leb (a - length (i .bytes)) (baySum b)) (own-absent h a s (omega arith)))
         where
@@ -128,7 +125,7 @@ resize-only : (h a : ℕ) (d : List ℕ) (s : Bays (List Cell) Fixed) → live h
     → Only (Work.resizeIn h a d s) (Search.resizeIn h a (record { handle = h; bytes = d }) s)
 resize-only h a d s n q =
     go (leb (a - length d) (ownSum items baySum h s))
-    (subst (λ (o : Option Item). Missing (not (roomFor a (ownSum items baySum h s) o)) (changed h a s)) q (own-missing h a s n))
+    (subst (λ (o : Option Item). Missing (not (roomFor a (ownSum items baySum h s) o)) (ownChanged h a s)) q (own-missing h a s n))
     (own-only h a s n)
     (low-only _ _ (mapS (release h) s))
   where

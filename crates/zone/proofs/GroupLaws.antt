@@ -4,7 +4,7 @@ use mathlib.Core.List.{List, [], _∷_, _++_, append-nil}
 use Prim.Native.Nat.{ℕ, _+_}
 use native.Mathlib.Nat.{add-zero, add-assoc}
 use lib.ListN.{length}
-use Rattle.block_type.specs.Limits.{fixedHeader, relocHeader}
+use Rattle.block_type.specs.Limits.{fixedHeader}
 use Rattle.structure.specs.Structure.{Block, fixed, cell}
 use Rattle.calls.specs.Bays.{Bays, last, more}
 use Rattle.kinds.specs.Kinds.{itemSize}
@@ -13,20 +13,14 @@ use Rattle.bay.specs.Bay.{Cell, free, held, baySize}
 use Rattle.zone.proofs.Places.{Tiled, tile-last, tile-more}
 use Rattle.zone.specs.Group.{inFront, group, flatBay, flatten}
 
-abbrev pub blockOf : Cell → Block
-blockOf (free n) = cell (free n)
-blockOf (held e) = cell (held e)
-
-flatten-front : (c : Cell) (s : Bays (List Cell) Fixed) → flatten (inFront c s) ≡ blockOf c ∷ flatten s
-flatten-front (free n) (last b) = refl
-flatten-front (free n) (more b x s) = refl
-flatten-front (held e) (last b) = refl
-flatten-front (held e) (more b x s) = refl
+flatten-front : (c : Cell) (s : Bays (List Cell) Fixed) → flatten (inFront c s) ≡ cell c ∷ flatten s
+flatten-front c (last b) = refl
+flatten-front c (more b x s) = refl
 
 pub flatten-group : (p : ℕ) (bs : List Block) → flatten (group p bs) ≡ bs
 flatten-group p [] = refl
 flatten-group p (cell (free n) ∷ bs) = flatten-front (free n) (group (p + n) bs) ∙ ap (cell (free n) ∷_) (flatten-group (p + n) bs)
-flatten-group p (cell (held it) ∷ bs) = flatten-front (held (record { handle = (it .handle); bytes = (it .bytes) })) (group (p + (relocHeader + length (it .bytes))) bs) ∙ ap (cell (held it) ∷_) (flatten-group (p + (relocHeader + length (it .bytes))) bs)
+flatten-group p (cell (held e) ∷ bs) = flatten-front (held e) (group (p + itemSize e) bs) ∙ ap (cell (held e) ∷_) (flatten-group (p + itemSize e) bs)
 flatten-group p (fixed d ∷ bs) = ap (fixed d ∷_) (flatten-group (p + (fixedHeader + length d)) bs)
 
 -- cells in front of the first bay

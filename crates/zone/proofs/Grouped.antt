@@ -6,7 +6,7 @@ use Prim.Native.Nat.{ℕ, _+_, _≤_}
 use native.Mathlib.Omega.{arith}
 use lib.ListN.{length}
 use Rattle.format.specs.Occurs.{occurs}
-use Rattle.block_type.specs.Limits.{fixedHeader, relocHeader, zoneHeader}
+use Rattle.block_type.specs.Limits.{fixedHeader, zoneHeader}
 use Rattle.structure.specs.Structure.{Structure, Block, fixed, sizes, count, start, len, cell, handlesOf}
 use Rattle.structure.specs.Valid.{Tiled, Valid}
 use Rattle.calls.specs.Bays.{Bays, last, more}
@@ -50,7 +50,7 @@ placed-group : (p end : ℕ) (bs : List Block) → p + sizes bs ≡ end → Plac
 unfolding sizes
 placed-group p end [] e = tile-last {p = p} {end = end} {b = []} (omega arith)
 placed-group p end (cell (free n) ∷ bs) e = front-free n (placed-group (p + n) end bs (omega arith))
-placed-group p end (cell (held it) ∷ bs) e = front-held (record { handle = (it .handle); bytes = (it .bytes) }) (placed-group (p + (relocHeader + length (it .bytes))) end bs (omega arith))
+placed-group p end (cell (held it) ∷ bs) e = front-held it (placed-group (p + itemSize it) end bs (omega arith))
 placed-group p end (fixed d ∷ bs) e = tile-more {p = p} {b = []} {x = record { place = p; bytes = d }} (omega arith) (placed-group (p + (fixedHeader + length d)) end bs (omega arith))
 
 -- ---- soundness
@@ -69,10 +69,9 @@ sound-group : (prev : Bool) (p : ℕ) (bs : List Block) → Tiled prev bs
 sound-group prev p [] t = (s-nil, λ e n b. s-end b)
 sound-group prev p (cell (free n) ∷ bs) t = (sound-group true (p + n) bs (t .4) .1 refl n (omega (arith, t .1, t .2)), λ e. absurd (false≢true (sym (t .0) ∙ e)))
 sound-group prev p (cell (held it) ∷ bs) t =
-    let i : Item = record { handle = (it .handle); bytes = (it .bytes) } in
-    let r = sound-group false (p + (relocHeader + length (it .bytes))) bs (t .3) .0 in
-    let k : Sound.Block (relocHeader + length (it .bytes)) = omega (arith, t .0) in
-    (sound-held i k (group (p + (relocHeader + length (it .bytes))) bs) r, λ e n b. sound-both n i b k (group (p + (relocHeader + length (it .bytes))) bs) r)
+    let r = sound-group false (p + itemSize it) bs (t .3) .0 in
+    let k : Sound.Block (itemSize it) = omega (arith, t .0) in
+    (sound-held it k (group (p + itemSize it) bs) r, λ e n b. sound-both n it b k (group (p + itemSize it) bs) r)
 sound-group prev p (fixed d ∷ bs) t =
     let r = sound-group false (p + (fixedHeader + length d)) bs (t .3) .0 in
     ((s-nil, r), λ e n b. (s-end b, r))

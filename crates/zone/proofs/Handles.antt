@@ -6,6 +6,7 @@ use mathlib.Core.List.{List, [], _∷_, _++_, map, append-nil}
 use Prim.Native.Nat.{ℕ, zero, suc, _+_, _≤_, _<_}
 use native.Mathlib.Omega.{arith}
 use lib.Dec.{eqb}
+use lib.ListN.{length}
 use borrow.Author.Tests.{leb-true, eqb-true, eqb-false, ne-eqb}
 use Rattle.block_type.specs.Limits.{zoneHeader, masterSize}
 use Rattle.calls.specs.Bays.{Bays, last, more, mapS, lastS}
@@ -23,7 +24,6 @@ use Rattle.zone.proofs.Walk.{Closed}
 use Rattle.zone.proofs.Own.{own-shaped}
 use Rattle.zone.specs.Work.{Zone}
 use Rattle.zone.specs.Search.{lookup, own, reaches, placeLow, placeHigh, joinAt}
-use lib.ListN.{length}
 
 abbrev pub occurs : ℕ → List ℕ → ℕ
 occurs h [] = 0

@@ -19,7 +19,6 @@ pub mod Bytes
 pub mod Stands
 pub mod Encoders
 pub mod InBuffer
-pub mod Outcomes
 pub mod Initial
 pub mod Rig
 pub mod Numbers

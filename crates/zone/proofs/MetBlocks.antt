@@ -9,17 +9,17 @@ use lib.ListN.{length, drop, length-drop}
 use lib.Dec.{eqb}
 use Rattle.block_type.specs.Limits.{freeCode, fixedCode, relocCode, relocHeader, masterSize, zoneHeader, fixedHeader, firstAt}
 use Rattle.bigendian.specs.BigEndian.{fromBE}
+use Rattle.bigendian.proofs.Parts.{slice-take}
 use Rattle.format.specs.WellFormed.{headerOk, lengthField, firstField, mastersField, chainField, typeOf, sizeOf, handleOf, isFree, splitBlocks, zoneOf}
 use Rattle.format.specs.OneWalk.{blockOk, blocksOk, bodyOk}
 use Rattle.format.proofs.Bool.{and-left, and-right}
 use Rattle.format.proofs.Walk.{is-good}
-use Rattle.bigendian.proofs.Parts.{slice-take}
 use Rattle.format.proofs.OneWalk.{one-walk}
 use Rattle.format.proofs.Header.{header-facts}
 use Rattle.format.proofs.Live.{body-parts}
 use Rattle.structure.specs.Structure.{Structure, Block, fixed, size, byType, decodeBlock, decodeZone, decode, cell}
-use Rattle.structure.proofs.Decoded.{by, size-dec}
 use Rattle.structure.proofs.Round.{heads}
+use Rattle.structure.proofs.Decoded.{by, size-dec}
 use Rattle.calls.specs.Calls.{Card}
 use Rattle.ledger.specs.Space.{Spot, spot}
 use Rattle.calls.specs.Bays.{Bays, last, more, concatS}
@@ -65,11 +65,11 @@ sumsB n [] = n ∷ []
 sumsB n (b ∷ bs) = cond (isFixed b) (n ∷ sumsB 0 bs) (sumsB (n + freeSize b) bs)
 
 -- handle and data size of each relocatable block, in address order
-abbrev cardsB : List Block → List Card
+abbrev pub cardsB : List Block → List Card
 cardsB [] = []
 cardsB (cell (free n) ∷ bs) = cardsB bs
 cardsB (fixed d ∷ bs) = cardsB bs
-cardsB (cell (held it) ∷ bs) = record { handle = (it .handle); amount = length (it .bytes) } ∷ cardsB bs
+cardsB (cell (held it) ∷ bs) = card it ∷ cardsB bs
 
 -- ---- from bytes to blocks
 
@@ -153,7 +153,7 @@ cards-bay [] r = refl
 cards-bay (free n ∷ cs) r = cards-bay cs r
 cards-bay (held e ∷ cs) r = ap (card e ∷_) (cards-bay cs r)
 
-cards-strip : (s : Bays (List Cell) Fixed) → cardsB (flatten s) ≡ concatS (λ (b : List Cell). map card (items b)) s
+pub cards-strip : (s : Bays (List Cell) Fixed) → cardsB (flatten s) ≡ concatS (λ (b : List Cell). map card (items b)) s
 cards-strip (last b) = cards-bay b [] ∙ append-nil (map card (items b))
 cards-strip (more b x s) = cards-bay b (fixed (x .bytes) ∷ flatten s) ∙ ap (map card (items b) ++_) (cards-strip s)
 

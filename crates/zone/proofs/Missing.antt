@@ -6,8 +6,8 @@ use Prim.Native.Nat.{ℕ}
 use lib.Dec.{leb}
 use Rattle.calls.specs.Bays.{Bays, last, more, over, orElse, findF, maxS}
 use Rattle.calls.specs.Table.{below, isNone}
-use Rattle.zone.specs.PickBays.{onLow, onHigh, glue, onJoin}
 use Rattle.calls.proofs.Reach.{below-max}
+use Rattle.zone.specs.PickBays.{onLow, onHigh, glue, onJoin}
 
 -- whether nothing is there: a DATA type, so that its implicit arguments are found
 pub data Missing {A : Type 0} : Bool → Option A → Type 0 where

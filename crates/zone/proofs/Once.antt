@@ -7,10 +7,10 @@ use Prim.Native.Nat.{ℕ, suc, _+_, _≤_}
 use native.Mathlib.Omega.{arith}
 use Rattle.kinds.specs.Kinds.{Item, itemSize, is}
 use Rattle.calls.specs.State.{total, get, Fixed}
+use Rattle.calls.specs.Bays.{Bays, findS}
 use Rattle.bay.specs.Bay.{Cell, baySum, items, release}
 use Rattle.bay.specs.Counted.{remove, count}
 use Rattle.bay.proofs.Laws.{bsize-split, release-size, release-items}
-use Rattle.calls.specs.Bays.{Bays, findS}
 
 -- the block of a handle among the bays
 abbrev pub blockOf : ℕ → Bays (List Cell) Fixed → Option Item

@@ -9,18 +9,18 @@ use lib.ListN.{length}
 use lib.Dec.{eqb, leb}
 use borrow.Author.Tests.{leb-false, lt-leb}
 use Rattle.block_type.specs.Limits.{relocHeader}
-use Rattle.calls.specs.Bays.{Bays, last, more, over, orElse, mapS, findS, maxS}
 use Rattle.kinds.specs.Kinds.{Item, itemSize}
+use Rattle.calls.specs.Bays.{Bays, last, more, over, orElse, mapS, findS, maxS}
 use Rattle.calls.specs.State.{get, Fixed, ownSum}
 use Rattle.calls.specs.Table.{below}
-use Rattle.zone.specs.PickBays.{onLow}
+use Rattle.calls.proofs.Reach.{below-max}
 use Rattle.bay.specs.Bay.{Cell, baySum, items, put, release, reshape, resized}
 use Rattle.bay.specs.Counted.{count, roomFor, live}
-use Rattle.zone.specs.Search.{own, resizeIn}
 use Rattle.bay.proofs.Resize.{length-sized}
+use Rattle.zone.specs.PickBays.{onLow}
+use Rattle.zone.specs.Search.{own, resizeIn}
 use Rattle.zone.proofs.Missing.{Missing, gone, there, one-missing, over-missing, else-missing, low-missing}
 use Rattle.zone.proofs.Once.{often, taken, count-get, sum-absent, sum-released, blockOf}
-use Rattle.calls.proofs.Reach.{below-max}
 
 module _ (h a : ℕ) where
   -- the sum of the bay that has the block

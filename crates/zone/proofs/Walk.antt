@@ -10,6 +10,7 @@ use lib.Seq.{sets, length-sets}
 use lib.Dec.{leb, eqb, eqb·suc-zero}
 use borrow.Author.Tests.{leb-true, eqb-true, not-false}
 use Rattle.bigendian.specs.BigEndian.{Bytes}
+use Rattle.bigendian.proofs.Bytes.{bytes-take, bytes-sets}
 use Rattle.block_type.specs.Limits.{relocHeader, relocLimit, fixedLimit, up4, fixedHeader, fixedNeed, relocNeed, longestZone}
 use Rattle.calls.specs.Calls.{Call, allocate-relocatable, allocate-fixed, free-handle, free-pointer, read, write, size, compact, sums, enlarge, shrink, Target, by-handle, by-pointer, view, roster, check, length-of, resize, beside, secondOf}
 use Rattle.calls.specs.Bays.{Bays, over, mapS, onFixed, onLast, findF, lastS, maxS}
@@ -26,7 +27,6 @@ use Rattle.zone.specs.Search.{lookup, placeLow, placeHigh, joinAt, resiz
 use Rattle.bay.proofs.Each.{Each, nothing, just}
 use Rattle.bay.proofs.Sound.{Block}
 use Rattle.zone.proofs.Found.{Found, lost, got, low-found, high-found, join-found, resize-found, Named, unnamed, named, block-named}
-use Rattle.bigendian.proofs.Bytes.{bytes-take, bytes-sets}
 
 -- ---- a change of a block's bytes that keeps their number and leaves bytes
 

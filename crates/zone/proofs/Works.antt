@@ -31,10 +31,10 @@ use Rattle.zone.proofs.Places.{alter-fsize}
 use Rattle.bay.proofs.Resize.{length-sized, resized-block}
 use Rattle.zone.proofs.Solid.{new-block, new-sized}
 use Rattle.zone.proofs.Found.{Found, lost, got, low-found, high-found, join-found, Named, unnamed, named, block-named}
-use Rattle.zone.proofs.ResizeMissing.{max-same}
-use Rattle.zone.proofs.Once.{often, count-get}
 use Rattle.zone.proofs.Fits.{Fits, Equal, same-sum, put-fits, release-fits, edit-fits, reshape-fits, absent-fits, high-fits, compact-fits, grow-fits, fresh-fits, join-fits}
 use Rattle.zone.proofs.Matches.{Paired, Matches, matches, largest-same, total-same, count-same, cards-same, content-same, own-sum-same}
+use Rattle.zone.proofs.ResizeMissing.{max-same}
+use Rattle.zone.proofs.Once.{often, count-get}
 
 -- ---- where two searches find what the table lets through
 

@@ -1,7 +1,7 @@
-use Rattle.roster.proofs.Entries.{enter-none, enter-room, enter-one}
 use borrow.Author.Needs.{needs}
 use Rattle.roster.proofs.enter.Statement.{statement}
 use Rattle.roster.proofs.enter.Tie as tie
+use Rattle.roster.proofs.Entries.{enter-none, enter-room, enter-one}
 
 returns : tie.Need-returns
 returns c = search enter-none

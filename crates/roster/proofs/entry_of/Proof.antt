@@ -1,7 +1,7 @@
-use Rattle.roster.proofs.Entries.{size-word}
 use borrow.Author.Needs.{needs}
 use Rattle.roster.proofs.entry_of.Statement.{statement}
 use Rattle.roster.proofs.entry_of.Tie as tie
+use Rattle.roster.proofs.Entries.{size-word}
 
 cast-t5 : tie.Need-cast-t5
 cast-t5 c = search size-word

@@ -8,9 +8,9 @@ use Rattle.bigendian.specs.BigEndian.{overwrite}
 use Rattle.format.specs.WellFormed.{offsets}
 use Rattle.zone.specs.Roster.{cardBytes}
 use Rattle.roster.specs.Listed.{cardsOf, allCards}
-use Rattle.roster.proofs.Entries.{fill-first, fill-room, fill-step, fill-done, start-bytes, start-room, start-masters, get-masters}
 use Rattle.roster.proofs.fill.Statement.{statement}
 use Rattle.roster.proofs.fill.Tie as tie
+use Rattle.roster.proofs.Entries.{fill-first, fill-room, fill-step, fill-done, start-bytes, start-room, start-masters, get-masters}
 
 abbrev Inv-loop : tie.InvT-loop
 Inv-loop z out₀ left₀ h₀ at₀ out left h at = (h + masterSize * left ≤ firstBlock mostMasters) × (length out ≡ length out₀) × (at + recordSize * length (cardsOf z (offsets h left)) ≤ length out) × (overwrite out at (cardBytes (cardsOf z (offsets h left))) ≡ overwrite out₀ 0 (cardBytes (allCards z)))

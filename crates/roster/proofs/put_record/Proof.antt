@@ -1,7 +1,7 @@
-use Rattle.roster.proofs.Entries.{put-two}
 use borrow.Author.Needs.{needs}
 use Rattle.roster.proofs.put_record.Statement.{statement}
 use Rattle.roster.proofs.put_record.Tie as tie
+use Rattle.roster.proofs.Entries.{put-two}
 
 returns : tie.Need-returns
 returns c = search put-two
