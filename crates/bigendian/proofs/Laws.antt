@@ -2,12 +2,11 @@
 use mathlib.Core.Path.{_≡_, refl, sym, ap, _∙_}
 use mathlib.Core.List.{List, [], _∷_, _++_}
 use Prim.Native.Nat.{ℕ, zero, suc, _+_, _*_, _/_, _%_, _^_, _<_, _≤_}
-use native.Mathlib.Nat.{pow-succ', one-le-pow, mod-lt, mod-eq-of-lt, add-assoc, add-mul, mul-assoc, mod-one, div-one, mul-add-div-right}
+use native.Mathlib.Nat.{pow-succ', one-le-pow, mod-eq-of-lt, mul-assoc, mod-one, div-one, mul-add-div-right}
 use native.Mathlib.Numerals.{add-one, add-two, towards-suc}
 use native.Mathlib.Omega.{arith}
 use lib.Arith.{digits-lt, digits-div, mod-mul}
-use lib.Pow.{pow-add}
-use lib.ListN.{length, getD, take, set, length-append}
+use lib.ListN.{length, getD, take, set}
 use lib.Seq.{take-at, drop-cons, sets-eq}
 use Rattle.bigendian.specs.BigEndian.{fromBE, toBE, slice, overwrite, Bytes}
 
@@ -19,23 +18,10 @@ unfolding fromBE
 be-lt [] h = omega arith
 be-lt (x ∷ xs) h = rw pow-succ' (digits-lt (h 0) (be-lt xs (λ i. h (suc i))))
 
-pub be-append : (a b : List ℕ) → fromBE (a ++ b) ≡ fromBE a * 256 ^ length b + fromBE b
-unfolding fromBE
-be-append [] b = omega arith
-be-append (x ∷ xs) b =
-    rw (be-append xs b, length-append xs b, pow-add)
-    (simp (add-mul, add-assoc, mul-assoc))
-
 pub length-toBE : (n v : ℕ) → length (toBE n v) ≡ n
 unfolding toBE
 length-toBE zero v = refl
 length-toBE (suc n) v = ap suc (length-toBE n v)
-
-pub bytes-toBE : (n v : ℕ) → Bytes (toBE n v)
-unfolding toBE
-bytes-toBE zero v i = omega arith
-bytes-toBE (suc n) v zero = mod-lt (v / 256 ^ n) (omega arith)
-bytes-toBE (suc n) v (suc i) = bytes-toBE n v i
 
 pub be-toBE-mod : (n v : ℕ) → fromBE (toBE n v) ≡ v % 256 ^ n
 unfolding fromBE toBE

@@ -1,6 +1,6 @@
 -- The handles of blocks that obey the rules: a handle's master holds its block's offset, and no two blocks have one handle.
-use mathlib.Core.Path.{_≡_, refl, sym, ap}
-use mathlib.Core.List.{List, [], _∷_, _++_}
+use mathlib.Core.Path.{_≡_, refl, ap}
+use mathlib.Core.List.{List, [], _∷_}
 use mathlib.Core.Bool.{Bool, true, false, cond}
 use Prim.Native.Nat.{ℕ, zero, suc, _+_, _<_, _≤_}
 use native.Mathlib.Omega.{arith}
@@ -100,47 +100,3 @@ module _ (z : List ℕ) (first : ℕ) where
               omega (arith, one-le h (handleOf b), f (omega arith))
           by false q = omega (arith, one-other h (handleOf b) (eqb-false h (handleOf b) q))
       go false e g₀ i f = i
-
--- ---- where a handle's block is
-
--- a relocatable block with handle h among the blocks bs, the first of them at offset at; v is its data offset
-pub record Split (at : ℕ) (bs : List (List ℕ)) (h v : ℕ) : Type 0 where
-  pub before : List (List ℕ)
-  pub block : List ℕ
-  pub after : List (List ℕ)
-  pub parts : bs ≡ before ++ block ∷ after
-  pub place : at + total before + relocHeader ≡ v
-  pub reloc : isReloc block ≡ true
-  pub handle : handleOf block ≡ h
-
-pub split : (z : List ℕ) (first : ℕ) (prev : Bool) (at h : ℕ) (bs : List (List ℕ)) → blocksOk z first prev at bs ≡ true
-    → 0 < occurs h (handles bs) → Split at bs h (masterAt z h)
-unfolding blocksOk handles occurs total
-split z first prev at h [] g l = let e : ⊥ = omega arith in absurd e
-split z first prev at h (b ∷ bs) g l =
-    let g₀ = and-left (blockOk z first prev at b) _ g in
-    let g₁ = and-right (blockOk z first prev at b) _ g in
-    go (isReloc b) refl g₀ (λ k. later (split z first (isFree b) (at + length b) h bs g₁ k)) l
-  where
-    later : Split (at + length b) bs h (masterAt z h) → Split at (b ∷ bs) h (masterAt z h)
-    later s = record {
-      before = b ∷ s .before;
-      block = s .block;
-      after = s .after;
-      parts = ap (λ (t : List (List ℕ)). b ∷ t) (s .parts);
-      place = omega (arith, s .place);
-      reloc = s .reloc;
-      handle = s .handle;
-    }
-
-    go : (t : Bool) → isReloc b ≡ t → blockOk z first prev at b ≡ true → (0 < occurs h (handles bs) → Split at (b ∷ bs) h (masterAt z h))
-        → 0 < occurs h (cond t (handleOf b ∷ handles bs) (handles bs)) → Split at (b ∷ bs) h (masterAt z h)
-    go true e g₀ f l = by (eqb h (handleOf b)) refl
-      where
-        by : (u : Bool) → eqb h (handleOf b) ≡ u → Split at (b ∷ bs) h (masterAt z h)
-        by true q =
-            let m = is-held z first prev at b g₀ e in
-            let eh = eqb-true h (handleOf b) q in
-            record { before = []; block = b; after = bs; parts = refl; place = omega (arith, m .holds, ap (masterAt z) eh); reloc = e; handle = sym eh }
-        by false q = f (omega (arith, one-other h (handleOf b) (eqb-false h (handleOf b) q)))
-    go false e g₀ f l = f l

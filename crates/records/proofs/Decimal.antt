@@ -50,18 +50,6 @@ pub digits-some : (k n : ℕ) → 1 ≤ length (digits (suc k) n)
 unfolding digits
 digits-some k n = rw (length-append (cond (ltb n 10) [] (digits k (n / 10)))) (omega arith)
 
--- a number below 10 ^ k has at most k digits
-pub digits-below : (k j n : ℕ) → n < 10 ^ suc k → length (digits j n) ≤ suc k
-digits-below k zero n l = omega (arith, digits-most 0 n)
-digits-below zero (suc j) n l = rw (digits-one j n l) (omega arith)
-digits-below (suc k) (suc j) n l = go (ltb n 10) refl (digits-below k j (n / 10))
-  where
-    go : (t : Bool) → ltb n 10 ≡ t → (n / 10 < 10 ^ suc k → length (digits j (n / 10)) ≤ suc k) → length (digits (suc j) n) ≤ suc (suc k)
-    go true h next = rw (digits-one j n (ltb-true n 10 h)) (omega arith)
-    go false h next =
-        let e : n / 10 < 10 ^ suc k = omega (arith, pow-succ' 10 (suc k)) in
-        rw (digits-step j n (ltb-false n 10 h), length-append (digits j (n / 10))) (omega (arith, next e))
-
 -- ---- read back
 
 -- the number that digits after those of acc stand for

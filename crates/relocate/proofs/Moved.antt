@@ -42,10 +42,6 @@ twice g h u v k = go (eqb k h)
     go false = refl
 
 module _ (s : Structure) (v : Valid s) {bs′ : List Block} {e₀ : Item} (a : Around (s .blocks) bs′ (cell (held e₀))) (h : ℕ) (its : masterOf e₀ ≡ h) where
-  -- the block is freed
-  abbrev fs : Structure
-  fs = record { chain = h ∷ s .chain; blocks = bs′ }
-
   pub handles : handlesOf (cell (held e₀) ∷ []) ≡ h ∷ []
   unfolding handlesOf
   handles = ap (_∷ []) its

@@ -4,8 +4,8 @@ use mathlib.Core.Bool.{Bool, true, false, cond, true≢false, false≢true}
 use mathlib.Core.Option.{Option, none, some}
 use mathlib.Core.List.{List, List·Permᴰ, List·Permᴰ·trans, Permᴰ·append-left, Permᴰ·append-right}
 use Prim.Native.Nat.{ℕ, _+_, max}
-use Rattle.calls.specs.Bays.{Bays, last, more, over, orElse, mapS, onFixed, onLast, findS, findF, concatS, sumS, maxS, lastS}
-use Rattle.zone.specs.PickBays.{onLow, onHigh, glue, onJoin, AllS}
+use Rattle.calls.specs.Bays.{Bays, last, more, over, orElse, mapS, onFixed, onLast, concatS, sumS, maxS, lastS}
+use Rattle.zone.specs.PickBays.{onLow, onHigh, glue, onJoin}
 
 -- both absent, or both present and related
 pub data Both {A B : Type 0} (R : A → B → Type 0) : Option A → Option B → Type 0 where
@@ -92,18 +92,3 @@ module _ {B C F G : Type 0} (R : B → C → Type 0) (Q : F → G → Type 0) wh
   pub maxS-like : (μ : B → ℕ) (ν : C → ℕ) → ((b : B) (c : C) → R b c → μ b ≡ ν c) → {s : Bays B F} {s′ : Bays C G} → Like s s′ → maxS μ s ≡ maxS ν s′
   maxS-like μ ν h (like-last r) = h _ _ r
   maxS-like μ ν h (like-more r e l) = ap₂ max (h _ _ r) (maxS-like μ ν h l)
-
-  pub findF-like : (p : F → Bool) (p′ : G → Bool) → ((x : F) (y : G) → Q x y → p x ≡ p′ y) → {s : Bays B F} {s′ : Bays C G} → Like s s′ → Both Q (findF p s) (findF p′ s′)
-  findF-like p p′ h (like-last r) = absent
-  findF-like p p′ h (like-more {x = x} {y = y} r e l) = cond-both (p x) (p′ y) (h x y e) (λ t. present e) (findF-like p p′ h l)
-
-  -- D: what must hold of the first strip's bays
-  pub findS-like : {X Y : Type 0} (W : X → Y → Type 0) (D : B → Type 0) (f : B → Option X) (g : C → Option Y) → ((b : B) (c : C) → R b c → D b → Both W (f b) (g c))
-      → {s : Bays B F} {s′ : Bays C G} → AllS D s → Like s s′ → Both W (findS f s) (findS g s′)
-  findS-like W D f g h d (like-last r) = h _ _ r d
-  findS-like W D f g h d (like-more r e l) = orElse-both (h _ _ r (d .0)) (findS-like W D f g h (d .1) l)
-
-  -- what the relation says of each bay of the first strip
-  pub all-like : (D : B → Type 0) → ((b : B) (c : C) → R b c → D b) → {s : Bays B F} {s′ : Bays C G} → Like s s′ → AllS D s
-  all-like D h (like-last r) = h _ _ r
-  all-like D h (like-more r e l) = (h _ _ r, all-like D h l)

@@ -40,10 +40,6 @@ stands-after xs n {v = v} q s = record { front = xs ++ s .front; rest = s .rest;
 pub stands-before : {xs v : List ℕ} {at : ℕ} (bs : List ℕ) → Stands xs at v → Stands (xs ++ bs) at v
 stands-before {v = v} bs s = record { front = s .front; rest = s .rest ++ bs; split = ap (_++ bs) (s .split) ∙ simp append-assoc; place = s .place }
 
-pub length-big : (w n : ℕ) → length (big w n) ≡ w
-length-big zero n = refl
-length-big (suc w) n = ap suc (length-big w n)
-
 pub length-free : (n : ℕ) → Block n → length (freeBytes n) ≡ n
 length-free n b = simp (length-replicate) (omega (arith, b))
 
@@ -145,8 +141,3 @@ fixed-at d (tile-more {p = p} {b = b} {x = x} {s = s} e t) = (
 -- each fixed block's bytes stand in the zone, from its pointer
 pub pointers-stand : (m : ℕ) (z : Zone) → AllS Sound (z .bays) → Placed m z → AllF (λ (x : Fixed). Stands (zoneBytes m z) (pointer x) (x .bytes)) (z .bays)
 pointers-stand m z d g = all-map (FixedAt (blockBytes (z .bays)) (firstBlock m)) _ (λ x a. rw (a .found) (in-zone m z (a .stands))) (z .bays) (fixed-at d (g .tiled))
-
-blocks-length : {p end : ℕ} {s : Bays (List Cell) Fixed} → AllS Sound s → Tiled p s end → p + length (blockBytes s) ≡ end
-blocks-length d (tile-last e) = omega (arith, length-cells d)
-blocks-length d (tile-more {b = b} {x = x} {s = s} e t) =
-    omega (arith, length-append (cellBytes b) (fixedBytes x ++ blockBytes s), length-append (fixedBytes x) (blockBytes s), length-cells (d .0), blocks-length (d .1) t)
