@@ -78,13 +78,13 @@ ALLOWED = [
     ("crates/structure/proofs/Back.antt", rf"\bat-seam {ATOM} {ATOM} (4)\b", "the width of a master's number"),
     ("crates/zone/specs/Roster.antt", r"handle = fromBE \(slice bs 0 4", "the handle is the first number of a record"),
     # the census
-    ("crates/census/src/lib.rt", r"^ +(?:2|4|8|16|64|16384|32768|65536),$", "the table of lower limits, powers of 2"),
-    ("crates/census/proofs/lower/Proof.antt", r"^limits = .*", "the same table"),
+    ("crates/inspect/src/census.rt", r"^ +(?:2|4|8|16|64|16384|32768|65536),$", "the table of lower limits, powers of 2"),
+    ("crates/inspect/proofs/census/lower/Proof.antt", r"^limits = .*", "the same table"),
     # refusal numbers
     ("crates/calls/specs/Table.antt", r"(?<![\w.])[248] ∷", "the order of the refusal numbers"),
     ("crates/stretch/specs/Stretch.antt", r"\(cond \(leb n have\) 0 10\) (8)\b", "a refusal number"),
     ("crates/stretch/proofs/Laws.antt", r"\bIsPart .* have (8)\b", "a refusal number"),
-    ("crates/allocate_relocatable/proofs/Outcome.antt", r"\bcleared a 4\b", "a refusal number"),
+    ("crates/allocate/proofs/relocatable/Outcome.antt", r"\bcleared a 4\b", "a refusal number"),
     ("crates/zone/proofs/Initial.antt", r"\bclear \(badInitialize .*\) (2)\b", "a refusal number"),
     ("crates/zone/proofs/Walk.antt", r"\bpassed \(allocate-relocatable c\) z e (4)\b", "a refusal number"),
     ("crates/records/", r"\bline 2 0\b", "a refusal number, in a line that zone-run prints"),
@@ -103,8 +103,8 @@ ALLOWED = [
     # a walker that is lent
     ("crates/walker_run/src/main.rt", r"\bturns = (16384)usize\b", "more steps than a zone of 65,536 bytes has blocks"),
     ("crates/walker_run/proofs/walk/Proof.antt", r"\bturns ≤ 16384\b", "the same"),
-    ("crates/walker/proofs/Walker/advance/Proof.antt", r"! \d+\b|! \([\d ∷]+\[\]\)", WALKED),
-    ("crates/walker/proofs/Walker/advance/Proof.antt", r"\bgoes-[\w-]+ 𝓤 H A W 2\b", "how many lifetimes the function has"),
+    ("crates/inspect/proofs/walker/Walker/advance/Proof.antt", r"! \d+\b|! \([\d ∷]+\[\]\)", WALKED),
+    ("crates/inspect/proofs/walker/Walker/advance/Proof.antt", r"\bgoes-[\w-]+ 𝓤 H A W 2\b", "how many lifetimes the function has"),
     ("crates/walker_run/proofs/step/Proof.antt", r"! \d+\b|! \([\d ∷]+\[\]\)", WALKED),
     ("crates/walker_run/proofs/step/Proof.antt", r"\b2 \^ 64\b", "what 64 bits hold"),
     # examples that are computed: their bytes, arguments and answers are the rig sheet's own, and the customer's

@@ -18,7 +18,7 @@ MENTION = re.compile(r"Rattle·[^\s{}();,@\"]*")
 CHILD = re.compile(r"^[ \t]*(?:pub )?mod (\S+)", re.M)
 
 # names that an exported contract takes from a file which only passes them on from one of the table: CONTRACT NAME
-PASSED_ON = {"census::census counted", "walker::Walker::go walked", "walker::Walker::advance walked"}
+PASSED_ON = {"inspect::census counted", "inspect::Walker::go walked", "inspect::Walker::advance walked"}
 
 
 def bare(text):

@@ -14,7 +14,7 @@ FACTS = [
     (PROOF, "returns-2", "`search`: no proof of `Rattle.find_bay.proofs.find_bay.Reads.Post (c .κs)`", "what `find_bay` returns"),
     (PROOF, "loop-again", "`omega`: the goal does not follow from what it read.", "the invariant of the loop of `find_bay`"),
     (PROOF, "step-requires", "`search`: no proof of `Row`", "what `step` requires, in `find_bay`"),
-    (PROOF, "find-bay-spec", "`search`: no proof of `Rattle.row.proofs.step.Reads.Asked κs`", "what `step` requires, in `find_bay`"),
+    (PROOF, "find-bay-spec", "`search`: no proof of `Rattle.access.proofs.row.step.Reads.Asked κs`", "what `step` requires, in `find_bay`"),
     (LAW, "six-first", "computed as far as they go, the two types differ only where one has `6` (expected)", "law `six-first` of `proofs/Order.antt`"),
     (LAW, "read-left", "as printed, the two types differ only where one has `second` (expected)", "law `read-left` of `proofs/Order.antt`"),
 ]

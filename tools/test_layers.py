@@ -36,11 +36,11 @@ class Layers(Trial):
         self.noticed(layers, ["mentions a proof", "crates/zone/src/deep/inner.rt"])
 
     def test_proof_named_in_a_clause(self):
-        self.change("crates/walker/src/lib.rt", r"ensures \{ λ r\. ⌜", "ensures { λ r. ⌜\n// Rattle.access.proofs.Edit.IsZone")
-        self.noticed(layers, ["mentions a proof", "crates/walker/src/lib.rt"])
+        self.change("crates/inspect/src/walker.rt", r"ensures \{ λ r\. ⌜", "ensures { λ r. ⌜\n// Rattle.access.proofs.Edit.IsZone")
+        self.noticed(layers, ["mentions a proof", "crates/inspect/src/walker.rt"])
 
     def test_comment_in_code(self):
-        self.commented("crates/walker/src/lib.rt")
+        self.commented("crates/inspect/src/walker.rt")
         self.assertEqual(layers.faults(self.root), [])
 
     # ---- the table
@@ -66,7 +66,7 @@ class Layers(Trial):
 
     def test_file_that_is_above(self):
         first = self.path(sources.believed(self.root)[0])
-        for line in (f"use {first}.{{x}}", f"x = {first}.x", f"-- {first}x", "use Rattle.locate.specs.declared.Target.{Target}"):
+        for line in (f"use {first}.{{x}}", f"x = {first}.x", f"-- {first}x", "use Rattle.access.specs.declared.locate.Target.{Target}"):
             self.assertEqual(self.table_mentions(line), [], line)
 
     def test_rows_in_another_order(self):

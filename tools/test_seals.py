@@ -68,7 +68,7 @@ class Seals(Trial):
     # ---- contracts
 
     def test_function_without_ensures(self):
-        for name in ("nafelode::initialize", "nafelode_c::nafelode_view", "walker::Walker::advance", "census::census", "records::run_chunk"):
+        for name in ("nafelode::initialize", "nafelode_c::nafelode_view", "inspect::Walker::advance", "inspect::census", "records::run_chunk"):
             text = dict(CONTRACTS)[f"contract {name}"]
             file = next(f for f in sources.sources(self.root, name.split("::")[0]) if text in sources.read(self.root, f))
             self.put(file, sources.read(self.root, file).replace(text, re.sub(r"ensures \{.*\}\n", "", text)))
@@ -94,23 +94,23 @@ class Seals(Trial):
         self.noticed(seals, ["seal differs", "contract nafelode::"])
 
     def test_file_that_passes_on_something_else(self):
-        passing = [f for f in sources.public_items(self.root, "walker", lambda n: n == "Walker::go").values()][0][0][1]
+        passing = [f for f in sources.public_items(self.root, "inspect", lambda n: n == "Walker::go").values()][0][0][1]
         file = sources.file_of(self.root, sources.imports(passing)["walked"])
         if file not in sources.believed(self.root):
             self.change(file, r"^pub use (.*)walked.*$", "abbrev pub walked : Type 0")
-            self.noticed(seals, ["seal differs", "walker::Walker::go"])
+            self.noticed(seals, ["seal differs", "inspect::Walker::go"])
 
     def test_function_and_type_gone_or_new(self):
         self.change("crates/nafelode/src/lib.rt", r"^pub fn shrink", "fn shrink")
         self.noticed(seals, ["sealed and not there", "contract nafelode::shrink"])
         self.change("crates/nafelode/src/lib.rt", r"^fn shrink", "pub fn strip")
         self.noticed(seals, ["no seal", "contract nafelode::strip"])
-        self.change("crates/nafelode/src/lib.rt", r"^pub use walker::Walker;", "use walker::Walker;")
-        self.noticed(seals, ["sealed and not there", "contract walker::Walker::go"])
+        self.change("crates/nafelode/src/lib.rt", r"^pub use inspect::walker::Walker;", "use inspect::walker::Walker;")
+        self.noticed(seals, ["sealed and not there", "contract inspect::Walker::go"])
 
     def test_type_of_another_form(self):
-        self.change("crates/walker/src/lib.rt", r"^pub struct Walker \{", "pub struct Walker {\n    pub more: u32,")
-        self.noticed(seals, ["seal differs", "type walker::Walker"])
+        self.change("crates/inspect/src/walker.rt", r"^pub struct Walker \{", "pub struct Walker {\n    pub more: u32,")
+        self.noticed(seals, ["seal differs", "type inspect::Walker"])
 
     def test_program_of_another_body(self):
         self.change(PROGRAM, r"^fn main\(\) \{", "fn main() {\n    return;")

@@ -120,7 +120,7 @@ fn call(zone: &mut Vec<u8>, words: &[&str]) -> String {
             for (i, byte) in zone.iter_mut().enumerate() {
                 *byte = i as u8;
             }
-            relocate::slide(zone, n(1) as usize, n(2) as usize, n(3) as usize);
+            resize::relocate::slide(zone, n(1) as usize, n(2) as usize, n(3) as usize);
             String::new()
         }
         _ => "no such call".into(),

@@ -16,8 +16,8 @@ use Rattle.calls.specs.Calls.{Target, by-handle, by-pointer}
 use Rattle.bay.specs.Bay.{free, held}
 use Rattle.structure.specs.Structure.{Block, fixed, cell, size, sizes, fixedTag, encodeBlock, join}
 use Rattle.structure.proofs.Append.{sizes-append}
-use Rattle.row.specs.Row.{Sound, bytesOf}
-use Rattle.row.proofs.Laws.{bytes-append, bytes-long, sound-left}
+use Rattle.access.specs.row.Row.{Sound, bytesOf}
+use Rattle.access.proofs.row.Laws.{bytes-append, bytes-long, sound-left}
 use Rattle.access.specs.Named.{names, headerOfBlock, heldBy, refill, placeAmong, dataAmong}
 
 -- ---- what stands before it and behind it

@@ -18,9 +18,9 @@ use Rattle.structure.proofs.Round.{rest-is}
 use Rattle.structure.proofs.Table.{Whole, encode-zone, len-is}
 use Rattle.structure.proofs.IsZone.{whole-of}
 use Rattle.structure.proofs.Sound.{valid-zone}
-use Rattle.row.specs.Row.{Sound, bytesOf}
-use Rattle.row.proofs.Laws.{front, bytes-append, bytes-long, sound-left, sound-right}
-use Rattle.row.proofs.Zone.{valid-sound}
+use Rattle.access.specs.row.Row.{Sound, bytesOf}
+use Rattle.access.proofs.row.Laws.{front, bytes-append, bytes-long, sound-left, sound-right}
+use Rattle.access.proofs.row.Zone.{valid-sound}
 use Rattle.access.specs.Edit.{dataOf, placeIn, dataIn}
 use Rattle.access.proofs.Named.{among-fits}
 use Rattle.access.proofs.Among.{handle-place, handle-data, Mine, mine}

@@ -1,2 +1,4 @@
 pub mod Edit
 pub mod Named
+pub mod row
+pub mod locate

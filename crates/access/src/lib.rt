@@ -1,5 +1,9 @@
 // Where a handle's data lie and how many they are, over the bytes of a well-formed zone with none beyond its length.
+pub mod locate;
+pub mod row;
+
 use block_type::BlockType;
+use zone_check::block_check;
 ghost use mathlib.Core.Path.{_≡_};
 ghost use Prim.Native.Nat.{_<_};
 ghost use lib.ListN.{length};

@@ -15,8 +15,8 @@ use Rattle.calls.specs.Bays.{Bays, last, more}
 use Rattle.calls.specs.State.{Fixed}
 use Rattle.bay.specs.Bay.{Cell, free, held, cellSize, baySize, baySum}
 use Rattle.bay.proofs.Laws.{bsize-append, bsum-append}
-use Rattle.row.specs.Row.{row, blocksOf, Stepped, blockAt}
-use Rattle.row.proofs.Laws.{row-end}
+use Rattle.access.specs.row.Row.{row, blocksOf, Stepped, blockAt}
+use Rattle.access.proofs.row.Laws.{row-end}
 use Rattle.zone.specs.Group.{inFront, group}
 use Rattle.zone.proofs.GroupLaws.{front, front-nil}
 use Rattle.bays.specs.Places.{baysAt, freePart, endFree}

@@ -12,8 +12,8 @@ use Rattle.structure.specs.Structure.{Block, Structure, count, start, len, deco
 use Rattle.structure.specs.Valid.{Valid}
 use Rattle.structure.proofs.Table.{Whole, start-is, len-is}
 use Rattle.structure.proofs.Sound.{valid-zone}
-use Rattle.row.specs.Row.{Row}
-use Rattle.row.proofs.Zone.{blocks-are, zone-row, zone-start, zone-short}
+use Rattle.access.specs.row.Row.{Row}
+use Rattle.access.proofs.row.Zone.{blocks-are, zone-row, zone-start, zone-short}
 use Rattle.calls.specs.Bays.{Bays, maxS}
 use Rattle.calls.specs.State.{Fixed}
 use Rattle.bay.specs.Bay.{Cell, baySum}

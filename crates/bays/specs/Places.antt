@@ -8,7 +8,7 @@ use Rattle.calls.specs.Bays.{Bays, last, more}
 use Rattle.calls.specs.State.{Fixed, fsize}
 use Rattle.bay.specs.Bay.{Cell, baySize, baySum}
 pub use Rattle.bay.specs.Ends.{freePart, endFree}
-use Rattle.row.specs.Row.{blocksOf}
+use Rattle.access.specs.row.Row.{blocksOf}
 use Rattle.structure.specs.Structure.{Structure, start}
 use Rattle.zone.specs.Group.{group}
 

@@ -6,7 +6,7 @@ use lib.ListN.{length, drop}
 use Rattle.calls.specs.Bays.{last, more}
 use Rattle.calls.specs.State.{Fixed, fsize}
 use Rattle.bay.specs.Bay.{Cell, baySize, baySum}
-use Rattle.row.specs.Row.{Row}
+use Rattle.access.specs.row.Row.{Row}
 use Rattle.bays.specs.Places.{baysAt, endFree}
 
 -- the bay b begins at p, and it is the last one, or a fixed block follows and the next bay begins at `next`

@@ -1,12 +1,14 @@
 // The bays of a zone's bytes: one walk over a bay, and the searches for a bay.
+use access::row;
 use block_type::BlockType;
+use zone_check::block_check;
 ghost use mathlib.Core.Path.{_≡_};
 ghost use mathlib.Core.Bool.{cond};
 ghost use Prim.Native.Nat.{_≤_};
 ghost use lib.ListN.{length, drop};
 ghost use lib.Dec.{eqb};
 ghost use Rattle.block_type.specs.Limits.{freeCode, longestZone};
-ghost use Rattle.row.specs.Row.{Row};
+ghost use Rattle.access.specs.row.Row.{Row};
 ghost use Rattle.bays.specs.Places.{baysAt, bayN, lowBay, highBay, ownBay, betterBay};
 ghost use Rattle.bays.specs.Read.{Read};
 

@@ -15,16 +15,16 @@ use Rattle.calls.specs.Bays.{Bays}
 use Rattle.calls.specs.State.{Fixed}
 use Rattle.bay.specs.Bay.{Cell, baySize, baySum, compactBay}
 use Rattle.bay.proofs.Laws.{tidy-size}
-use Rattle.row.specs.Row.{Sound, Row, row, blocksOf, bytesOf}
-use Rattle.row.proofs.Laws.{bytes-append, bytes-long, sound-left, sound-right, tiles-join}
+use Rattle.access.specs.row.Row.{Sound, Row, row, blocksOf, bytesOf}
+use Rattle.access.proofs.row.Laws.{bytes-append, bytes-long, sound-left, sound-right, tiles-join}
 use Rattle.zone.specs.Group.{group, flatten}
 use Rattle.zone.proofs.Places.{Tiled}
 use Rattle.zone.proofs.GroupLaws.{group-flatten}
 use Rattle.bays.specs.Places.{baysAt, endFree}
 use Rattle.slide.specs.ZoneBay.{ZoneBay, bayCells, settled}
-use Rattle.row.proofs.Zone.{valid-sound}
-use Rattle.surgery.proofs.Sound.{lastFree, firstFree, tiled-left, tiled-right}
-use Rattle.surgery.proofs.Replace.{sizes-parts}
+use Rattle.access.proofs.row.Zone.{valid-sound}
+use Rattle.settle.proofs.surgery.Sound.{lastFree, firstFree, tiled-left, tiled-right}
+use Rattle.settle.proofs.surgery.Replace.{sizes-parts}
 use Rattle.settle.proofs.Cells.{all-sizes}
 use Rattle.settle.proofs.Bay.{zone-bay, cells-are}
 use Rattle.settle.proofs.Compact.{compact-settled}

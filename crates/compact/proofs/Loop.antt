@@ -17,7 +17,7 @@ use Rattle.calls.specs.Bays.{Bays, last, more, mapS, maxS}
 use Rattle.calls.specs.State.{Fixed, fsize}
 use Rattle.bay.specs.Bay.{Cell, baySize, baySum, compactBay}
 use Rattle.bay.proofs.Laws.{tidy-size}
-use Rattle.row.specs.Row.{Row}
+use Rattle.access.specs.row.Row.{Row}
 use Rattle.zone.specs.Group.{flatten}
 use Rattle.zone.proofs.Places.{Tiled}
 use Rattle.zone.proofs.GroupLaws.{flatten-group}
@@ -26,8 +26,8 @@ use Rattle.bays.specs.Read.{Cut, at-end, at-fixed, Read}
 use Rattle.bays.proofs.At.{tiled-long, tiled-rest}
 use Rattle.bays.proofs.Zone.{zone-bays}
 use Rattle.slide.specs.ZoneBay.{ZoneBay, bayCells, settled}
-use Rattle.surgery.proofs.Sound.{lastFree}
-use Rattle.surgery.proofs.Replace.{sizes-parts}
+use Rattle.settle.proofs.surgery.Sound.{lastFree}
+use Rattle.settle.proofs.surgery.Replace.{sizes-parts}
 use Rattle.settle.proofs.Cells.{all-sizes}
 use Rattle.settle.proofs.Tidy.{compact-start}
 use Rattle.compact.specs.Compacted.{compacted, largest}

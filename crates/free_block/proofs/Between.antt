@@ -15,7 +15,7 @@ use Rattle.structure.proofs.Append.{sizes-append}
 use Rattle.structure.proofs.Round.{offset-is}
 use Rattle.structure.proofs.Table.{Whole, encode-zone, len-is, head-is}
 use Rattle.structure.proofs.Sound.{valid-zone}
-use Rattle.blank.specs.Between.{Hole, Between}
+use Rattle.slide.specs.blank.Between.{Hole, Between}
 use Rattle.free_block.specs.Around.{Around, Freeing}
 use Rattle.free_block.proofs.Hole.{gap-hole}
 use Rattle.free_block.proofs.Parts.{amount, before, after, old-parts, before-sizes, all-sizes-are, block-low}

@@ -18,10 +18,10 @@ use Rattle.bay.specs.Bay.{free}
 use Rattle.structure.specs.Structure.{Block, cell, Structure, sizes, count, start, len, headOf, placeOf, nextOf, value, encodeBlock, join, encode, handlesOf}
 use Rattle.structure.specs.Valid.{Valid}
 use Rattle.structure.proofs.Round.{place-none}
-use Rattle.row.specs.Row.{bytesOf}
-use Rattle.surgery.proofs.Image.{img, upd, encode-img, img-rest, img-chain, img-master}
-use Rattle.surgery.proofs.Sound.{handle-once}
-use Rattle.surgery.proofs.Replace.{occurs-parts, place-same, replaced}
+use Rattle.access.specs.row.Row.{bytesOf}
+use Rattle.settle.proofs.surgery.Image.{img, upd, encode-img, img-rest, img-chain, img-master}
+use Rattle.settle.proofs.surgery.Sound.{handle-once}
+use Rattle.settle.proofs.surgery.Replace.{occurs-parts, place-same, replaced}
 use Rattle.free_block.specs.Around.{Around}
 use Rattle.free_block.proofs.Parts.{amount, before, inside, after, old-parts, new-parts, inside-sizes, inside-handles, free-sound}
 

@@ -13,9 +13,9 @@ use Rattle.structure.specs.Valid.{Valid}
 use Rattle.structure.proofs.Append.{sizes-append}
 use Rattle.structure.proofs.Table.{Whole, start-is, len-is}
 use Rattle.structure.proofs.Sound.{valid-zone}
-use Rattle.row.specs.Row.{Row, Sound, blocksOf, blockAt, Stepped}
-use Rattle.row.proofs.Laws.{low-of, stepped}
-use Rattle.row.proofs.Zone.{valid-sound}
+use Rattle.access.specs.row.Row.{Row, Sound, blocksOf, blockAt, Stepped}
+use Rattle.access.proofs.row.Laws.{low-of, stepped}
+use Rattle.access.proofs.row.Zone.{valid-sound}
 use Rattle.free_block.specs.Around.{partOf, lastPart, firstPart, Around, Freeing}
 use Rattle.free_block.specs.Walk.{Below, Stopped, Extended}
 use Rattle.free_block.proofs.Parts.{block-low, lows-sizes}

@@ -14,10 +14,10 @@ use Rattle.structure.specs.Valid.{Valid}
 use Rattle.structure.proofs.Table.{Whole, encode-zone}
 use Rattle.structure.proofs.Round.{rest-is}
 use Rattle.structure.proofs.Sound.{valid-zone}
-use Rattle.row.specs.Row.{bytesOf, Sound}
-use Rattle.row.proofs.Laws.{bytes-append, bytes-long, sound-left, sound-right}
-use Rattle.row.proofs.Zone.{valid-sound}
-use Rattle.blank.specs.Between.{Hole, nothing, zeros}
+use Rattle.access.specs.row.Row.{bytesOf, Sound}
+use Rattle.access.proofs.row.Laws.{bytes-append, bytes-long, sound-left, sound-right}
+use Rattle.access.proofs.row.Zone.{valid-sound}
+use Rattle.slide.specs.blank.Between.{Hole, nothing, zeros}
 use Rattle.structure.specs.IsZone.{IsZone}
 use Rattle.structure.proofs.IsZone.{whole-of}
 

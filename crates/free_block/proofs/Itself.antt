@@ -20,7 +20,7 @@ use Rattle.bay.specs.Sound.{bytesOf}
 use Rattle.structure.specs.Structure.{Block, cell, Structure, sizes, start, placeOf, encode, handlesOf}
 use Rattle.structure.specs.Valid.{Valid}
 use Rattle.structure.proofs.Append.{handles-append, place-append}
-use Rattle.surgery.proofs.Sound.{handle-once}
+use Rattle.settle.proofs.surgery.Sound.{handle-once}
 use Rattle.settle.proofs.Bay.{part-is}
 use Rattle.free_block.specs.Around.{Around}
 use Rattle.free_block.proofs.Parts.{lows-sizes}

@@ -20,14 +20,14 @@ use Rattle.structure.specs.Structure.{cell, Structure, sizes, start, len, decod
 use Rattle.structure.specs.Valid.{Valid}
 use Rattle.structure.proofs.Sound.{valid-zone}
 use Rattle.access.specs.Edit.{placeIn, dataIn, dataOf}
-use Rattle.row.specs.Row.{Row}
+use Rattle.access.specs.row.Row.{Row}
 use Rattle.zone.specs.Group.{group}
 use Rattle.zone.specs.Work.{facts, work}
 use Rattle.zone.specs.Call.{inBays}
 use Rattle.zone.proofs.GroupLaws.{flatten-group}
 use Rattle.zone.proofs.Grouped.{whole-bays, work-whole, single-live}
 use Rattle.zone.proofs.Keep.{valid-line}
-use Rattle.locate.proofs.Live.{place-live}
+use Rattle.access.proofs.locate.Live.{place-live}
 use Rattle.free_block.specs.Around.{Around, Freeing}
 use Rattle.free_block.specs.Freed.{freed}
 use Rattle.free_block.specs.Walk.{Stopped, Extended}

@@ -13,10 +13,10 @@ use Rattle.structure.specs.Structure.{Block, cell, Structure, size, sizes, hand
 use Rattle.structure.specs.Valid.{Tiled, Valid}
 use Rattle.structure.proofs.Append.{sizes-append, handles-append}
 use Rattle.structure.proofs.Cells.{tiled-cells, gap-sizes, gap-handles}
-use Rattle.row.specs.Row as Row
-use Rattle.row.proofs.Laws.{low-of, sound-left, sound-right, sound-four}
-use Rattle.row.proofs.Zone.{valid-sound}
-use Rattle.surgery.proofs.Sound.{tiled-right}
+use Rattle.access.specs.row.Row as Row
+use Rattle.access.proofs.row.Laws.{low-of, sound-left, sound-right, sound-four}
+use Rattle.access.proofs.row.Zone.{valid-sound}
+use Rattle.settle.proofs.surgery.Sound.{tiled-right}
 use Rattle.settle.proofs.Cells.{all-sizes}
 use Rattle.free_block.specs.Around.{Around}
 

@@ -14,9 +14,9 @@ use Rattle.structure.proofs.Round.{rest-is}
 use Rattle.structure.proofs.Table.{start-is, encode-zone}
 use Rattle.structure.proofs.Sound.{valid-zone}
 use Rattle.bay.specs.Bay.{free, held}
-use Rattle.row.specs.Row.{Row, row, blocksOf, blockAt, Stepped}
-use Rattle.row.proofs.Laws.{row-end, stepped}
-use Rattle.row.proofs.Zone.{valid-sound}
+use Rattle.access.specs.row.Row.{Row, row, blocksOf, blockAt, Stepped}
+use Rattle.access.proofs.row.Laws.{row-end, stepped}
+use Rattle.access.proofs.row.Zone.{valid-sound}
 use Rattle.free_block.specs.Around.{partOf, lastPart, firstPart}
 use Rattle.free_block.specs.Walk.{Below, Passed, Stopped}
 use Rattle.block_type.specs.Limits.{freeCode}

@@ -6,7 +6,7 @@ use Prim.Native.Nat.{ℕ, _+_, _<_, _≤_}
 use lib.ListN.{length, drop}
 use Rattle.format.specs.WellFormed.{isFree}
 use Rattle.structure.specs.Structure.{Block, size, sizes}
-use Rattle.row.specs.Row.{Row, blocksOf}
+use Rattle.access.specs.row.Row.{Row, blocksOf}
 use Rattle.free_block.specs.Around.{lastPart, firstPart}
 
 -- each of the blocks starts below t, the first at offset `at`

@@ -1,11 +1,13 @@
 // A block that becomes free: where it lies with its free neighbours.
+use access::row;
+use zone_check::block_check;
 ghost use Prim.Native.Nat.{_<_, _≤_};
 ghost use lib.ListN.{length, drop};
 ghost use mathlib.Core.Path.{_≡_};
 ghost use mathlib.Core.Bool.{cond};
 ghost use Prim.Native.Nat.{_+_};
 ghost use Rattle.format.specs.WellFormed.{isFree};
-ghost use Rattle.row.specs.Row.{Row, blocksOf};
+ghost use Rattle.access.specs.row.Row.{Row, blocksOf};
 ghost use Rattle.free_block.specs.Around.{firstPart};
 ghost use Rattle.free_block.specs.Walk.{Stopped, Extended};
 

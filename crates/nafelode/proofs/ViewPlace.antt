@@ -19,12 +19,12 @@ use Rattle.zone.specs.Call.{numberOf}
 use Rattle.zone.specs.View.{dataAt, viewStart, viewLength}
 use Rattle.access.specs.Edit as Edit
 use Rattle.access.proofs.PlaceLaws.{by-count, place-no, handle-fits}
-use Rattle.locate.specs.Locate.{targetPlace, absentNumber}
-use Rattle.locate.proofs.Laws.{place-by-handle}
+use Rattle.access.specs.locate.Locate.{targetPlace, absentNumber}
+use Rattle.access.proofs.locate.Laws.{place-by-handle}
 use Rattle.stretch.specs.Stretch as Walked
 use Rattle.stretch.specs.Stretch.{stretchNumber}
 use Rattle.stretch.proofs.Answers.{Case, ill, lost, past, short, fits, the-case, absent-some, view-number}
-use Rattle.stretch_write.proofs.Hardware.{target-is}
+use Rattle.stretch.proofs.write.Hardware.{target-is}
 use Rattle.structure.specs.IsZone.{IsZone, is-zone}
 
 -- ---- the place

@@ -6,19 +6,19 @@ ghost use Prim.Native.Nat.{_+_};
 ghost use lib.ListN.{length};
 ghost use Rattle.calls.specs.Calls.{allocate-relocatable, allocate-fixed, free-handle, free-pointer, resize, size, read, write, view, compact, sums, check, length-of, enlarge, shrink, roster, told, shows, toldTwo};
 ghost use Rattle.zone.specs.Promise.{Promise, InitPromise};
-ghost use Rattle.locate.specs.Named.{targetOf};
+ghost use Rattle.access.specs.locate.Named.{targetOf};
 ghost use Rattle.zone.specs.View.{viewStart, viewLength};
 ghost use Rattle.zone.specs.Roster.{rosterAnswer};
+pub use access::locate::Target;
 pub use calls::Told;
-pub use census::Counts;
-pub use census::census;
-pub use locate::Target;
+pub use inspect::census::Counts;
+pub use inspect::census::census;
+pub use inspect::walker::Described;
+pub use inspect::walker::Moved;
+pub use inspect::walker::Report;
+pub use inspect::walker::Walker;
 pub use stretch::Stretch;
 pub use tell::Sums;
-pub use walker::Described;
-pub use walker::Moved;
-pub use walker::Report;
-pub use walker::Walker;
 pub use zone_check::Checked;
 
 // A new zone of `length` bytes with m masters.
@@ -32,21 +32,21 @@ pub fn initialize(zone: &mut [u8], length: u32, m: u32) -> Told
 pub fn allocate_relocatable(zone: &mut [u8], c: u32) -> Told
     ensures { λ r. ⌜ Promise (allocate-relocatable c) (now (zone .entry)) (told (r .number) (r .value)) (now (zone .exit)) ⌝ }
 {
-    allocate_relocatable::allocate_relocatable(zone, c)
+    allocate::relocatable::allocate_relocatable(zone, c)
 }
 
 // A fixed block for c data bytes. Answers its pointer.
 pub fn allocate_fixed(zone: &mut [u8], c: u32) -> Told
     ensures { λ r. ⌜ Promise (allocate-fixed c) (now (zone .entry)) (told (r .number) (r .value)) (now (zone .exit)) ⌝ }
 {
-    allocate_fixed::allocate_fixed(zone, c)
+    allocate::fixed::allocate_fixed(zone, c)
 }
 
 // Frees the relocatable block of handle h.
 pub fn free_handle(zone: &mut [u8], h: u32) -> Told
     ensures { λ r. ⌜ Promise (free-handle h) (now (zone .entry)) (told (r .number) (r .value)) (now (zone .exit)) ⌝ }
 {
-    let number = free_handle::free_handle(zone, h);
+    let number = free::handle::free_handle(zone, h);
     Told { number, value: 0 }
 }
 
@@ -54,7 +54,7 @@ pub fn free_handle(zone: &mut [u8], h: u32) -> Told
 pub fn free_pointer(zone: &mut [u8], p: u32) -> Told
     ensures { λ r. ⌜ Promise (free-pointer p) (now (zone .entry)) (told (r .number) (r .value)) (now (zone .exit)) ⌝ }
 {
-    free_pointer::free_pointer(zone, p)
+    free::pointer::free_pointer(zone, p)
 }
 
 // The block of handle h gets c data bytes.
@@ -75,14 +75,14 @@ pub fn compact(zone: &mut [u8]) -> Told
 pub fn enlarge(zone: &mut [u8], k: u32) -> Told
     ensures { λ r. ⌜ Promise (enlarge k) (now (zone .entry)) (told (r .number) (r .value)) (now (zone .exit)) ⌝ }
 {
-    enlarge::enlarge(zone, k)
+    zone_end::enlarge::enlarge(zone, k)
 }
 
 // Strips at most k bytes off the end of the zone. Answers how many.
 pub fn shrink(zone: &mut [u8], k: u32) -> Told
     ensures { λ r. ⌜ Promise (shrink k) (now (zone .entry)) (told (r .number) (r .value)) (now (zone .exit)) ⌝ }
 {
-    shrink::shrink(zone, k)
+    zone_end::shrink::shrink(zone, k)
 }
 
 // The data size of a block.
@@ -103,7 +103,7 @@ pub fn read(zone: &[u8], s: Stretch, out: &mut [u8]) -> u32
 pub fn write(zone: &mut [u8], s: Stretch, src: &[u8]) -> u32
     ensures { λ r. ⌜ Promise (write (targetOf (s .block)) (s .offset) (s .count) (now (src .entry))) (now (zone .entry)) (shows r (now (src .entry))) (now (zone .exit)) ⌝ }
 {
-    stretch_write::write(zone, s, src)
+    stretch::write::write(zone, s, src)
 }
 
 // A stretch, as the part of the zone that it is; refused, the empty part at the zone's first byte.
@@ -140,5 +140,5 @@ pub fn length(zone: &[u8]) -> Told
 pub fn roster(zone: &[u8], out: &mut [u8]) -> Told
     ensures { λ r. ⌜ Promise (roster (now (out .entry))) (now (zone .entry)) (rosterAnswer (r .number) (r .value) (now (out .exit))) (now (zone .entry)) ⌝ }
 {
-    roster::roster(zone, out)
+    tell::roster::roster(zone, out)
 }

@@ -13,7 +13,7 @@ use Rattle.bigendian.specs.BigEndian.{Bytes, slice}
 use Rattle.format.specs.WellFormed.{lengthField}
 use Rattle.calls.specs.Calls.{Target, by-handle, by-pointer, Answer, size, read, write, view, check, toldTwo, shows}
 use Rattle.zone.specs.Promise.{Promise}
-use Rattle.locate.proofs.Data.{target-fits}
+use Rattle.access.proofs.locate.Data.{target-fits}
 use Rattle.access.proofs.Checked.{fields-of}
 use Rattle.zone.specs.View as View
 use Rattle.nafelode.proofs.ViewPlace.{start-tied, length-tied}

@@ -16,10 +16,10 @@ use Rattle.calls.specs.Table.{below}
 use Rattle.bay.specs.Bay.{baySum, items}
 use Rattle.bays.specs.Places.{baysOf, baysAt, bayN, lowBay, ownBay}
 use Rattle.bays.proofs.Zone.{zone-reach}
-use Rattle.reshape.proofs.Plan.{known-low, own-sum, laid-of, laid-reached}
-use Rattle.place.specs.Room.{BayFor, RoomFor}
-use Rattle.relocate.specs.Relocate.{Grows}
-use Rattle.relocate.proofs.Plan.{low-bay, low-moves}
+use Rattle.resize.proofs.reshape.Plan.{known-low, own-sum, laid-of, laid-reached}
+use Rattle.room.specs.place.Room.{BayFor, RoomFor}
+use Rattle.resize.specs.relocate.Relocate.{Grows}
+use Rattle.resize.proofs.relocate.Plan.{low-bay, low-moves}
 use Rattle.resize.specs.Ready.{noRoom, WayIn, own, other, Tight, Chosen, lacks, found}
 use Rattle.resize.specs.declared.Way.the-variants.{OwnBay, OtherBay}
 

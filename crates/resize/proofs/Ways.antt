@@ -16,11 +16,11 @@ use Rattle.bay.specs.Bay.{baySum, items, release, reshape}
 use Rattle.zone.specs.Group.{flatten}
 use Rattle.zone.specs.Work.{has, placeLow}
 use Rattle.bays.specs.Places.{baysOf}
-use Rattle.reshape.specs.Own.{reshaped}
-use Rattle.reshape.specs.Here.{Here}
-use Rattle.reshape.specs.Grow.{Laid}
-use Rattle.reshape.proofs.Plan.{here-reached, laid-reached}
-use Rattle.relocate.specs.Relocate.{relocated, RelocateIn, relocate-of}
+use Rattle.resize.specs.reshape.Own.{reshaped}
+use Rattle.resize.specs.reshape.Here.{Here}
+use Rattle.resize.specs.reshape.Grow.{Laid}
+use Rattle.resize.proofs.reshape.Plan.{here-reached, laid-reached}
+use Rattle.resize.specs.relocate.Relocate.{relocated, RelocateIn, relocate-of}
 use Rattle.resize.specs.Ready.{resizedTo, WayIn, here, own, other}
 use Rattle.resize.specs.declared.Way.{Way}
 use Rattle.resize.specs.declared.Way.the-variants.{InPlace, OwnBay, OtherBay}

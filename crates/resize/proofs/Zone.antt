@@ -20,9 +20,9 @@ use Rattle.calls.specs.Table.{cause, below, isNone, first, order, refusalOf}
 use Rattle.bay.specs.Bay.{baySum, items}
 use Rattle.zone.specs.Work.{facts}
 use Rattle.bays.specs.Places.{baysOf}
-use Rattle.locate.proofs.Live.{place-gone, place-live}
-use Rattle.reshape.specs.Own.{Known}
-use Rattle.reshape.proofs.Plan.{here-of, here-reached}
+use Rattle.access.proofs.locate.Live.{place-gone, place-live}
+use Rattle.resize.specs.reshape.Own.{Known}
+use Rattle.resize.proofs.reshape.Plan.{here-of, here-reached}
 use Rattle.call_laws.specs.Frame.{zoneAt, PlannedIn, refuses, goes}
 use Rattle.resize.specs.Ready.{noRoom, WayIn, here, Tight, Chosen, lacks, found, ReadyIn}
 use Rattle.resize.specs.declared.Way.the-variants.{InPlace}

@@ -16,10 +16,10 @@ use Rattle.bay.specs.Bay.{baySum, items}
 use Rattle.zone.specs.Group.{group, flatten}
 use Rattle.zone.specs.Work.{facts, resizeIn}
 use Rattle.bays.specs.Places.{baysOf}
-use Rattle.reshape.specs.Own.{Known}
-use Rattle.reshape.specs.Here.{Here}
-use Rattle.reshape.specs.Grow.{Laid}
-use Rattle.relocate.specs.Relocate.{RelocateIn}
+use Rattle.resize.specs.reshape.Own.{Known}
+use Rattle.resize.specs.reshape.Here.{Here}
+use Rattle.resize.specs.reshape.Grow.{Laid}
+use Rattle.resize.specs.relocate.Relocate.{RelocateIn}
 use Rattle.call_laws.specs.Frame.{zoneAt}
 use Rattle.resize.specs.declared.Plan.{Plan}
 use Rattle.resize.specs.declared.Way.{Way}

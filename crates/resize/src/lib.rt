@@ -1,4 +1,8 @@
 // Resize: a block gets another data size, where it stands, in its own bay laid out anew, or in another bay.
+pub mod relocate;
+pub mod reshape;
+
+use room::place;
 ghost use mathlib.Core.Path.{_≡_};
 ghost use Prim.Native.Nat.{_<_};
 ghost use lib.ListN.{take};

@@ -17,12 +17,12 @@ use Rattle.bay.specs.Sound.{Sound}
 use Rattle.structure.specs.Structure.{Block, Structure, sizes, count, start, len, headOf, placeOf, nextOf, value, encode, cell, handlesOf}
 use Rattle.structure.specs.Valid.{Valid}
 use Rattle.structure.proofs.Round.{next-none, offset-is}
-use Rattle.row.specs.Row as Row
-use Rattle.surgery.specs.Masters as Masters
+use Rattle.access.specs.row.Row as Row
+use Rattle.settle.specs.surgery.Masters as Masters
 use Rattle.slide.specs.ZoneBay.{settled}
-use Rattle.surgery.proofs.Image.{img, encode-img, img-chain, img-rest, img-all, all-is, updAll}
-use Rattle.surgery.proofs.Sound.{handle-once}
-use Rattle.surgery.proofs.Replace.{occurs-parts, place-same, place-mid, replaced}
+use Rattle.settle.proofs.surgery.Image.{img, encode-img, img-chain, img-rest, img-all, all-is, updAll}
+use Rattle.settle.proofs.surgery.Sound.{handle-once}
+use Rattle.settle.proofs.surgery.Replace.{occurs-parts, place-same, place-mid, replaced}
 use Rattle.settle.proofs.Cells.{all-bytes, all-sizes, all-set, all-sound}
 
 -- the cells cs′ in the place of cs, and the chain ks in the place of the old one; no master is lost or had twice

@@ -15,11 +15,11 @@ use Rattle.bay.proofs.BayBytes as Bytes
 use Rattle.structure.specs.Structure.{Block, Structure, sizes, count, start, encode, cell, handlesOf}
 use Rattle.structure.specs.Valid.{Valid}
 use Rattle.structure.proofs.Round.{offset-is, rest-is, length-is}
-use Rattle.row.specs.Row as Row
-use Rattle.row.proofs.Laws.{bytes-append, bytes-long, sound-left, sound-right}
-use Rattle.row.proofs.Zone.{valid-sound}
-use Rattle.surgery.proofs.Sound.{handle-in}
-use Rattle.surgery.proofs.Replace.{occurs-parts, sizes-parts}
+use Rattle.access.specs.row.Row as Row
+use Rattle.access.proofs.row.Laws.{bytes-append, bytes-long, sound-left, sound-right}
+use Rattle.access.proofs.row.Zone.{valid-sound}
+use Rattle.settle.proofs.surgery.Sound.{handle-in}
+use Rattle.settle.proofs.surgery.Replace.{occurs-parts, sizes-parts}
 use Rattle.slide.specs.ZoneBay.{Low, is-low, partOf, bayCells, ZoneBay}
 use Rattle.settle.proofs.Cells.{all-bytes, all-sizes, sound-cells}
 

@@ -12,8 +12,8 @@ use Rattle.bay.specs.Bay.{Cell, free, held, baySize, items, packed}
 use Rattle.bay.specs.Bytes.{encodeCell}
 use Rattle.bay.specs.Sound.{bytesOf, Sound}
 use Rattle.structure.specs.Structure.{encodeBlock, sizes, join, cell, handlesOf}
-use Rattle.row.specs.Row as Row
-use Rattle.surgery.specs.Masters as Masters
+use Rattle.access.specs.row.Row as Row
+use Rattle.settle.specs.surgery.Masters as Masters
 use Rattle.slide.specs.ZoneBay.{setOne, setAll}
 
 pub all-bytes : (cs : List Cell) → bytesOf cs ≡ Row.bytesOf (map cell cs)

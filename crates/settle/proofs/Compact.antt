@@ -9,7 +9,7 @@ use Rattle.bay.proofs.Laws.{tidy-size, tidy-items}
 use Rattle.bay.proofs.SoundLaws.{compact-sound}
 use Rattle.structure.specs.Structure.{Block, Structure, sizes, start, encode, cell, handlesOf}
 use Rattle.structure.specs.Valid.{Valid}
-use Rattle.surgery.proofs.Replace.{sizes-parts}
+use Rattle.settle.proofs.surgery.Replace.{sizes-parts}
 use Rattle.slide.specs.ZoneBay.{settled}
 use Rattle.settle.proofs.Cells.{all-sizes, handles-items}
 use Rattle.settle.proofs.Any.{settle}

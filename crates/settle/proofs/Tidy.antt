@@ -15,8 +15,8 @@ use Rattle.calls.specs.State.{Fixed}
 use Rattle.zone.specs.Group.{flatten}
 use Rattle.bays.specs.At.{At, at-last, at-here, at-later}
 use Rattle.bays.proofs.At.{at-old}
-use Rattle.surgery.proofs.Sound.{lastFree, firstFree, tiled-left, tiled-right, tiled-join, tiled-any}
-use Rattle.surgery.proofs.Replace.{sizes-parts, moved-valid, start-same}
+use Rattle.settle.proofs.surgery.Sound.{lastFree, firstFree, tiled-left, tiled-right, tiled-join, tiled-any}
+use Rattle.settle.proofs.surgery.Replace.{sizes-parts, moved-valid, start-same}
 use Rattle.settle.proofs.Cells.{all-sizes, all-sound}
 use Rattle.settle.proofs.Bay.{cells-sound}
 use Rattle.settle.proofs.Compact.{compact-handles}

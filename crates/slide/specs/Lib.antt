@@ -1,3 +1,4 @@
 pub mod Slide
 pub mod ZoneBay
 pub mod Masters
+pub mod blank

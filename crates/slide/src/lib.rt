@@ -1,5 +1,8 @@
 // Compacts a bay in place: its held blocks go to its start in old order, one free block holds the rest, and its masters follow.
+pub mod blank;
+
 use block_type::BlockType;
+use zone_check::block_check;
 ghost use mathlib.Core.Path.{_≡_};
 ghost use mathlib.Core.List.{[], _++_};
 ghost use Prim.Native.Nat.{_+_, _-_, _%_, _<_, _≤_};

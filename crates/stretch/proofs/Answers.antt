@@ -17,8 +17,8 @@ use Rattle.calls.specs.Table.{Facts, Cause, cause, below, isNone, notWellFormed
 use Rattle.bay.specs.Bay.{items}
 use Rattle.zone.specs.Work.{facts}
 use Rattle.zone.specs.Call.{zoneIn, numberOf, callWith, call}
-use Rattle.locate.specs.Locate.{targetPlace, targetData, absentNumber, blockNumber}
-use Rattle.locate.proofs.Data.{content-none, content-some}
+use Rattle.access.specs.locate.Locate.{targetPlace, targetData, absentNumber, blockNumber}
+use Rattle.access.proofs.locate.Data.{content-none, content-some}
 use Rattle.stretch.specs.Stretch.{partNumber, stretchNumber}
 
 pub absent-some : (t : Target) → absentNumber t ≡ 0 → ⊥

@@ -15,8 +15,8 @@ use Rattle.format.specs.WellFormed.{zoneOf}
 use Rattle.calls.specs.Calls as Calls
 use Rattle.calls.specs.Calls.{Target, Answer, read, view, told, shows}
 use Rattle.zone.specs.Call.{call}
-use Rattle.locate.specs.Locate.{targetPlace, targetData, absentNumber, Located, ill-formed, absent, present}
-use Rattle.locate.proofs.Data.{target-fits, target-room, target-part, located-small}
+use Rattle.access.specs.locate.Locate.{targetPlace, targetData, absentNumber, Located, ill-formed, absent, present}
+use Rattle.access.proofs.locate.Data.{target-fits, target-room, target-part, located-small}
 use Rattle.stretch.specs.Stretch.{partNumber, stretchNumber, viewStart, viewLength, IsPart, Planned, refused, granted}
 use Rattle.stretch.proofs.Answers.{absent-some, block-1, block-absent, block-0, Accepted, accepted, size-is, read-is, view-is}
 

@@ -13,8 +13,8 @@ use Rattle.bigendian.specs.BigEndian.{Bytes, slice}
 use Rattle.format.specs.WellFormed.{zoneOf, lengthField}
 use Rattle.calls.specs.Calls.{Target, Answer, size, read, view, told}
 use Rattle.zone.specs.Call.{call}
-use Rattle.locate.specs.Locate.{targetPlace, targetData, blockNumber}
-use Rattle.locate.proofs.Data.{target-fits, target-part}
+use Rattle.access.specs.locate.Locate.{targetPlace, targetData, blockNumber}
+use Rattle.access.proofs.locate.Data.{target-fits, target-part}
 use Rattle.stretch.specs.Stretch.{partNumber, stretchNumber, viewStart, viewLength}
 use Rattle.stretch.proofs.Answers.{accepted, size-is, read-is, view-is}
 

@@ -8,7 +8,7 @@ use lib.Dec.{eqb, leb}
 use Rattle.bigendian.specs.BigEndian.{Bytes}
 use Rattle.format.specs.WellFormed.{zoneOf}
 use Rattle.calls.specs.Calls.{Target}
-use Rattle.locate.specs.Locate.{targetPlace, targetData, blockNumber}
+use Rattle.access.specs.locate.Locate.{targetPlace, targetData, blockNumber}
 
 -- the refusal of n bytes from offset i of a block with `size` data bytes, for a second buffer of `have` bytes; `number` is the
 -- block's own: "offset + count, unwrapped, above data size" 8, "second buffer too short" 10

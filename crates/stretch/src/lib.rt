@@ -1,14 +1,17 @@
 // Size, read and view of a block that is named by handle or by pointer.
+pub mod write;
+
+use access::locate;
 ghost use mathlib.Core.Path.{_≡_};
 ghost use Prim.Native.Nat.{_+_, _≤_};
 ghost use lib.ListN.{length};
 ghost use Rattle.block_type.specs.Limits.{longestZone};
 ghost use Rattle.calls.specs.Calls.{size, read, view, told, shows};
 ghost use Rattle.zone.specs.Call.{call};
-ghost use Rattle.locate.specs.Named.{targetOf};
+ghost use Rattle.access.specs.locate.Named.{targetOf};
 ghost use Rattle.stretch.specs.Stretch.{IsPart, Planned, viewStart, viewLength};
+use access::locate::Target;
 use calls::Told;
-use locate::Target;
 
 // `count` bytes of a block from an offset on.
 pub struct Stretch {

@@ -1,10 +1,12 @@
 // The calls that only tell: the sums of the bays, the length of the zone, and whether it is well-formed.
+pub mod roster;
+
 ghost use mathlib.Core.Path.{_≡_};
 ghost use mathlib.Core.Bool.{cond};
 ghost use Prim.Native.Nat.{_≤_, max};
 ghost use lib.ListN.{length, drop};
 ghost use Rattle.block_type.specs.Limits.{longestZone};
-ghost use Rattle.row.specs.Row.{Row};
+ghost use Rattle.access.specs.row.Row.{Row};
 ghost use Rattle.zone.specs.Call.{call};
 ghost use Rattle.calls.specs.Calls.{told, toldTwo, sums, length-of, check};
 ghost use Rattle.tell.specs.Sums.{SumsFrom, SumsIn};

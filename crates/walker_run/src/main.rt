@@ -2,10 +2,10 @@
 // `Walker::advance`, so this program is its test.
 ghost use mathlib.Core.Path.{_≡_};
 ghost use Rattle.zone.specs.Walker.{walked, walkStep};
+use inspect::walker::Moved;
+use inspect::walker::Walker;
 use libc::STDIN_FILENO;
 use libc::STDOUT_FILENO;
-use walker::Moved;
-use walker::Walker;
 
 // A walker at `at` is lent for a step. It comes back as the step left it.
 fn step(zone: &[u8], at: usize) -> Moved

@@ -1,4 +1,6 @@
 // Whether a zone is well-formed.
+pub mod block_check;
+
 ghost use mathlib.Core.Path.{_≡_};
 ghost use mathlib.Core.Bool.{true, false};
 ghost use Prim.Native.Nat.{_+_, _-_, _*_, _%_, _<_, _≤_};

@@ -4,7 +4,7 @@ use Prim.Native.Nat.{suc, _-_, _≤_}
 use native.Mathlib.Omega.{arith}
 use lib.ListN.{length, drop}
 use Rattle.block_type.specs.Limits.{longestZone}
-use Rattle.row.specs.Row.{Row}
+use Rattle.access.specs.row.Row.{Row}
 use Rattle.bays.specs.Places.{baysAt, bayN, orBay, highBay}
 use Rattle.bays.proofs.Searches.{from, start-high, high-next, high-done}
 use Rattle.bays.proofs.find_high.Statement.{statement}

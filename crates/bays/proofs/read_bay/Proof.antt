@@ -3,7 +3,7 @@ use Prim.Native.Nat.{_-_, _≤_}
 use native.Mathlib.Omega.{arith}
 use lib.ListN.{length, drop}
 use Rattle.block_type.specs.Limits.{longestZone}
-use Rattle.row.specs.Row.{Row}
+use Rattle.access.specs.row.Row.{Row}
 use Rattle.bays.proofs.Walk.{Seen, seen-none, seen-more, read-fixed, read-end}
 use Rattle.bays.proofs.read_bay.Statement.{statement}
 use Rattle.bays.proofs.read_bay.Tie as tie

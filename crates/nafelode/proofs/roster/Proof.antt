@@ -1,5 +1,5 @@
 use Rattle.access.proofs.Checked.{bytes-of}
-use Rattle.roster.proofs.Outcomes.{roster-promise}
+use Rattle.tell.proofs.roster.Outcomes.{roster-promise}
 use borrow.Author.Needs.{needs}
 use Rattle.nafelode.proofs.roster.Statement.{statement}
 use Rattle.nafelode.proofs.roster.Tie as tie

@@ -1,4 +1,4 @@
-use Rattle.row.proofs.Zone.{zone-row, zone-start, zone-short}
+use Rattle.access.proofs.row.Zone.{zone-row, zone-start, zone-short}
 use Rattle.resize.proofs.Bays.{ask-low, own-way, other-bay, other-way, other-none}
 use borrow.Author.Needs.{needs}
 use Rattle.resize.proofs.plan_bays.Statement.{statement}

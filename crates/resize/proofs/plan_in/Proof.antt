@@ -1,5 +1,5 @@
 use Rattle.access.proofs.Checked.{zone-8}
-use Rattle.reshape.proofs.Plan.{known-word}
+use Rattle.resize.proofs.reshape.Plan.{known-word}
 use Rattle.resize.proofs.Zone.{in-6, in-3, in-here, in-tight, in-bays}
 use borrow.Author.Needs.{needs}
 use Rattle.resize.proofs.plan_in.Statement.{statement}

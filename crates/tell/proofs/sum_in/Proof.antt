@@ -1,6 +1,6 @@
 use Rattle.tell.proofs.Laws.{sums-zone}
 use Rattle.access.proofs.Checked.{zone-8}
-use Rattle.row.proofs.Zone.{zone-row, zone-start, zone-short}
+use Rattle.access.proofs.row.Zone.{zone-row, zone-start, zone-short}
 use borrow.Author.Needs.{needs}
 use Rattle.tell.proofs.sum_in.Statement.{statement}
 use Rattle.tell.proofs.sum_in.Tie as tie

@@ -3,7 +3,7 @@ use Prim.Native.Nat.{suc, _-_, _≤_}
 use native.Mathlib.Omega.{arith}
 use lib.ListN.{length, drop}
 use Rattle.block_type.specs.Limits.{longestZone}
-use Rattle.row.specs.Row.{Row}
+use Rattle.access.specs.row.Row.{Row}
 use Rattle.tell.proofs.Totals.{Met, met-none, met-more, met-all, total-within, total-word}
 use Rattle.tell.proofs.sums_from.Statement.{statement}
 use Rattle.tell.proofs.sums_from.Tie as tie

@@ -43,19 +43,19 @@ use denote.Triple.Walked.{says, Stays, stay-none, stay-none-slice, walkOf, goes-
 use denote.Triple.Clauses.{ensured, lasts}
 use denote.Exit.{yes}
 use Rattle.zone.specs.Walker.{walkStep, walked as answered}
-use Rattle.walker.specs.declared.Walker.{Walker}
-use Rattle.walker.specs.declared.Report.{Report}
-use Rattle.walker.specs.declared.Moved.{Moved}
-use Rattle.walker.proofs.Walker as T
-use Rattle.walker.proofs.Walker.Laws as T′
-use Rattle.walker.proofs.Report as D
-use Rattle.walker.proofs.Report.Laws as D′
-use Rattle.walker.proofs.Moved as S
-use Rattle.walker.proofs.Moved.Laws as S′
-use Rattle.walker.proofs.Walker.advance as advance
-use Rattle.walker.proofs.Walker.advance.Symbol as advance-def
-use Rattle.walker.proofs.Walker.advance.Symbol.{name as #advance}
-use Rattle.walker.proofs.Walker.advance.Met as advance-thm
+use Rattle.inspect.specs.declared.walker.Walker.{Walker}
+use Rattle.inspect.specs.declared.walker.Report.{Report}
+use Rattle.inspect.specs.declared.walker.Moved.{Moved}
+use Rattle.inspect.proofs.walker.Walker as T
+use Rattle.inspect.proofs.walker.Walker.Laws as T′
+use Rattle.inspect.proofs.walker.Report as D
+use Rattle.inspect.proofs.walker.Report.Laws as D′
+use Rattle.inspect.proofs.walker.Moved as S
+use Rattle.inspect.proofs.walker.Moved.Laws as S′
+use Rattle.inspect.proofs.walker.Walker.advance as advance
+use Rattle.inspect.proofs.walker.Walker.advance.Symbol as advance-def
+use Rattle.inspect.proofs.walker.Walker.advance.Symbol.{name as #advance}
+use Rattle.inspect.proofs.walker.Walker.advance.Met as advance-thm
 use Rattle.walker_run.proofs.step.Key.{name as #step}
 use Rattle.walker_run.proofs.step as step
 use Rattle.walker_run.proofs.step.Statement as stated
@@ -205,4 +205,4 @@ step-spec 𝓤 H 𝓜 𝓖 𝓡 =
     entered 𝓤 H (tripleOf 𝓤 H (𝓖 .A) step.signature (step.spec 𝓤 H (𝓖 .A) (𝓜 .mem) (𝓡 .run)))
     (tables 𝓤 H 𝓜 𝓡 code.env .C) (tables 𝓤 H 𝓜 𝓡 code.env .Λ) #step code.function (code.unfolded 𝓤 H 𝓜 𝓡)
     (step-meets 𝓤 H (𝓖 .A) (givenOf 𝓤 H 𝓜 𝓖) (𝓜 .mem) (𝓡 .run) (tablesOf 𝓤 H 𝓜 (tables 𝓤 H 𝓜 𝓡 code.env))
-    (cited 𝓤 H (Advances 𝓤 H (𝓖 .A) (𝓜 .mem) (𝓡 .run)) 𝓜 𝓡 code.env #advance advance-def.routine code.calls-walker·Walker·advance (advance-thm.met 𝓤 H 𝓜 𝓖 𝓡)))
+    (cited 𝓤 H (Advances 𝓤 H (𝓖 .A) (𝓜 .mem) (𝓡 .run)) 𝓜 𝓡 code.env #advance advance-def.routine code.calls-inspect·walker·Walker·advance (advance-thm.met 𝓤 H 𝓜 𝓖 𝓡)))

@@ -8,8 +8,8 @@ use borrow.Author.Needs.{needs}
 use lib.ListN.{length, drop}
 use Rattle.format.specs.OneWalk.{blocksOk}
 use Rattle.format.specs.WellFormed.{relocs, splitBlocks}
-use Rattle.block_check.proofs.Leaves.{tiles-stop, tiles-step, tiles-count, tiles-end, tiles-end-count}
-use Rattle.block_check.specs.Word.{IsWord}
+use Rattle.zone_check.proofs.block_check.Leaves.{tiles-stop, tiles-step, tiles-count, tiles-end, tiles-end-count}
+use Rattle.zone_check.specs.block_check.Word.{IsWord}
 use Rattle.zone_check.proofs.blocks_ok.Statement.{statement}
 use Rattle.zone_check.proofs.blocks_ok.Tie as tie
 

@@ -1,0 +1,21 @@
+use Rattle.access.proofs.locate.Laws.{named-handle, held-handle, named-pointer, held-pointer}
+use borrow.Author.Needs.{needs}
+use Rattle.access.proofs.locate.span_of.Statement.{statement}
+use Rattle.access.proofs.locate.span_of.Tie as tie
+
+returns : tie.Need-returns
+returns c = (search named-handle, search held-handle)
+
+returns-2 : tie.Need-returns-2
+returns-2 c = (search named-pointer, search held-pointer)
+
+pub span-of-spec : {M : Type 1} → statement M
+span-of-spec =
+    tie.close
+    (tie.spec
+    (λ c. search needs)
+    (λ c κs. search needs)
+    (λ c. search needs)
+    (λ c κs. search needs)
+    returns
+    returns-2)

@@ -1,0 +1,125 @@
+// Where the data of a block lie that is named by handle or by pointer, and how many bytes they are.
+use super::row;
+use zone_check::block_check;
+ghost use mathlib.Core.Path.{_≡_};
+ghost use mathlib.Core.Bool.{_&&_};
+ghost use Prim.Native.Nat.{_+_, _<_, _≤_};
+ghost use lib.ListN.{length, drop};
+ghost use lib.Dec.{eqb};
+ghost use Rattle.block_type.specs.Limits.{fixedCode, fixedHeader, smallestBlock};
+ghost use Rattle.format.specs.WellFormed.{typeOf};
+ghost use Rattle.calls.specs.Calls.{by-handle, by-pointer};
+ghost use Rattle.access.specs.locate.Locate.{targetPlace, targetData, absentNumber, Located};
+ghost use Rattle.access.specs.locate.Named.{targetOf};
+use block_type::BlockType;
+ghost use Rattle.structure.specs.IsZone.{IsZone};
+
+// A block is named by its handle, or by its pointer where it is fixed.
+pub enum Target {
+    Handle(u32),
+    Pointer(u32),
+}
+
+// Where a block's data begin, 0 for no block, and how many bytes they are.
+pub struct Span {
+    pub at: usize,
+    pub size: usize,
+}
+
+// The data of a handle, in the bytes of a well-formed zone with none beyond its length.
+fn by_handle(z: &[u8], h: u32) -> Span
+    requires { ⌜ IsZone (now z) ⌝ }
+    ensures { λ r. ⌜ (r .at ≡ targetPlace (by-handle h) (now (z .entry))) × (r .size ≡ length (targetData (by-handle h) (now (z .entry)))) ⌝ }
+{
+    let at = super::place(z, h as usize);
+    let size = super::data_size(z, h as usize);
+    Span { at, size }
+}
+
+// Whether the block at `at` is fixed and has the pointer p.
+pub fn is_pointer(z: &[u8], at: usize, p: usize) -> bool
+    requires { ⌜ at + smallestBlock ≤ length (now z) ⌝ }
+    ensures { λ r. ⌜ r ≡ (eqb (typeOf (drop at (now (z .entry)))) fixedCode && eqb p (at + fixedHeader)) ⌝ }
+{
+    (block_check::type_at(z, at) == BlockType::FIXED_CODE) & (p == at + BlockType::FIXED_HEADER)
+}
+
+// The data of a pointer, found from block to block: only the start of a fixed block counts.
+fn by_pointer(z: &[u8], p: u32) -> Span
+    requires { ⌜ IsZone (now z) ⌝ }
+    ensures { λ r. ⌜ (r .at ≡ targetPlace (by-pointer p) (now (z .entry))) × (r .size ≡ length (targetData (by-pointer p) (now (z .entry)))) ⌝ }
+{
+    let place = p as usize;
+    let mut at = bigendian::get4(z, block_type::FIRST_AT) as usize;
+    while at < z.len() {
+        let n = row::step(z, at);
+        if is_pointer(z, at, place) {
+            return Span {
+                at: place,
+                size: n - BlockType::FIXED_HEADER,
+            };
+        }
+        at += n;
+    }
+    Span { at: 0, size: 0 }
+}
+
+// The data of a block, in the bytes of a well-formed zone with none beyond its length.
+fn span_of(z: &[u8], block: Target) -> Span
+    requires { ⌜ IsZone (now z) ⌝ }
+    ensures { λ r. ⌜ (r .at ≡ targetPlace (targetOf block) (now (z .entry))) × (r .size ≡ length (targetData (targetOf block) (now (z .entry)))) ⌝ }
+{
+    match block {
+        Target::Handle(h) => by_handle(z, h),
+        Target::Pointer(p) => by_pointer(z, p),
+    }
+}
+
+// The refusal where no block is so named.
+fn absent_number(block: Target) -> u32
+    ensures { λ r. ⌜ r ≡ absentNumber (targetOf block) ⌝ }
+{
+    match block {
+        Target::Handle(_) => 6,
+        Target::Pointer(_) => 7,
+    }
+}
+
+// A refusal number, 0 for none, and then a block's data.
+pub struct Found {
+    pub number: u32,
+    pub at: usize,
+    pub size: usize,
+}
+
+// The data of a block in any buffer: refused with 1, 6 or 7.
+pub fn find(zone: &[u8], block: Target) -> Found
+    ensures { λ r. ⌜ Located (now (zone .entry)) (targetOf block) (r .number) (r .at) (r .size) ⌝ }
+{
+    let k = zone_check::check(zone);
+    let ok = k.ok;
+    if !ok {
+        return Found {
+            number: 1,
+            at: 0,
+            size: 0,
+        };
+    }
+    let l = bigendian::get4(zone, block_type::LENGTH_AT) as usize;
+    let s = span_of(&zone[..l], block);
+    let at = s.at;
+    let size = s.size;
+    if at == 0 {
+        let number = absent_number(block);
+        return Found {
+            number,
+            at: 0,
+            size: 0,
+        };
+    }
+    Found {
+        number: 0,
+        at,
+        size,
+    }
+}

@@ -1,0 +1,2 @@
+pub mod relocatable
+pub mod fixed

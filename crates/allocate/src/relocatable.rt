@@ -1,0 +1,171 @@
+// Allocate relocatable: a block with the chain's head as its handle, in the lowest bay whose sum reaches its size.
+use room::place;
+ghost use mathlib.Core.Path.{_≡_};
+ghost use mathlib.Core.List.{[], _∷_};
+ghost use Prim.Native.Nat.{_-_, _≤_};
+ghost use lib.ListN.{take};
+ghost use Rattle.block_type.specs.Limits.{zoneHeader, chainAt};
+ghost use Rattle.bigendian.specs.BigEndian.{toBE, overwrite};
+ghost use Rattle.structure.specs.Structure.{encode, decodeZone};
+ghost use Rattle.bay.specs.Bay.{held, gap};
+ghost use Rattle.slide.specs.ZoneBay.{settled};
+ghost use Rattle.room.specs.place.Fit.{blank, Fit};
+ghost use Rattle.calls.specs.Calls.{told, allocate-relocatable};
+ghost use Rattle.zone.specs.Call.{result, call};
+ghost use Rattle.call_laws.specs.Frame.{PlannedIn, Planned};
+ghost use Rattle.allocate.specs.relocatable.Ready.{allocated, BayIn, Going, Ready};
+use block_type::BlockType;
+use calls::Told;
+ghost use Rattle.structure.specs.IsZone.{IsZone};
+
+pub struct Plan {
+    pub number: u32,
+    pub len: usize,
+    pub need: usize,
+    pub handle: usize,
+    pub next: u32,
+    pub start: usize,
+    pub end: usize,
+    pub at: usize,
+    pub size: usize,
+    pub tidy: bool,
+}
+
+// Master h leaves the chain, which goes on with `next`, for a new block in the free block of n bytes at `at`.
+fn carve(z: &mut [u8], at: usize, n: usize, need: usize, h: usize, next: u32)
+    requires { ⌜ Fit (now z) at n need h × (zoneHeader ≤ h) ⌝ }
+    ensures { λ _. ⌜ now (z .exit) ≡ settled (overwrite (now (z .entry)) chainAt (toBE 2 next)) at (held (blank need h) ∷ gap (n - need) []) ⌝ }
+{
+    bigendian::put2(z, block_type::CHAIN_AT, next);
+    place::cut_block(z, at, n, need, h);
+    bigendian::put4(z, h, (at + BlockType::RELOCATABLE_HEADER) as u32);
+}
+
+// The new block in its bay, which is compacted first where the plan says so.
+fn allocate_in(z: &mut [u8], p: Plan)
+    requires { ⌜ Going (now z) p ⌝ }
+    ensures { λ _. ⌜ now (z .exit) ≡ encode (allocated (p .need) (decodeZone (now (z .entry)))) ⌝ }
+{
+    if p.tidy {
+        slide::compact_bay(z, p.start, p.end);
+        carve(z, p.at, p.size, p.need, p.handle, p.next);
+    } else {
+        carve(z, p.at, p.size, p.need, p.handle, p.next);
+    }
+}
+
+fn no_plan(number: u32) -> Plan
+    ensures { λ r. ⌜ r .number ≡ number ⌝ }
+{
+    Plan {
+        number,
+        len: 0,
+        need: 0,
+        handle: 0,
+        next: 0,
+        start: 0,
+        end: 0,
+        at: 0,
+        size: 0,
+        tidy: false,
+    }
+}
+
+// The plan in a well-formed zone, in a bay that has been found.
+fn plan_bay(z: &[u8], need: usize, h: usize, start: usize, end: usize, sum: usize) -> Plan
+    requires { ⌜ BayIn (now z) need h start end sum ⌝ }
+    ensures { λ r. ⌜ (r .number ≡ 0) × (r .need ≡ need) × Going (now (z .entry)) r ⌝ }
+{
+    let next = bigendian::get4(z, h);
+    let s = place::find_room(z, need, start, end, sum);
+    let at = s.at;
+    let size = s.size;
+    let tidy = s.tidy;
+    Plan {
+        number: 0,
+        len: 0,
+        need,
+        handle: h,
+        next,
+        start,
+        end,
+        at,
+        size,
+        tidy,
+    }
+}
+
+// The plan in a well-formed zone.
+fn plan_in(z: &[u8], c: u32) -> Plan
+    requires { ⌜ IsZone (now z) ⌝ }
+    ensures { λ r. ⌜ PlannedIn (allocate-relocatable c) (now (z .entry)) (r .number) (Ready (now (z .entry)) c r) ⌝ }
+{
+    if BlockType::RELOCATABLE_LIMIT < c {
+        return no_plan(3);
+    }
+    let h = bigendian::get2(z, block_type::CHAIN_AT) as usize;
+    if h == 0 {
+        return no_plan(4);
+    }
+    let need = (BlockType::RELOCATABLE_HEADER + c as usize + 3) / 4 * 4;
+    let first = bigendian::get4(z, block_type::FIRST_AT) as usize;
+    let b = bays::find_low(z, first, need);
+    let found = b.found;
+    let start = b.start;
+    let end = b.end;
+    let sum = b.sum;
+    if found {
+        return plan_bay(z, need, h, start, end, sum);
+    }
+    no_plan(5)
+}
+
+// The plan: the refusal, 0 for none, and then what the call is to write.
+fn plan_zone(zone: &[u8], c: u32) -> Plan
+    ensures { λ r. ⌜ Planned (allocate-relocatable c) (now (zone .entry)) (r .number) (r .len) (Ready (take (r .len) (now (zone .entry))) c r) ⌝ }
+{
+    let k = zone_check::check(zone);
+    let ok = k.ok;
+    if !ok {
+        return no_plan(1);
+    }
+    let l = bigendian::get4(zone, block_type::LENGTH_AT) as usize;
+    let p = plan_in(&zone[..l], c);
+    let number = p.number;
+    let need = p.need;
+    let handle = p.handle;
+    let next = p.next;
+    let start = p.start;
+    let end = p.end;
+    let at = p.at;
+    let size = p.size;
+    let tidy = p.tidy;
+    Plan {
+        number,
+        len: l,
+        need,
+        handle,
+        next,
+        start,
+        end,
+        at,
+        size,
+        tidy,
+    }
+}
+
+// Allocates a relocatable block for c data bytes. Answers the refusal number, 0 if done, and the handle.
+pub fn allocate_relocatable(zone: &mut [u8], c: u32) -> Told
+    ensures { λ r. ⌜ result (told (r .number) (r .value)) (now (zone .exit)) ≡ call (allocate-relocatable c) (now (zone .entry)) ⌝ }
+{
+    let p = plan_zone(zone, c);
+    let number = p.number;
+    let l = p.len;
+    let handle = p.handle;
+    if number == 0 {
+        allocate_in(&mut zone[..l], p);
+        let value = handle as u32;
+        return Told { number: 0, value };
+    }
+    Told { number, value: 0 }
+}

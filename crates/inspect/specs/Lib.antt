@@ -1,0 +1,2 @@
+pub mod census
+pub mod walker

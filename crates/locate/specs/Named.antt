@@ -1,8 +1,0 @@
--- What the code's name of a block means.
-use Rattle.calls.specs.Calls.{Target, by-handle, by-pointer}
-use Rattle.locate.specs.declared.Target.{Target as CodeTarget}
-use Rattle.locate.specs.declared.Target.the-variants.{Handle, Pointer}
-
-abbrev pub targetOf : CodeTarget → Target
-targetOf (Handle h) = by-handle h
-targetOf (Pointer p) = by-pointer p

@@ -1,0 +1,10 @@
+use Rattle.zone_check.proofs.block_check.Leaves.{master-law}
+use borrow.Author.Needs.{needs}
+use Rattle.zone_check.proofs.block_check.is_master.Statement.{statement}
+use Rattle.zone_check.proofs.block_check.is_master.Tie as tie
+
+returns : tie.Need-returns
+returns c = search master-law
+
+pub is-master-spec : {M : Type 1} → statement M
+is-master-spec = tie.close (tie.spec (λ c. search needs) returns)

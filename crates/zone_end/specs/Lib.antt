@@ -1,0 +1,2 @@
+pub mod enlarge
+pub mod shrink

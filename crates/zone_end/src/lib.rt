@@ -1,0 +1,3 @@
+// The zone's end: enlarge and shrink.
+pub mod enlarge;
+pub mod shrink;
