@@ -75,6 +75,7 @@ ALLOWED = [
     ("crates/bigendian/", r"\bat \+ 2\b(?= ?[)\]])", "the third byte of a number"),
     ("crates/bigendian/", r"[*/] 65536\b", "what the second of four bytes counts"),
     ("crates/kinds/proofs/KindLaws.antt", r"\bdrop-drop 2\b|\(drop 2\)|\(e \.bytes\) 2\b", "the handle's width"),
+    ("crates/kinds/proofs/KindLaws.antt", r"(?:drop-drop|take-append-drop|\bdrop) 2\b(?= \(?(?:drop )?tagAt)", "the handle's width"),
     ("crates/structure/proofs/Back.antt", rf"\bat-seam {ATOM} {ATOM} (4)\b", "the width of a master's number"),
     ("crates/zone/specs/Roster.antt", r"handle = fromBE \(slice bs 0 4", "the handle is the first number of a record"),
     # the census

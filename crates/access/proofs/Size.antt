@@ -1,5 +1,5 @@
 -- The header of a handle's block says how many data bytes it has.
-use mathlib.Core.Path.{_≡_, refl, sym, ap, _∙_}
+use mathlib.Core.Path.{_≡_, refl, sym, ap, _∙_, ap₂}
 use mathlib.Core.List.{List, [], _∷_, _++_}
 use mathlib.Core.Bool.{Bool, true, false, cond}
 use Prim.Native.Nat.{ℕ, _+_, _-_, _≤_}
@@ -9,6 +9,7 @@ use lib.Seq.{drop-at, drop-drop}
 use Rattle.block_type.specs.Limits.{relocHeader, smallestBlock}
 use Rattle.format.specs.WellFormed.{sizeOf}
 use Rattle.kinds.specs.Kinds.{headerOf, is, itemSize}
+use Rattle.kinds.proofs.KindLaws.{facts, is-header}
 use Rattle.calls.specs.Calls.{by-handle}
 use Rattle.bay.specs.Bay.{free, held}
 use Rattle.structure.specs.Structure.{Block, fixed, cell, size, sizes, Structure, start, placeOf, decodeZone, encodeBlock, join}
@@ -40,12 +41,15 @@ module _ (z : List ℕ) (i : IsZone z) (h at : ℕ) (e : at ≡ placeIn z h) (p 
   sound : Sound (m .before ++ (cell (held (m .mine)) ∷ m .after))
   sound = rw (m .parts) at (valid-sound st (valid-zone z w))
 
+  header-is : headerOf (m .mine) ≡ relocHeader
+  header-is = is-header h (m .mine) (m .its)
+
   -- the zone from the block on
   from : drop (at - relocHeader) z ≡ encodeBlock (cell (held (m .mine))) ++ bytesOf (m .after)
   unfolding placeIn join
   from =
       let b = bytesOf (m .before) in
-      let x : at - relocHeader ≡ start st + sizes (m .before) = omega (arith, m .place) in
+      let x : at - relocHeader ≡ start st + sizes (m .before) = omega (arith, m .place, header-is) in
       let n = bytes-long (m .before) (sound-left (m .before) (cell (held (m .mine)) ∷ m .after) sound) in
       ap (λ (k : ℕ). drop k z) x ∙ sym (drop-drop (sizes (m .before)) (start st) z)
       ∙ ap (drop (sizes (m .before))) ((rw (encode-zone z w) at (rest-is st (valid-zone z w))) ∙ ap bytesOf (m .parts) ∙ bytes-append (m .before) (cell (held (m .mine)) ∷ m .after))
@@ -53,18 +57,18 @@ module _ (z : List ℕ) (i : IsZone z) (h at : ℕ) (e : at ≡ placeIn z h) (p 
 
   pub size-low : relocHeader ≤ at
   unfolding placeIn
-  size-low = omega (arith, m .place)
+  size-low = omega (arith, m .place, header-is)
 
   pub size-law : (n : ℕ) → n ≡ sizeOf (drop (at - relocHeader) z) → n ≡ relocHeader + length (dataIn z h)
   unfolding dataIn
   size-law n q =
       let f = front (cell (held (m .mine))) (drop (at - relocHeader) z) (bytesOf (m .after)) (sound-right (m .before) (cell (held (m .mine)) ∷ m .after) sound .0) from in
-      q ∙ f .size-is ∙ ap (λ (d : List ℕ). relocHeader + length d) (sym (m .holds))
+      q ∙ f .size-is ∙ ap₂ (λ (k : ℕ) (d : List ℕ). k + length d) header-is (sym (m .holds))
 
   pub size-fits : at - relocHeader + relocHeader ≤ length z
   unfolding placeIn sizes
   size-fits =
-      omega (arith, m .place, len-is z w, w .all, ap sizes (m .parts), sizes-append (m .before) (cell (held (m .mine)) ∷ m .after))
+      omega (arith, m .place, header-is, len-is z w, w .all, ap sizes (m .parts), sizes-append (m .before) (cell (held (m .mine)) ∷ m .after))
 
   pub size-data : (n : ℕ) → n ≡ sizeOf (drop (at - relocHeader) z) → n - relocHeader ≡ length (dataIn z h)
   size-data n q = omega (arith, size-law n q)
@@ -80,7 +84,7 @@ no-data h at (fixed d ∷ bs) e = no-data h (at + size (fixed d)) bs e
 no-data h at (cell (held i) ∷ bs) e = go (is h i) e (no-data h (at + itemSize i) bs)
   where
     go : (t : Bool) → cond t (at + headerOf i) (placeOf h (at + itemSize i) bs) ≡ 0 → (placeOf h (at + itemSize i) bs ≡ 0 → dataOf h bs ≡ []) → cond t (i .bytes) (dataOf h bs) ≡ []
-    go true e f = let x : ⊥ = omega arith in absurd x
+    go true e f = let x : ⊥ = omega (arith, facts i .low) in absurd x
     go false e f = f e
 
 pub size-none : (z : List ℕ) (h at : ℕ) → at ≡ placeIn z h → at ≡ 0 → _≡_ {A = ℕ} 0 (length (dataIn z h))

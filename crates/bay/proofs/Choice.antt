@@ -7,7 +7,7 @@ use Prim.Native.Nat.{ℕ, _+_, _-_, _≤_, _<_}
 use native.Mathlib.Nat.{add-zero}
 use lib.ListN.{length}
 use lib.Dec.{leb}
-use borrow.Author.Tests.{le-leb, lt-leb, eq-eqb}
+use borrow.Author.Tests.{le-leb, lt-leb}
 use Rattle.calls.specs.Bays.{over}
 use Rattle.kinds.specs.Kinds.{Item, itemSize, is}
 use Rattle.calls.specs.State.{get}
@@ -79,8 +79,8 @@ here-after h a (held d ∷ before) cs e = go (is h d) e (λ q. here-after h a be
     go true q f = absurd (false≢true (ap isNone q))
     go false q f = ap (over (held d ∷_)) (f q) ∙ over-cons (held d) before (growHere h a cs)
 
-pub at-handle : (e : Item) (a : ℕ) (cs : List Cell) → growHere (e .handle) a (held e ∷ cs) ≡ inPlace e a cs
-at-handle e a cs = rw (eq-eqb (e .handle) (e .handle) refl)
+pub at-handle : (h : ℕ) (e : Item) (a : ℕ) (cs : List Cell) → is h e ≡ true → growHere h a (held e ∷ cs) ≡ inPlace e a cs
+at-handle h e a cs i = rw i
 
 smaller-here : (e : Item) (a : ℕ) (after : List Cell) → a ≤ length (e .bytes) → inPlace e a after ≡ some (held (resized a e) ∷ gap (length (e .bytes) - a) after)
 smaller-here e a after l = rw (le-leb a (length (e .bytes)) l)
@@ -95,12 +95,12 @@ found cs ds e = ap (λ (o : Option (List Cell)). Option·getD o ds) e
 
 pub grows-in-place : GrowsInPlace
 grows-in-place = record {
-  smaller = λ e a before after q l.
+  smaller = λ h e a before after i q l.
       found (before ++ (held (resized a e) ∷ gap (length (e .bytes) - a) after)) _
-      (here-after (e .handle) a before (held e ∷ after) q ∙ ap (over (before ++_)) (at-handle e a after ∙ smaller-here e a after l));
-  larger = λ e a k before after q l m.
+      (here-after h a before (held e ∷ after) q ∙ ap (over (before ++_)) (at-handle h e a after i ∙ smaller-here e a after l));
+  larger = λ h e a k before after i q l m.
       found (before ++ (held (resized a e) ∷ gap (k - (a - length (e .bytes))) after)) _
-      (here-after (e .handle) a before (held e ∷ (free k ∷ after)) q ∙ ap (over (before ++_)) (at-handle e a (free k ∷ after) ∙ larger-here e a k after l m));
+      (here-after h a before (held e ∷ (free k ∷ after)) q ∙ ap (over (before ++_)) (at-handle h e a (free k ∷ after) i ∙ larger-here e a k after l m));
 }
 
 -- ---- the end of a bay

@@ -2,12 +2,13 @@
 use mathlib.Core.Path.{_≡_, refl, ap, ap₂, _∙_}
 use mathlib.Core.Bool.{Bool, true, false, cond}
 use mathlib.Core.Option.{some}
-use mathlib.Core.List.{List, _∷_, map, List·Permᴰ, List·Permᴰ·nil, List·Permᴰ·cons, List·Permᴰ·swap, List·Permᴰ·trans, Permᴰ·refl}
+use mathlib.Core.List.{List, _∷_, map, List·Permᴰ, List·Permᴰ·nil, List·Permᴰ·cons, List·Permᴰ·swap, List·Permᴰ·trans, Permᴰ·refl, Permᴰ·append-left, _++_, Permᴰ·middle, [], Permᴰ·symm}
 use Prim.Native.Nat.{ℕ, suc, _+_, _≤_}
 use native.Mathlib.Omega.{arith}
 use lib.ListN.{length}
-use Rattle.kinds.specs.Kinds.{Item, itemSize, is}
-use Rattle.calls.specs.State.{total, get}
+use Rattle.kinds.specs.Kinds.{Item, itemSize, is, mastersOf}
+use Rattle.calls.specs.State.{total, get, card, listed}
+use Rattle.calls.specs.Calls.{Card}
 use Rattle.bay.specs.Counted.{remove, count}
 
 pub perm-total : {a b : List Item} → List·Permᴰ a b → total a ≡ total b
@@ -55,6 +56,17 @@ perm-count h (List·Permᴰ·swap {a = x} {b = y} {l = l} e q) = rw (← e, ← 
     both false true n = refl
     both false false n = refl
 perm-count h (List·Permᴰ·trans p q) = perm-count h p ∙ perm-count h q
+
+-- the cards of items in another order
+lists-swap : (a b l : List Card) → List·Permᴰ (a ++ (b ++ l)) (b ++ (a ++ l))
+lists-swap [] b l = Permᴰ·refl (b ++ l)
+lists-swap (x ∷ a) b l = List·Permᴰ·trans (List·Permᴰ·cons refl (lists-swap a b l)) (Permᴰ·symm (Permᴰ·middle x b (a ++ l)))
+
+pub perm-listed : {a b : List Item} → List·Permᴰ a b → List·Permᴰ (listed a) (listed b)
+perm-listed List·Permᴰ·nil = List·Permᴰ·nil
+perm-listed (List·Permᴰ·cons {a = x} e p) = rw (← e) (Permᴰ·append-left (map (card x) (mastersOf x)) (perm-listed p))
+perm-listed (List·Permᴰ·swap {a = x} {b = y} {l = l} e q) = rw (← e, ← q) (lists-swap (map (card x) (mastersOf x)) (map (card y) (mastersOf y)) (listed l))
+perm-listed (List·Permᴰ·trans p q) = List·Permᴰ·trans (perm-listed p) (perm-listed q)
 
 -- where no handle stands twice, order does not matter to a search
 pub perm-get : (h : ℕ) {a b : List Item} → List·Permᴰ a b → count h a ≤ 1 → get h a ≡ get h b

@@ -7,9 +7,9 @@ use Prim.Native.Nat.{ℕ, zero, suc, _+_, _-_, _≤_, _<_}
 use native.Mathlib.Omega.{arith}
 use lib.ListN.{length}
 use lib.Dec.{leb}
-use borrow.Author.Tests.{leb-true, leb-false, lt-leb, eq-eqb}
+use borrow.Author.Tests.{leb-true, leb-false, lt-leb}
 use Rattle.calls.specs.Bays.{over}
-use Rattle.kinds.specs.Kinds.{Item}
+use Rattle.kinds.specs.Kinds.{Item, is}
 use Rattle.calls.specs.State.{total, alter, sized}
 use Rattle.calls.proofs.Counted.{get-none, alter-none}
 use Rattle.bay.specs.Bay.{Cell, free, held, baySize, baySum, items, gap, packed, resized, inPlace, growHere, reshape}
@@ -42,10 +42,7 @@ gap-lead n (s-held {e = e} {cs = cs} b s) = let q : n ≡ n + 0 = omega arith in
 
 -- ---- the block e between the cells u and w
 
-module _ (e : Item) (a : ℕ) (u w : List Cell) (first : count (e .handle) (items u) ≡ 0) where
-  abbrev h : ℕ
-  h = e .handle
-
+module _ (h : ℕ) (e : Item) (its : is h e ≡ true) (a : ℕ) (u w : List Cell) (first : count h (items u) ≡ 0) where
   abbrev b : ℕ
   b = length (e .bytes)
 
@@ -58,16 +55,16 @@ module _ (e : Item) (a : ℕ) (u w : List Cell) (first : count (e .handle) (item
       larger (s-held c t) k m = absurd (omega arith)
       larger (s-end {n = n} c) k m =
           let q : n - (a - b) ≡ b + n - a = omega arith in
-          grows-in-place .larger e a n u [] (get-none h (items u) first) k (omega arith) ∙ ap (λ (t : List Cell). u ++ (held (resized a e) ∷ t)) (gap-apart (n - (a - b)) (s-end {n = n} c) ∙ ap (λ (i : ℕ). gap i [] ++ []) q)
+          grows-in-place .larger h e a n u [] its (get-none h (items u) first) k (omega arith) ∙ ap (λ (t : List Cell). u ++ (held (resized a e) ∷ t)) (gap-apart (n - (a - b)) (s-end {n = n} c) ∙ ap (λ (i : ℕ). gap i [] ++ []) q)
       larger (s-free {n = n} {e = d} {cs = cs} c t) k m =
           let q : n - (a - b) ≡ b + n - a = omega arith in
-          grows-in-place .larger e a n u (held d ∷ cs) (get-none h (items u) first) k (omega arith)
+          grows-in-place .larger h e a n u (held d ∷ cs) its (get-none h (items u) first) k (omega arith)
           ∙ ap (λ (t : List Cell). u ++ (held (resized a e) ∷ t)) (gap-held (n - (a - b)) d cs ∙ ap (λ (i : ℕ). gap i [] ++ (held d ∷ cs)) q)
 
       go : (t : Bool) → leb a b ≡ t → reshape h a (u ++ (held e ∷ w)) ≡ u ++ (held (resized a e) ∷ (gap (b + startFree w - a) [] ++ pastStart w))
       go true k =
           let q : b - a + startFree w ≡ b + startFree w - a = omega (arith, leb-true a b k) in
-          grows-in-place .smaller e a u w (get-none h (items u) first) (leb-true a b k)
+          grows-in-place .smaller h e a u w its (get-none h (items u) first) (leb-true a b k)
           ∙ ap (λ (t : List Cell). u ++ (held (resized a e) ∷ t)) (gap-lead (b - a) s ∙ ap (λ (n : ℕ). gap n [] ++ pastStart w) q)
       go false k = larger s (leb-false a b k) l
 
@@ -82,14 +79,14 @@ module _ (e : Item) (a : ℕ) (u w : List Cell) (first : count (e .handle) (item
   total-append (x ∷ xs) ys = omega (arith, total-append xs ys)
 
   alter-one : alter h (sized a) e ≡ resized a e
-  alter-one = rw (eq-eqb h h refl)
+  alter-one = rw its
 
   pub reshape-laid : count h (items w) ≡ 0 → b + startFree w < a → a - b ≤ baySum (u ++ (held e ∷ w))
       → reshape h a (u ++ (held e ∷ w)) ≡ map held (items u) ++ (held (resized a e) ∷ (map held (items w) ++ gap (baySum (u ++ (held e ∷ w)) - (a - b)) []))
   reshape-laid last l m =
       let cs = u ++ (held e ∷ w) in
       let es = map (alter h (sized a)) (items cs) in
-      let none-here : growHere h a cs ≡ none = here-after h a u (held e ∷ w) (get-none h (items u) first) ∙ ap (over (u ++_)) (at-handle e a w ∙ no-room w l) in
+      let none-here : growHere h a cs ≡ none = here-after h a u (held e ∷ w) (get-none h (items u) first) ∙ ap (over (u ++_)) (at-handle h e a w its ∙ no-room w l) in
       let i : items cs ≡ items u ++ (e ∷ items w) = items-append u (held e ∷ w) in
       let es-are : es ≡ items u ++ (resized a e ∷ items w) =
       ap (map (alter h (sized a))) i ∙ map-append (alter h (sized a)) (items u) (e ∷ items w)

@@ -12,6 +12,7 @@ use Rattle.calls.specs.Bays.{over}
 use Rattle.kinds.specs.Kinds.{Item, itemSize, is}
 use Rattle.calls.specs.State.{total, alter, get, sized}
 use Rattle.calls.proofs.Counted.{alter-none}
+use Rattle.kinds.proofs.KindLaws.{facts}
 use Rattle.bay.specs.Bay.{Cell, free, held, baySize, baySum, items, gap, packed, resized, growInto, inPlace, growHere, reshape}
 use Rattle.bay.specs.Counted.{count, roomFor}
 use Rattle.bay.proofs.Each.{Each, nothing, just, each-over, each-cond, each-cond′, each-getD, each-weaken}
@@ -78,7 +79,7 @@ reshape-shaped h a cs q t =
 
 -- soundness
 pub resized-block : (a : ℕ) (e : Item) → a % 4 ≡ 0 → Block (itemSize (resized a e))
-resized-block a e q = omega (arith, length-sized a (e .bytes))
+resized-block a e q = omega (arith, length-sized a (e .bytes), facts e .low, facts e .four)
 
 -- a sound bay before which a free block may stand
 record Open (ds : List Cell) : Type 0 where
@@ -91,11 +92,11 @@ open-held b s = record { sound = s-held b s; behind = λ n c. s-free c (s-held b
 in-place-sound : (a : ℕ) (e : Item) {cs : List Cell} → a % 4 ≡ 0 → Block (itemSize e) → Sound cs → Each Open (inPlace e a cs)
 in-place-sound a e {cs} q b s =
     each-cond′ (leb a (length (e .bytes)))
-    (λ k. just (open-held (resized-block a e q) (gap-sound (length (e .bytes) - a) (omega (arith, b, leb-true a (length (e .bytes)) k)) s)))
+    (λ k. just (open-held (resized-block a e q) (gap-sound (length (e .bytes) - a) (omega (arith, b, leb-true a (length (e .bytes)) k, facts e .four)) s)))
     (λ k. into s (leb-false a (length (e .bytes)) k))
   where
     fits : (n : ℕ) → Block n → length (e .bytes) < a → leb (a - length (e .bytes)) n ≡ true → (n - (a - length (e .bytes))) % 4 ≡ 0
-    fits n c l t = omega (arith, b, c, leb-true (a - length (e .bytes)) n t)
+    fits n c l t = omega (arith, b, c, leb-true (a - length (e .bytes)) n t, facts e .four)
 
     into : {cs : List Cell} → Sound cs → length (e .bytes) < a → Each Open (growInto (resized a e) (a - length (e .bytes)) cs)
     into s-nil l = nothing

@@ -1,11 +1,12 @@
 -- Laws of one bay that are said of blocks in their places, and not by the functions that compute them: which hole is taken, when a block
 -- grows where it stands, and when a bay is compacted. (They are theorems about the definitions of `Bay`: nobody has to believe them.)
 use mathlib.Core.Path.{_≡_}
+use mathlib.Core.Bool.{true}
 use mathlib.Core.Option.{none}
 use mathlib.Core.List.{List, [], _∷_, _++_, map}
 use Prim.Native.Nat.{ℕ, _+_, _-_, _≤_, _<_}
 use lib.ListN.{length}
-use Rattle.kinds.specs.Kinds.{Item, itemSize}
+use Rattle.kinds.specs.Kinds.{Item, is, itemSize}
 use Rattle.calls.specs.State.{get}
 use Rattle.bay.specs.Bay.{Cell, free, held, baySum, items, gap, compactBay, put, takeHigh, resized, reshape}
 
@@ -32,10 +33,10 @@ pub record WhichHole : Type 0 where
 
 -- "For a ≤ b the tail is freed and merged. Else .. into the free block right after it if that has at least a − b bytes": no other block moves
 pub record GrowsInPlace : Type 0 where
-  pub smaller : (e : Item) (a : ℕ) (before after : List Cell) → get (e .handle) (items before) ≡ none → a ≤ length (e .bytes)
-      → reshape (e .handle) a (before ++ (held e ∷ after)) ≡ before ++ (held (resized a e) ∷ gap (length (e .bytes) - a) after)
-  pub larger : (e : Item) (a k : ℕ) (before after : List Cell) → get (e .handle) (items before) ≡ none → length (e .bytes) < a → a - length (e .bytes) ≤ k
-      → reshape (e .handle) a (before ++ (held e ∷ (free k ∷ after))) ≡ before ++ (held (resized a e) ∷ gap (k - (a - length (e .bytes))) after)
+  pub smaller : (h : ℕ) (e : Item) (a : ℕ) (before after : List Cell) → is h e ≡ true → get h (items before) ≡ none → a ≤ length (e .bytes)
+      → reshape h a (before ++ (held e ∷ after)) ≡ before ++ (held (resized a e) ∷ gap (length (e .bytes) - a) after)
+  pub larger : (h : ℕ) (e : Item) (a k : ℕ) (before after : List Cell) → is h e ≡ true → get h (items before) ≡ none → length (e .bytes) < a → a - length (e .bytes) ≤ k
+      → reshape h a (before ++ (held e ∷ (free k ∷ after))) ≡ before ++ (held (resized a e) ∷ gap (k - (a - length (e .bytes))) after)
 
 -- "If its last block is free and big enough, the high end of that; else after compacting": a bay whose last block is free and big enough is
 -- not compacted, and every other one is

@@ -1,7 +1,7 @@
 -- The walk over one bay: the cells that it has passed stand in front of the bays that are left.
 use mathlib.Core.Path.{_≡_, refl, sym, ap, _∙_}
 use mathlib.Core.List.{List, [], _∷_, _++_, append-nil, append-assoc}
-use mathlib.Core.Bool.{cond}
+use mathlib.Core.Bool.{cond, Bool}
 use Prim.Native.Nat.{ℕ, _+_, _<_, _≤_}
 use native.Mathlib.Nat.{add-zero}
 use native.Mathlib.Omega.{arith}
@@ -19,6 +19,7 @@ use Rattle.access.specs.row.Row.{row, blocksOf, Stepped, blockAt}
 use Rattle.access.proofs.row.Laws.{row-end}
 use Rattle.zone.specs.Group.{inFront, group}
 use Rattle.zone.proofs.GroupLaws.{front, front-nil}
+use Rattle.kinds.proofs.KindLaws.{facts, not-free}
 use Rattle.bays.specs.Places.{baysAt, freePart, endFree}
 use Rattle.bays.specs.Read.{at-end, at-fixed, Read}
 
@@ -67,7 +68,7 @@ record IsCell (b : Block) (n f : ℕ) : Type 0 where
 
 is-cell : (b : Block) (k n f : ℕ) → code b ≡ k → size b ≡ n → (k ≡ fixedCode → ⊥) → f ≡ cond (eqb k freeCode) n 0 → IsCell b n f
 is-cell (cell (free m)) k n f ek en nk ef = record { c = free m; is = refl; bytes = en; part = en ∙ sym (rw (← ek) at ef) }
-is-cell (cell (held e)) k n f ek en nk ef = record { c = held e; is = refl; bytes = en; part = sym (rw (← ek) at ef) }
+is-cell (cell (held e)) k n f ek en nk ef = record { c = held e; is = refl; bytes = en; part = sym ((rw (← ek) at ef) ∙ ap (λ (t : Bool). cond t n 0) (not-free e)) }
 is-cell (fixed d) k n f ek en nk ef = absurd (nk (sym ek))
 
 record IsFixed (b : Block) (n : ℕ) : Type 0 where
@@ -77,7 +78,7 @@ record IsFixed (b : Block) (n : ℕ) : Type 0 where
 
 is-fixed : (b : Block) (n : ℕ) → code b ≡ fixedCode → size b ≡ n → IsFixed b n
 is-fixed (cell (free m)) n ek en = let x : ⊥ = omega arith in absurd x
-is-fixed (cell (held e)) n ek en = let x : ⊥ = omega arith in absurd x
+is-fixed (cell (held e)) n ek en = absurd (facts e .movable ek)
 is-fixed (fixed d) n ek en = record { d = d; is = refl; bytes = en }
 
 module _ (z : List ℕ) (p at n k sum tail : ℕ) (st : Stepped z at n) (ek : k ≡ typeOf (drop at z)) (sn : Seen z p at sum tail) where

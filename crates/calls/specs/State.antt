@@ -2,12 +2,12 @@
 -- the lengths and the free handles. B is what is kept of a bay.
 use mathlib.Core.Bool.{cond}
 use mathlib.Core.Option.{Option, none, some, Option·getD}
-use mathlib.Core.List.{List, [], _∷_, _++_}
+use mathlib.Core.List.{List, [], _∷_, _++_, map}
 use Prim.Native.Nat.{ℕ, zero, suc, _+_, _-_}
 use lib.ListN.{length, getD, take, drop, replicate}
 use lib.Dec.{eqb, leb}
 use Rattle.block_type.specs.Limits.{fixedHeader, masterSize, up4}
-use Rattle.kinds.specs.Kinds.{Item, item, holding, is, itemSize}
+use Rattle.kinds.specs.Kinds.{Item, item, mastersOf, holding, is, itemSize}
 use Rattle.calls.specs.Calls.{Target, by-handle, by-pointer, Card, Answer, told}
 use Rattle.calls.specs.Bays.{Bays, last, more, over, findS, findF, maxS, sumS}
 
@@ -34,8 +34,13 @@ newItem h c = item h (replicate (up4 c) 0)
 abbrev pub sized : ℕ → List ℕ → List ℕ
 sized a l = take a l ++ replicate (a - length l) 0
 
-abbrev pub card : Item → Card
-card e = record { handle = e .handle; amount = length (e .bytes) }
+-- a card for each handle: its block's data size
+abbrev pub card : Item → ℕ → Card
+card e h = record { handle = h; amount = length (e .bytes) }
+
+abbrev pub listed : List Item → List Card
+listed [] = []
+listed (e ∷ es) = map (card e) (mastersOf e) ++ listed es
 
 -- n handles: h, h + 4 and so on
 abbrev pub handlesFrom : ℕ → ℕ → List ℕ
@@ -134,4 +139,4 @@ module _ {B : Type 0} (all : B → List Item) where
   ownSum μ h s = Option·getD (findS (λ b. over (λ (e : Item). μ b) (get h (all b))) s) 0
 
   abbrev pub liveCount : State B → ℕ
-  liveCount s = sumS (λ b. length (all b)) (s .bays)
+  liveCount s = sumS (λ b. length (listed (all b))) (s .bays)

@@ -15,7 +15,6 @@ use Rattle.format.proofs.Bool.{and-left, and-right}
 pub use Rattle.format.specs.Steps.{Turn}
 use Rattle.format.specs.WellFormed.{typeOf, sizeOf, handleOf, isFree, isReloc, splitFrom, splitBlocks, relocs}
 use Rattle.format.specs.OneWalk.{ruleOf, blockOk, blocksOk}
-use Rattle.bigendian.proofs.Parts.{drop-pred, drop-take}
 
 from-drop : (k : ℕ) (s : List ℕ) → splitFrom k s ≡ splitBlocks (drop k s)
 unfolding splitFrom

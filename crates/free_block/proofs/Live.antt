@@ -8,10 +8,10 @@ use native.Mathlib.Omega.{arith}
 use mir.Val.{Fits}
 use mir.Syntax.{w64}
 use lib.ListN.{length, drop}
-use borrow.Author.Tests.{eqb-true}
 use Rattle.block_type.specs.Limits.{relocHeader}
 use Rattle.format.specs.WellFormed.{firstField}
-use Rattle.kinds.specs.Kinds.{Item, headerOf, masterOf, itemSize, is}
+use Rattle.kinds.specs.Kinds.{Item, headerOf, itemSize, is}
+use Rattle.kinds.proofs.KindLaws.{is-header}
 use Rattle.bay.specs.Bay.{held, baySize}
 use Rattle.calls.specs.Calls.{free-handle}
 use Rattle.calls.specs.Bays.{over}
@@ -59,8 +59,8 @@ module _ (z : List ℕ) (i : IsZone z) (h : ℕ) (live : placeIn z h ≡ 0 → �
   abbrev pub around : Around (s .blocks) (freed h s .blocks) (cell (held block))
   around = found .1
 
-  pub its : masterOf block ≡ h
-  its = sym (eqb-true h (masterOf block) (found .2))
+  pub its : is h block ≡ true
+  its = found .2
 
   place-is : placeIn z h ≡ start s + (sizes (around .pre) + baySize (around .low)) + headerOf block
   unfolding placeIn
@@ -91,14 +91,17 @@ module _ (z : List ℕ) (i : IsZone z) (h place : ℕ) (e : place ≡ placeIn z 
   abbrev a : Around (decodeZone z .blocks) (freed h (decodeZone z) .blocks) (cell (held b))
   a = around z i h live-is
 
+  head : headerOf b ≡ relocHeader
+  head = is-header h b (its z i h live-is)
+
   pub data-low : relocHeader ≤ place
-  data-low = omega (arith, place-is z i h live-is)
+  data-low = omega (arith, place-is z i h live-is, head)
 
   abbrev at : ℕ
   at = place - relocHeader
 
   at-is : at ≡ start (decodeZone z) + (sizes (a .pre) + baySize (a .low))
-  at-is = omega (arith, place-is z i h live-is)
+  at-is = omega (arith, place-is z i h live-is, head)
 
   room : at + itemSize b ≤ length z
   room = block-fits z i (firstField z) refl (freed h (decodeZone z) .blocks) (cell (held b)) a at at-is
@@ -108,7 +111,7 @@ module _ (z : List ℕ) (i : IsZone z) (h place : ℕ) (e : place ≡ placeIn z 
 
   module _ (n : ℕ) (en : n ≡ length (dataIn z h)) where
     end-is : place + n ≡ at + itemSize b
-    end-is = omega (arith, data-is z i h live-is, data-low)
+    end-is = omega (arith, data-is z i h live-is, data-low, head)
 
     pub end-word : Fits w64 (place + n)
     end-word = record { fits = omega (arith, end-is, room, whole-of z i .limit, whole-of z i .all) }

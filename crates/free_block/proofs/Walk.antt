@@ -22,6 +22,8 @@ use Rattle.free_block.specs.Walk.{Below, Passed, Stopped}
 use Rattle.block_type.specs.Limits.{freeCode}
 use Rattle.structure.specs.IsZone.{IsZone}
 use Rattle.structure.proofs.IsZone.{whole-of}
+use Rattle.kinds.proofs.KindLaws.{not-free}
+use Rattle.kinds.specs.Kinds.{itemSize}
 
 -- ---- one block
 
@@ -31,7 +33,7 @@ same-bool false a = add-zero a
 
 part-kind : (b : Block) → partOf b ≡ cond (eqb (code b) freeCode) (size b) 0
 part-kind (cell (free n)) = refl
-part-kind (cell (held e)) = refl
+part-kind (cell (held e)) = sym (ap (λ (t : Bool). cond t (itemSize e) 0) (not-free e))
 part-kind (fixed d) = refl
 
 -- the free bytes of the block of n bytes at `at`

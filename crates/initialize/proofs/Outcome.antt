@@ -13,6 +13,7 @@ use Rattle.structure.specs.Structure.{encode}
 use Rattle.calls.specs.Calls.{Call, told, toldTwo, check, length-of, sums}
 use Rattle.kinds.specs.Kinds.{Item}
 use Rattle.calls.specs.Table.{refusalOf, badInitialize, first, order}
+use Rattle.calls.specs.State.{listed}
 use Rattle.zone.specs.Work.{Zone, facts, work, fresh}
 use Rattle.zone.specs.Call.{inLine, Result, call, initializeWith, initialize}
 use Rattle.bay.proofs.Laws.{items-gap, bsum-gap}
@@ -36,7 +37,7 @@ init-new n m bs e = go (first order (badInitialize (length bs) n m ∷ [])) refl
     go : (j : ℕ) → first order (badInitialize (length bs) n m ∷ []) ≡ j → (initializeWith j n m bs) .answer .number ≡ 0 → New n m ((initializeWith j n m bs) .bytes)
     go (suc j) q e = let r : (initializeWith (suc j) n m bs) .answer .number ≡ suc j = rw (eqb·suc-zero j) in absurd (omega arith)
     go zero q e = record {
-      checked = asked check refl ∙ ap (λ (es : List Item). toldTwo 0 1 (length es)) (items-gap k []);
+      checked = asked check refl ∙ ap (λ (es : List Item). toldTwo 0 1 (length (listed es))) (items-gap k []);
       sized = asked length-of refl;
       freed = asked sums refl ∙ ap (λ (i : ℕ). toldTwo 0 i i) (bsum-gap k [] ∙ add-zero k);
     }

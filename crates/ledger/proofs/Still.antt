@@ -12,6 +12,7 @@ use Rattle.calls.specs.Calls.{Target, by-handle, by-pointer, Call, allocate-rel
 use Rattle.calls.specs.Bays.{last, more, onLowest, mapS, onFixed, onLast, maxS}
 use Rattle.calls.specs.State.{Fixed, fsize, pointer, alterFixed, newFixed, cutHigh, joinOver, joinAt, dataOf, ownSum, sized}
 use Rattle.calls.specs.Table.{refusalOf}
+use Rattle.kinds.specs.Kinds.{item}
 use Rattle.ledger.specs.Ledger.{Bay, Ledger, Layout, bay, sumOf, entriesOf, change, enter, onEntries, without, resizeIn, facts, work, stepWith, step}
 use Rattle.ledger.specs.Space.{Spot, spot, fixedSpots}
 use Rattle.ledger.specs.Still.{Has, first, later}
@@ -54,7 +55,7 @@ either P false a b p q = q
 resize-spots : (h a : ℕ) (d : List ℕ) (l : Layout) → fixedSpots (resizeIn h a d l) ≡ fixedSpots l
 resize-spots h a d l =
     either (λ (k : Layout). fixedSpots k ≡ fixedSpots l) (leb (a - length d) (ownSum entriesOf sumOf h l)) (change (by-handle h) (sized a) l)
-    (enter (relocHeader + a) (record { handle = h; bytes = sized a d }) (mapS (onEntries (without h)) l))
+    (enter (relocHeader + a) (item h (sized a d)) (mapS (onEntries (without h)) l))
     (map-spots _ l) (lowest-spots _ _ (mapS (onEntries (without h)) l) ∙ map-spots _ l)
 
 -- ---- what adds or takes one

@@ -11,7 +11,7 @@ use Rattle.block_type.specs.Limits.{relocHeader, up4, fixedNeed, relocNeed, zon
 use Rattle.calls.specs.Calls.{Target, by-handle, by-pointer, Call, allocate-relocatable, allocate-fixed, free-handle, free-pointer, resize, size, read, write, view, compact, sums, check, length-of, enlarge, shrink, roster, Card, Answer, toldTwo, shows, lists, refused}
 use Rattle.calls.specs.Bays.{Bays, last, onLowest, mapS, onFixed, onLast, concatS, sumS, maxS, lastS}
 use Rattle.kinds.specs.Kinds.{Item, item, is}
-use Rattle.calls.specs.State.{total, alter, newItem, sized, card, handlesFrom, Fixed, pointer, alterFixed, State, Out, says, done, withBays, cutHigh, joinAt, dataOf, ownSum, liveCount, top, rest}
+use Rattle.calls.specs.State.{total, alter, newItem, sized, listed, handlesFrom, Fixed, pointer, alterFixed, State, Out, says, done, withBays, cutHigh, joinAt, dataOf, ownSum, liveCount, top, rest}
 use Rattle.calls.specs.Table.{Facts, factsOf, refusalOf}
 
 -- ---- "State: L; the buffer's length; free handles as a stack; in address order, bays (capacity, live handles with their bytes)
@@ -99,7 +99,7 @@ strip n l = done n (record { buf = l .buf; len = l .len - n; chain = l .chain; b
 
 -- the roster's records: each live handle with its data size
 abbrev pub cards : Ledger → List Card
-cards l = concatS (λ (b : Bay). map card (b .entries)) (l .bays)
+cards l = concatS (λ (b : Bay). listed (b .entries)) (l .bays)
 
 abbrev pub work : Call → Ledger → Out Bay
 work (allocate-relocatable c) l = allocate c l

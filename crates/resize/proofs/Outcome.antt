@@ -30,12 +30,12 @@ use Rattle.bay.proofs.Laws.{release-items}
 use Rattle.zone.proofs.Sums.{mapS-zero}
 use Rattle.bay.proofs.Resize.{length-sized}
 use Rattle.zone.proofs.Own.{own-shaped}
-use Rattle.zone.proofs.Found.{resize-found, Named, unnamed, named, block-named}
+use Rattle.zone.proofs.Found.{resize-found, block-named}
 use Rattle.zone.proofs.Walk.{each-got}
 use Rattle.zone.proofs.Handles.{count-remove-same}
 use Rattle.zone.proofs.Grouped.{single-live}
 use Rattle.zone.proofs.Run.{well-whole}
-use Rattle.zone.proofs.Once.{often, count-get, blockOf}
+use Rattle.zone.proofs.Once.{Named, unnamed, named, often, count-get, blockOf}
 use Rattle.call_laws.proofs.Accepted.{Accepted, accepted, cleared, before, after}
 use Rattle.call_laws.proofs.Named.{size-there, view-there}
 use Rattle.call_laws.proofs.Placed.{low-found}

@@ -16,7 +16,7 @@ use Rattle.bay.specs.Bay.{Cell, baySize}
 use Rattle.bay.specs.Sound.{Sound}
 use Rattle.structure.specs.Structure.{Block, Structure, sizes, count, start, len, headOf, placeOf, nextOf, value, encode, cell, handlesOf}
 use Rattle.structure.specs.Valid.{Valid}
-use Rattle.structure.proofs.Round.{next-none, offset-is}
+use Rattle.structure.proofs.Round.{next-none}
 use Rattle.access.specs.row.Row as Row
 use Rattle.settle.specs.surgery.Masters as Masters
 use Rattle.slide.specs.ZoneBay.{settled}
@@ -74,7 +74,7 @@ module _ (s : Structure) (v : Valid s) (pre post : List Block) (cs cs′ : List 
     settle-any =
         let l = len s in let f = start s in let m = count s in let c = headOf ks in
         let r = Row.bytesOf (s .blocks) in
-        rw (all-bytes cs′, all-set a cs′ (overwrite (img l f m c g r) a (Row.bytesOf mid′)) (λ h o. omega (arith, offset-is h zoneHeader m (inside h o) .0)))
+        rw (all-bytes cs′, all-set a cs′ (overwrite (img l f m c g r) a (Row.bytesOf mid′)))
         (ap (Masters.setAll a mid′) (img-rest l f m c (sizes pre) a g r (Row.bytesOf mid′) refl)
         ∙ img-all l f m c a mid′ g (overwrite r (sizes pre) (Row.bytesOf mid′)) inside
         ∙ replaced s v pre mid mid′ post ks e sz snd ct (updAll g a mid′) holds)

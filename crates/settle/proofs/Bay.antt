@@ -1,5 +1,5 @@
 -- A run of cells among the blocks of a valid structure is a bay of its bytes.
-use mathlib.Core.Path.{_≡_, refl, sym, ap, _∙_, subst}
+use mathlib.Core.Path.{_≡_, sym, ap, _∙_, subst}
 use mathlib.Core.List.{List, [], _∷_, _++_, map}
 use Prim.Native.Nat.{ℕ, _+_, _-_, _<_, _≤_}
 use native.Mathlib.Omega.{arith}
@@ -7,14 +7,14 @@ use lib.ListN.{length, drop}
 use lib.Seq.{drop-drop, take-at, drop-at}
 use Rattle.format.specs.Occurs.{occurs}
 use Rattle.block_type.specs.Limits.{zoneHeader, masterSize}
-use Rattle.format.proofs.Count.{one-same}
-use Rattle.kinds.specs.Kinds.{masterOf}
+use Rattle.kinds.proofs.KindLaws.{master-all}
 use Rattle.bay.specs.Bay.{Cell, free, held, baySize}
 use Rattle.bay.specs.Sound.{bytesOf, cellsOf, Sound, is-bay}
 use Rattle.bay.proofs.BayBytes as Bytes
 use Rattle.structure.specs.Structure.{Block, Structure, sizes, count, start, encode, cell, handlesOf}
 use Rattle.structure.specs.Valid.{Valid}
 use Rattle.structure.proofs.Round.{offset-is, rest-is, length-is}
+use Rattle.structure.proofs.Append.{occurs-own, occurs-held}
 use Rattle.access.specs.row.Row as Row
 use Rattle.access.proofs.row.Laws.{bytes-append, bytes-long, sound-left, sound-right}
 use Rattle.access.proofs.row.Zone.{valid-sound}
@@ -27,7 +27,7 @@ lows : (lim : ℕ) (cs : List Cell) → masterSize ≤ lim → ((h : ℕ) → 0 
 unfolding handlesOf occurs
 lows lim [] l f = tt
 lows lim (free n ∷ cs) l f = (l, lows lim cs l f)
-lows lim (held e ∷ cs) l f = (f (masterOf e) (omega (arith, one-same (masterOf e) (masterOf e) refl)), lows lim cs l (λ h k. f h (omega arith)))
+lows lim (held e ∷ cs) l f = (master-all (λ (k : ℕ). k + masterSize ≤ lim) e l (λ h q. f h (occurs-own h e (map cell cs) q)), lows lim cs l (λ h k. f h (omega (arith, occurs-held h e (map cell cs)))))
 
 module _ (s : Structure) (v : Valid s) (pre post : List Block) (cs : List Cell) (e : s .blocks ≡ pre ++ (map cell cs ++ post)) where
   abbrev a : ℕ

@@ -1,13 +1,9 @@
 -- The cells of a bay as blocks of a structure: their bytes, sizes, soundness, handles, and the masters' pass over them.
 use mathlib.Core.Path.{_≡_, refl, ap}
 use mathlib.Core.List.{List, [], _∷_, _++_, map}
-use Prim.Native.Nat.{ℕ, _+_, _<_}
+use Prim.Native.Nat.{ℕ, _+_}
 use native.Mathlib.Omega.{arith}
-use borrow.Author.Tests.{ne-eqb}
-use Rattle.format.specs.Occurs.{occurs}
-use Rattle.bigendian.specs.BigEndian.{toBE, overwrite}
-use Rattle.format.proofs.Count.{one-same}
-use Rattle.kinds.specs.Kinds.{headerOf, masterOf, itemSize}
+use Rattle.kinds.specs.Kinds.{itemSize, mastersOf}
 use Rattle.bay.specs.Bay.{Cell, free, held, baySize, items, packed}
 use Rattle.bay.specs.Bytes.{encodeCell}
 use Rattle.bay.specs.Sound.{bytesOf, Sound}
@@ -41,12 +37,10 @@ pub handles-items : (cs : List Cell) → handlesOf (map cell cs) ≡ handlesOf (
 unfolding handlesOf
 handles-items [] = refl
 handles-items (free n ∷ cs) = handles-items cs
-handles-items (held e ∷ cs) = ap (λ (hs : List ℕ). masterOf e ∷ hs) (handles-items cs)
+handles-items (held e ∷ cs) = ap (mastersOf e ++_) (handles-items cs)
 
-pub all-set : (at : ℕ) (cs : List Cell) (z : List ℕ) → ((h : ℕ) → 0 < occurs h (handlesOf (map cell cs)) → 0 < h) → setAll at cs z ≡ Masters.setAll at (map cell cs) z
-unfolding setAll setOne Masters.setAll Masters.setOne handlesOf occurs
-all-set at [] z p = refl
-all-set at (free n ∷ cs) z p = all-set (at + n) cs z p
-all-set at (held e ∷ cs) z p =
-    let l = p (masterOf e) (omega (arith, one-same (masterOf e) (masterOf e) refl)) in
-    rw (ne-eqb (masterOf e) 0 (λ q. omega arith)) (all-set (at + itemSize e) cs (overwrite z (masterOf e) (toBE 4 (at + headerOf e))) (λ h k. p h (omega arith)))
+pub all-set : (at : ℕ) (cs : List Cell) (z : List ℕ) → setAll at cs z ≡ Masters.setAll at (map cell cs) z
+unfolding setAll setOne Masters.setAll Masters.setOne
+all-set at [] z = refl
+all-set at (free n ∷ cs) z = all-set (at + n) cs z
+all-set at (held e ∷ cs) z = all-set (at + itemSize e) cs (setOne at (held e) z)

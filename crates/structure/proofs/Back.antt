@@ -12,19 +12,20 @@ use lib.Seq.{drop-at}
 use Rattle.format.specs.Occurs.{occurs}
 use Rattle.bigendian.specs.BigEndian.{fromBE, toBE, slice}
 use Rattle.bigendian.proofs.Laws.{length-toBE, be-front}
-use Rattle.block_type.specs.Limits.{freeCode, fixedCode, fixedHeader, fixedLimit, relocCode, relocHeader, typeUnit, zoneHeader, freeHeader, handleRange, masterSize, smallestBlock, tagAt, argumentRange}
+use Rattle.block_type.specs.Limits.{freeCode, fixedCode, fixedHeader, fixedLimit, relocHeader, zoneHeader, freeHeader, handleRange, masterSize, smallestBlock, argumentRange}
 use Rattle.memory.specs.Zeros.{allZero}
-use Rattle.format.specs.WellFormed.{typeOf, sizeOf, handleOf, isFree, isReloc, isMaster, masterAt, relocs, offsets, chain}
+use Rattle.format.specs.WellFormed.{typeOf, sizeOf, isFree, isReloc, isMaster, masterAt, relocs, offsets, chain}
 use Rattle.format.specs.OneWalk.{links, typeRule, freeRule, relocRule, blockOk, blocksOk, ruleOf}
 use Rattle.format.proofs.Masters.{Master}
 use Rattle.format.proofs.Count.{one-same}
 use Rattle.structure.specs.Structure.{Block, fixed, size, code, fixedTag, encodeBlock, decodeBlock, byType, sizes, headOf, placeOf, nextOf, words, join, cell, handlesOf}
-use Rattle.kinds.specs.Kinds.{item, itemIn, itemSize, masterOf}
-use Rattle.kinds.proofs.KindLaws.{facts}
+use Rattle.kinds.specs.Kinds.{itemIn, itemSize, Item, is, codeOf, mastersOf}
+use Rattle.kinds.proofs.KindLaws.{facts, item-back, is-header, ok-of, rule-of, masters-long}
 use Rattle.bay.specs.Bay.{Cell, free, held, cellCode}
 use Rattle.bay.specs.Bytes.{encodeCell}
 use Rattle.bay.specs.Sound.{decodeCell, Sound1}
 use Rattle.bay.proofs.CellBytes.{enc, used}
+use Rattle.structure.proofs.Append.{occurs-held, occurs-own}
 use Rattle.structure.specs.Valid.{Tiled}
 
 -- ---- one block
@@ -58,6 +59,10 @@ not-fixed : (c : Cell) → cellCode c ≡ fixedCode → ⊥
 not-fixed (free n) q = omega arith
 not-fixed (held e) q = facts e .movable q
 
+item-of : (i : Item) → Sound1 (held i) → itemIn (encodeBlock (cell (held i))) ≡ i
+unfolding encodeBlock
+item-of i s = item-back i (itemSize i / 2) (omega (arith, s .1)) (s .2)
+
 pub enc-cell : (c : Cell) → Sound1 c → Enc (cell c)
 unfolding encodeBlock
 enc-cell c s =
@@ -69,10 +74,6 @@ unfolding encodeBlock
 enc-fixed d q u =
     let w = used fixedCode (fixedHeader + length d) fixedTag d (omega arith) (omega arith) (omega arith) q (omega arith) in
     record { long = w .long; same = w .same; kind = w .code; back = dec-fixed (encodeBlock (fixed d)) d (w .code) (w .holds) }
-
-handle-enc : (h : ℕ) (d : List ℕ) → h < handleRange → handleOf (encodeBlock (cell (held (item h d)))) ≡ h
-unfolding encodeBlock handleOf
-handle-enc h d u = rw (drop-at (toBE 2 (relocCode * typeUnit + (relocHeader + length d) / 2)) (toBE 2 h ++ d) tagAt (length-toBE 2 (relocCode * typeUnit + (relocHeader + length d) / 2))) (be-front 2 h d (omega arith))
 
 -- ---- the test of a block, from facts
 
@@ -93,6 +94,11 @@ free-good n prev e = rw (e, drop-at (toBE 4 (n / 2)) (replicate (n - freeHeader)
 reloc-good : (z : List ℕ) (first at h : ℕ) → Master first h → masterAt z h ≡ at + relocHeader → relocRule z first at h ≡ true
 unfolding relocRule
 reloc-good z first at h m e = rw (master-of first h m, eq-eqb (masterAt z h) (at + relocHeader) e)
+
+-- a block found among the others is not the first
+not-first : (t : Bool) (n : ℕ) → cond t 1 0 + n ≤ 1 → 0 < n → t ≡ false
+not-first true n l u = let x : ⊥ = omega arith in absurd x
+not-first false n l u = refl
 
 -- ---- all blocks; each handle's master holds its block's place
 
@@ -131,17 +137,21 @@ module _ (z : List ℕ) (first : ℕ) (small : first ≤ handleRange) where
       let k = e .kind in
       cons prev false at (fixed d) bs e (good-of z first prev at (fixed d) e (omega (arith, t .0)) (t .0) (rw k)) (rw k) (rw k (zero-add _))
       (encs false (at + (fixedHeader + length d)) bs (t .3) (record { holds = p .holds; single = p .single }))
-  encs prev at (cell (held it) ∷ bs) t p =
-      let q = p .holds (masterOf it) (omega (arith, one-same (masterOf it) (masterOf it) refl)) in
-      let e = enc-cell (held it) (t .0, t .1, omega (arith, q .0 .fits)) in
+  encs prev at (cell (held i) ∷ bs) t p =
+      let own : (h : ℕ) → is h i ≡ true → Master first h × (masterAt z h ≡ at + relocHeader) = λ h y.
+      let q = p .holds h (occurs-own h i bs y) in
+      (q .0, q .1 ∙ (rw (y, is-header h i y))) in
+      let ok = ok-of i (t .2) (λ h y. omega (arith, own h y .0 .fits)) in
+      let e = enc-cell (held i) (t .0, t .1, ok) in
       let k = e .kind in
-      cons prev false at (cell (held it)) bs e (good-of z first prev at (cell (held it)) e (omega arith) (t .0)
-      (rw (k, handle-enc (masterOf it) (it .bytes) (omega (arith, q .0 .fits))) (reloc-good z first at (masterOf it) (q .0) (rw (eq-eqb (masterOf it) (masterOf it) refl) at (q .1))))) (rw k) (rw k (omega arith))
-      (encs false (at + itemSize it) bs (t .3) (record {
-        holds = λ g l. let r = p .holds g (omega arith) in
-            let other : (g ≡ (masterOf it) → ⊥) = λ x. omega (arith, one-same g (masterOf it) x, p .single g) in
-            (r .0, (rw (ne-eqb g (masterOf it) other) at (r .1)));
-        single = λ g. omega (arith, p .single g);
+      let f = facts i in
+      cons prev false at (cell (held i)) bs e (good-of z first prev at (cell (held i)) e (omega (arith, f .low)) (t .0)
+      (rule-of z first prev at (encodeBlock (cell (held i))) i (item-of i (t .0, t .1, ok)) k (omega (arith, e .same)) (λ h y. reloc-good z first at h (own h y .0) (own h y .1))))
+      (rw (k, ne-eqb (codeOf i) freeCode (λ x. omega (arith, f .used)))) (rw k (omega (arith, masters-long i, length-append (mastersOf i) (handlesOf bs))))
+      (encs false (at + itemSize i) bs (t .3) (record {
+        holds = λ g l. let r = p .holds g (omega (arith, occurs-held g i bs)) in
+            (r .0, (rw (not-first (is g i) (occurs g (handlesOf bs)) (omega (arith, occurs-held g i bs, p .single g)) l) at (r .1)));
+        single = λ g. omega (arith, occurs-held g i bs, p .single g);
       }))
 
 -- ---- the chain

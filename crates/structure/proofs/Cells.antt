@@ -4,6 +4,7 @@ use mathlib.Core.Bool.{Bool, false, false≢true}
 use mathlib.Core.List.{List, [], _∷_, _++_, map}
 use Prim.Native.Nat.{ℕ, zero, suc}
 use native.Mathlib.Omega.{arith}
+use Rattle.kinds.proofs.KindLaws.{facts}
 use Rattle.bay.specs.Bay.{Cell, free, held, gap}
 use Rattle.bay.proofs.Sound as Sound
 use Rattle.structure.specs.Structure.{Block, cell, sizes, placeOf, handlesOf}
@@ -29,5 +30,5 @@ pub tiled-cells : (prev : Bool) (cs : List Cell) (r : List Block) → Tiled prev
 tiled-cells prev [] r t = Sound.s-nil
 tiled-cells prev (free n ∷ []) r t = Sound.s-end {n = n} (omega (arith, t .1, t .2))
 tiled-cells prev (free n ∷ (free m ∷ cs)) r t = absurd (false≢true (sym (t .4 .0)))
-tiled-cells prev (free n ∷ (held e ∷ cs)) r t = Sound.s-free {n = n} (omega (arith, t .1, t .2)) (Sound.s-held {e = e} (omega (arith, t .4 .0)) (tiled-cells false cs r (t .4 .3)))
-tiled-cells prev (held e ∷ cs) r t = Sound.s-held {e = e} (omega (arith, t .0)) (tiled-cells false cs r (t .3))
+tiled-cells prev (free n ∷ (held e ∷ cs)) r t = Sound.s-free {n = n} (omega (arith, t .1, t .2)) (Sound.s-held {e = e} (omega (arith, t .4 .0, facts e .low)) (tiled-cells false cs r (t .4 .3)))
+tiled-cells prev (held e ∷ cs) r t = Sound.s-held {e = e} (omega (arith, t .0, facts e .low)) (tiled-cells false cs r (t .3))

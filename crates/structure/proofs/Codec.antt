@@ -1,5 +1,5 @@
 -- One block: its bytes and its structure.
-use mathlib.Core.Path.{_≡_, refl, sym, ap, _∙_, subst}
+use mathlib.Core.Path.{_≡_, refl, sym, ap, _∙_, subst, ap₂}
 use mathlib.Core.List.{List, [], _∷_, _++_, map}
 use mathlib.Core.Bool.{Bool, true, not}
 use Prim.Native.Nat.{ℕ, zero, suc, _+_, _*_, _-_, _/_, _%_, _≤_}
@@ -7,19 +7,20 @@ use native.Mathlib.Omega.{arith}
 use lib.Dec.{eqb}
 use borrow.Author.Tests.{eqb-true}
 use lib.ListN.{length, take, drop, replicate, length-append, length-take, length-drop, take-append-drop}
-use lib.Seq.{drop-drop, take-append-seam, drop-append-seam}
-use Rattle.block_type.specs.Limits.{fixedHeader, relocHeader, typeUnit, fixedCode, freeHeader, relocCode, smallestBlock, freeCode, tagAt}
-use Rattle.bigendian.specs.BigEndian.{fromBE, toBE, slice, Bytes}
+use lib.Seq.{take-append-seam, drop-append-seam}
+use Rattle.block_type.specs.Limits.{fixedHeader, typeUnit, fixedCode, freeHeader, smallestBlock, freeCode, tagAt}
+use Rattle.bigendian.specs.BigEndian.{fromBE, toBE, Bytes}
 use Rattle.bigendian.proofs.Laws.{be2-at}
-use Rattle.bigendian.proofs.Bytes.{bytes-drop, bytes-left, bytes-right, part-bytes}
+use Rattle.bigendian.proofs.Bytes.{bytes-left, bytes-right, part-bytes}
 use Rattle.bigendian.proofs.Parts.{drop-pred}
 use Rattle.memory.specs.Zeros.{allZero}
 use Rattle.format.proofs.Bool.{and-left, and-right}
-use Rattle.format.specs.WellFormed.{typeOf, sizeOf, handleOf, isFree, splitBlocks, splitFrom}
+use Rattle.format.specs.WellFormed.{typeOf, sizeOf, isFree, splitBlocks, splitFrom}
 use Rattle.format.specs.OneWalk.{typeRule, freeRule, blockOk, blocksOk, ruleOf}
 use Rattle.format.proofs.Walk.{is-good, size-free, size-used, size-take, blocks-cons, blocks-nil}
 use Rattle.structure.specs.Structure.{fixed, encodeBlock, decodeBlock, byType, join, cell}
 use Rattle.kinds.specs.Kinds.{itemIn}
+use Rattle.kinds.proofs.KindLaws.{Read, read}
 use Rattle.bay.specs.Bay.{free, held}
 
 -- ---- joining blocks
@@ -71,24 +72,22 @@ enc-free b e l w zs y =
     let e₂ : replicate (sizeOf b - freeHeader) 0 ≡ drop freeHeader b = rw (w, ← length-drop freeHeader b) (sym (all-zero-is (drop freeHeader b) zs)) in
     rw (e₁, part-bytes 4 b y (omega arith), e₂) (take-append-drop freeHeader b)
 
--- a block that is not free: type and size, the rest of its header of h bytes, its data
-used-back : (b : List ℕ) (k h : ℕ) → typeOf b ≡ suc k → sizeOf b ≡ length b → tagAt ≤ h → h ≤ length b → Bytes b
-    → toBE 2 (suc k * typeUnit + (h + length (drop h b)) / 2) ++ (slice b tagAt (h - tagAt) ++ drop h b) ≡ b
-used-back b k h e w m l y =
-    let e₁ : suc k * typeUnit + (h + length (drop h b)) / 2 ≡ fromBE (take 2 b) = omega (arith, size-used b k e, head-word b (suc k) e (omega arith) y, length-drop h b) in
-    let e₂ : tagAt + (h - tagAt) ≡ h = omega arith in
-    rw (e₁, part-bytes 2 b y (omega arith)) (tail (drop-drop (h - tagAt) tagAt b ∙ ap (λ (n : ℕ). drop n b) e₂))
-  where
-    tail : drop (h - tagAt) (drop tagAt b) ≡ drop h b → take 2 b ++ (slice b tagAt (h - tagAt) ++ drop h b) ≡ b
-    tail q = rw (← q, take-append-drop (h - tagAt) (drop tagAt b)) (take-append-drop tagAt b)
+-- a block that is not free: type and size, then the rest
+used-back : (b : List ℕ) (k : ℕ) → typeOf b ≡ suc k → sizeOf b ≡ length b → tagAt ≤ length b → Bytes b → toBE 2 (suc k * typeUnit + length b / 2) ++ drop tagAt b ≡ b
+used-back b k e w l y =
+    let e₁ : suc k * typeUnit + length b / 2 ≡ fromBE (take 2 b) = omega (arith, size-used b k e, head-word b (suc k) e l y) in
+    rw (e₁, part-bytes 2 b y l) (take-append-drop tagAt b)
 
-enc-fixed : (b : List ℕ) → typeOf b ≡ fixedCode → smallestBlock ≤ sizeOf b → sizeOf b ≡ length b → Bytes b → encodeBlock (fixed (drop fixedHeader b)) ≡ b
+enc-fixed : (b : List ℕ) → typeOf b ≡ fixedCode → tagAt ≤ length b → sizeOf b ≡ length b → Bytes b → encodeBlock (fixed (drop fixedHeader b)) ≡ b
 unfolding encodeBlock
-enc-fixed b e l w y = used-back b 0 fixedHeader e w (omega arith) (omega arith) y
+enc-fixed b e l w y =
+    let n : fixedHeader + length (drop fixedHeader b) ≡ length b = omega (arith, length-drop fixedHeader b) in
+    ap (λ (n : ℕ). toBE 2 (fixedCode * typeUnit + n / 2) ++ drop fixedHeader b) n ∙ used-back b 0 e w l y
 
-enc-reloc : (b : List ℕ) → typeOf b ≡ relocCode → smallestBlock ≤ sizeOf b → sizeOf b ≡ length b → Bytes b → encodeBlock (cell (held (itemIn b))) ≡ b
-unfolding encodeBlock handleOf
-enc-reloc b e l w y = rw (part-bytes 2 (drop tagAt b) (bytes-drop tagAt b y) (omega (arith, length-drop tagAt b))) (used-back b 1 relocHeader e w (omega arith) (omega arith) y)
+enc-item : (b : List ℕ) (k : ℕ) → typeOf b ≡ suc (suc k) → Read b (itemIn b) → tagAt ≤ length b → sizeOf b ≡ length b → Bytes b → encodeBlock (cell (held (itemIn b))) ≡ b
+unfolding encodeBlock
+enc-item b k e x l w y =
+    ap₂ (λ (v : ℕ) (t : List ℕ). toBE 2 v ++ t) (ap₂ (λ (c n : ℕ). c * typeUnit + n / 2) (x .code ∙ e) (x .size)) (x .tag y) ∙ used-back b (suc k) e w l y
 
 pub enc-dec : (z : List ℕ) (first : ℕ) (prev : Bool) (at : ℕ) (b : List ℕ) → blockOk z first prev at b ≡ true → Bytes b → encodeBlock (decodeBlock b) ≡ b
 unfolding decodeBlock typeRule freeRule
@@ -99,9 +98,8 @@ enc-dec z first prev at b g y =
     go : (k : ℕ) → typeOf b ≡ k → smallestBlock ≤ sizeOf b → sizeOf b ≡ length b → ruleOf k z first prev at b b ≡ true
         → encodeBlock (byType k (cell (free (sizeOf b))) (fixed (drop fixedHeader b)) (cell (held (itemIn b)))) ≡ b
     go zero e l w r = enc-free b e l w (and-right (not prev) _ r) y
-    go (suc zero) e l w r = enc-fixed b e l w y
-    go (suc (suc zero)) e l w r = enc-reloc b e l w y
-    go (suc (suc (suc k))) e l w r = let q : _≡_ {A = ℕ} 0 1 = cc in let x : ⊥ = omega arith in absurd x
+    go (suc zero) e l w r = enc-fixed b e (omega arith) w y
+    go (suc (suc k)) e l w r = enc-item b k e (read z first prev at b k g e) (omega arith) w y
 
 -- ---- all blocks
 

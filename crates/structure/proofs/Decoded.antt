@@ -1,6 +1,6 @@
 -- What is decoded from blocks that obey the rules: their sizes, how many handles, where a handle's block is; and what follows a master in the chain.
 use mathlib.Core.Path.{_≡_, refl, sym, ap, _∙_}
-use mathlib.Core.List.{List, [], _∷_, map}
+use mathlib.Core.List.{List, [], _∷_, _++_, map}
 use mathlib.Core.Bool.{Bool, true, false, cond, _&&_}
 use Prim.Native.Nat.{ℕ, zero, suc, _+_}
 use native.Mathlib.Nat.{zero-add}
@@ -8,49 +8,63 @@ use native.Mathlib.Omega.{arith}
 use lib.Dec.{eqb}
 use lib.ListN.{length, drop, length-drop}
 use borrow.Author.Tests.{eqb-true, eqb-false, ne-eqb}
-use Rattle.block_type.specs.Limits.{fixedHeader, relocHeader, freeCode, fixedCode, relocCode}
+use Rattle.block_type.specs.Limits.{fixedHeader, relocHeader, freeCode, fixedCode}
 use Rattle.format.specs.Occurs.{occurs}
 use Rattle.format.proofs.Bool.{and-left, and-right}
 use Rattle.format.specs.WellFormed.{typeOf, sizeOf, handleOf, isFree, isReloc, isMaster, masterAt, relocs, chain}
-use Rattle.format.specs.OneWalk.{links, typeRule, blockOk, blocksOk, ruleOf}
+use Rattle.format.specs.OneWalk.{links, blockOk, blocksOk}
 use Rattle.format.proofs.Walk.{is-good}
 use Rattle.format.proofs.Count.{one, one-same, one-other}
 use Rattle.format.proofs.Handles.{handles, total, is-held}
-use Rattle.kinds.specs.Kinds.{itemIn}
+use Rattle.kinds.specs.Kinds.{itemIn, headerOf, itemSize, is}
+use Rattle.kinds.proofs.KindLaws.{Read, is-header, read}
 use Rattle.bay.specs.Bay.{free, held}
 use Rattle.structure.specs.Structure.{Block, fixed, size, decodeBlock, byType, sizes, headOf, placeOf, nextOf, cell, handlesOf}
 
 module _ (z : List ℕ) (first : ℕ) (prev : Bool) (at : ℕ) (b : List ℕ) (g : blockOk z first prev at b ≡ true) where
   -- by type
-  pub by : (P : ℕ → Type 0) → (typeOf b ≡ freeCode → P freeCode) → (typeOf b ≡ fixedCode → P fixedCode) → (typeOf b ≡ relocCode → P relocCode) → P (typeOf b)
-  unfolding typeRule
-  by P a₀ a₁ a₂ = go (typeOf b) refl (is-good z first prev at b g .rule)
+  pub by : (P : ℕ → Type 0) → (typeOf b ≡ freeCode → P freeCode) → (typeOf b ≡ fixedCode → P fixedCode) → ((k : ℕ) → typeOf b ≡ suc (suc k) → Read b (itemIn b) → P (suc (suc k))) → P (typeOf b)
+  by P a₀ a₁ a₂ = go (typeOf b) refl
     where
-      go : (k : ℕ) → typeOf b ≡ k → ruleOf k z first prev at b b ≡ true → P k
-      go zero e r = a₀ e
-      go (suc zero) e r = a₁ e
-      go (suc (suc zero)) e r = a₂ e
-      go (suc (suc (suc k))) e r = let q : _≡_ {A = ℕ} 0 1 = cc in let x : ⊥ = omega arith in absurd x
+      go : (k : ℕ) → typeOf b ≡ k → P k
+      go zero e = a₀ e
+      go (suc zero) e = a₁ e
+      go (suc (suc k)) e = a₂ k e (read z first prev at b k g e)
 
   pub size-dec : size (decodeBlock b) ≡ length b
   unfolding decodeBlock
   size-dec =
       let gb = is-good z first prev at b g in
       by (λ k. size (byType k (cell (free (sizeOf b))) (fixed (drop fixedHeader b)) (cell (held (itemIn b)))) ≡ length b)
-      (λ e. gb .whole) (λ e. omega (arith, gb .low, gb .whole, length-drop fixedHeader b)) (λ e. omega (arith, gb .low, gb .whole, length-drop relocHeader b))
+      (λ e. gb .whole) (λ e. omega (arith, gb .low, gb .whole, length-drop fixedHeader b)) (λ k e x. x .size)
+
+  pub handle-dec : (bs : List Block) → handlesOf (decodeBlock b ∷ bs) ≡ cond (isReloc b) (handleOf b ∷ handlesOf bs) (handlesOf bs)
+  unfolding decodeBlock handlesOf isReloc
+  handle-dec bs =
+      by (λ k. handlesOf (byType k (cell (free (sizeOf b))) (fixed (drop fixedHeader b)) (cell (held (itemIn b))) ∷ bs) ≡ cond (isReloc b) (handleOf b ∷ handlesOf bs) (handlesOf bs))
+      (λ e. rw e) (λ e. rw e) (λ k e x. ap (_++ handlesOf bs) (x .masters) ∙ join-cond (isReloc b))
+    where
+      join-cond : (t : Bool) → cond t (handleOf b ∷ []) [] ++ handlesOf bs ≡ cond t (handleOf b ∷ handlesOf bs) (handlesOf bs)
+      join-cond true = refl
+      join-cond false = refl
 
   pub count-dec : (bs : List Block) → length (handlesOf (decodeBlock b ∷ bs)) ≡ cond (isReloc b) 1 0 + length (handlesOf bs)
-  unfolding decodeBlock handlesOf isReloc
-  count-dec bs =
-      by (λ k. length (handlesOf (byType k (cell (free (sizeOf b))) (fixed (drop fixedHeader b)) (cell (held (itemIn b))) ∷ bs)) ≡ cond (eqb k relocCode) 1 0 + length (handlesOf bs))
-      (λ e. omega arith) (λ e. omega arith) (λ e. omega arith)
+  count-dec bs = ap length (handle-dec bs) ∙ go (isReloc b)
+    where
+      go : (t : Bool) → length (cond t (handleOf b ∷ handlesOf bs) (handlesOf bs)) ≡ cond t 1 0 + length (handlesOf bs)
+      go true = omega arith
+      go false = omega arith
 
   pub place-dec : (h o : ℕ) (bs : List Block) → placeOf h o (decodeBlock b ∷ bs) ≡ cond (isReloc b && eqb h (handleOf b)) (o + relocHeader) (placeOf h (o + size (decodeBlock b)) bs)
   unfolding decodeBlock placeOf isReloc
   place-dec h o bs =
       by (λ k. placeOf h o (byType k (cell (free (sizeOf b))) (fixed (drop fixedHeader b)) (cell (held (itemIn b))) ∷ bs)
-      ≡ cond (eqb k relocCode && eqb h (handleOf b)) (o + relocHeader) (placeOf h (o + size (byType k (cell (free (sizeOf b))) (fixed (drop fixedHeader b)) (cell (held (itemIn b))))) bs))
-      (λ e. refl) (λ e. refl) (λ e. refl)
+      ≡ cond (isReloc b && eqb h (handleOf b)) (o + relocHeader) (placeOf h (o + size (byType k (cell (free (sizeOf b))) (fixed (drop fixedHeader b)) (cell (held (itemIn b))))) bs))
+      (λ e. rw e) (λ e. rw e) (λ k e x. its (is h (itemIn b)) (is-header h (itemIn b)) ∙ ap (λ (t : Bool). cond t (o + relocHeader) (placeOf h (o + itemSize (itemIn b)) bs)) (x .one h))
+    where
+      its : (t : Bool) → (t ≡ true → headerOf (itemIn b) ≡ relocHeader) → cond t (o + headerOf (itemIn b)) (placeOf h (o + itemSize (itemIn b)) bs) ≡ cond t (o + relocHeader) (placeOf h (o + itemSize (itemIn b)) bs)
+      its true f = ap (o +_) (f refl)
+      its false f = refl
 
 module _ (z : List ℕ) (first : ℕ) where
   pub sizes-decs : (prev : Bool) (at : ℕ) (bs : List (List ℕ)) → blocksOk z first prev at bs ≡ true → sizes (map decodeBlock bs) ≡ total bs

@@ -9,7 +9,7 @@ use borrow.Author.Tests.{eqb-true, eqb-false, eq-eqb, ne-eqb, le-leb}
 use lib.ListN.{length, getD, drop, length-append}
 use lib.Seq.{take-at, drop-at, drop-drop}
 use Rattle.format.specs.Occurs.{occurs}
-use Rattle.block_type.specs.Limits.{fixedHeader, longestZone, masterSize, mostMasters, relocHeader, zoneHeader, handleRange, argumentRange, firstBlock, zerosAt}
+use Rattle.block_type.specs.Limits.{fixedHeader, longestZone, masterSize, mostMasters, zoneHeader, handleRange, argumentRange, firstBlock, zerosAt}
 use Rattle.bigendian.specs.BigEndian.{toBE}
 use Rattle.bigendian.proofs.Laws.{be-toBE, length-toBE}
 use Rattle.format.specs.WellFormed.{headerOk, lengthField, firstField, mastersField, chainField, splitBlocks, masterAt, relocs, zoneOf, wellFormed, offsets}
@@ -17,13 +17,14 @@ use Rattle.format.proofs.OneWalk.{one-walk}
 use Rattle.format.specs.OneWalk.{bodyOk}
 use Rattle.format.proofs.Masters.{Master}
 use Rattle.format.proofs.Count.{All, one-same, one-other, occurs-offset, length-offsets, all-of}
-use Rattle.kinds.specs.Kinds.{itemSize, masterOf}
 use Rattle.structure.specs.Structure.{Block, fixed, Structure, encodeBlock, sizes, count, start, len, headOf, placeOf, nextOf, value, words, join, header, encode, decodeZone, decode, cell, handlesOf}
 use Rattle.bay.specs.Bay.{free, held}
+use Rattle.kinds.specs.Kinds.{itemSize, headerOf, is}
 use Rattle.structure.proofs.Codec.{blocks-join}
 use Rattle.structure.specs.Valid.{Tiled, Valid}
 use Rattle.structure.proofs.Back.{Placed, Encs, encs, Linked, chain-links, chain-back, words-at}
 use Rattle.structure.proofs.Words.{length-words}
+use Rattle.structure.proofs.Append.{occurs-held}
 
 -- ---- the header
 
@@ -98,16 +99,20 @@ unfolding occurs placeOf handlesOf
 place-none h at [] e = refl
 place-none h at (cell (free n) ∷ bs) e = place-none h (at + n) bs e
 place-none h at (fixed d ∷ bs) e = place-none h (at + (fixedHeader + length d)) bs e
-place-none h at (cell (held it) ∷ bs) e = rw (ne-eqb h (masterOf it) (λ x. omega (arith, one-same h (masterOf it) x))) (place-none h (at + itemSize it) bs (omega arith))
+place-none h at (cell (held e) ∷ bs) q = go (is h e) (sym (occurs-held h e bs) ∙ q) (place-none h (at + itemSize e) bs)
+  where
+    go : (t : Bool) → cond t 1 0 + occurs h (handlesOf bs) ≡ 0 → (occurs h (handlesOf bs) ≡ 0 → placeOf h (at + itemSize e) bs ≡ 0) → cond t (at + headerOf e) (placeOf h (at + itemSize e) bs) ≡ 0
+    go true q r = let x : ⊥ = omega arith in absurd x
+    go false q r = r (omega arith)
 
 place-le : (h at : ℕ) (bs : List Block) → placeOf h at bs ≤ at + sizes bs
 unfolding placeOf sizes
 place-le h at [] = omega arith
 place-le h at (cell (free n) ∷ bs) = omega (arith, place-le h (at + n) bs)
 place-le h at (fixed d ∷ bs) = omega (arith, place-le h (at + (fixedHeader + length d)) bs)
-place-le h at (cell (held it) ∷ bs) = go (eqb h (masterOf it)) (place-le h (at + itemSize it) bs)
+place-le h at (cell (held e) ∷ bs) = go (is h e) (place-le h (at + itemSize e) bs)
   where
-    go : (t : Bool) → placeOf h (at + itemSize it) bs ≤ at + itemSize it + sizes bs → cond t (at + relocHeader) (placeOf h (at + itemSize it) bs) ≤ at + (relocHeader + length (it .bytes) + sizes bs)
+    go : (t : Bool) → placeOf h (at + itemSize e) bs ≤ at + itemSize e + sizes bs → cond t (at + headerOf e) (placeOf h (at + itemSize e) bs) ≤ at + (itemSize e + sizes bs)
     go true i = omega arith
     go false i = omega arith
 

@@ -5,10 +5,10 @@ use mathlib.Core.Bool.{Bool, true, false, cond, not}
 use Prim.Native.Nat.{ℕ, zero, suc, _+_, _-_, _<_, _≤_}
 use native.Mathlib.Omega.{arith}
 use lib.Dec.{eqb}
-use borrow.Author.Tests.{not-true}
+use borrow.Author.Tests.{not-true, ne-eqb}
 use lib.ListN.{length, drop, length-append, length-drop}
 use Rattle.format.specs.Occurs.{occurs}
-use Rattle.block_type.specs.Limits.{longestZone, zoneHeader, fixedHeader, relocHeader, relocCode, freeCode}
+use Rattle.block_type.specs.Limits.{longestZone, zoneHeader, fixedHeader, freeCode}
 use Rattle.bigendian.specs.BigEndian.{Bytes}
 use Rattle.bigendian.proofs.Bytes.{bytes-drop, bytes-left, bytes-right}
 use Rattle.format.proofs.Bool.{and-left, and-right}
@@ -20,28 +20,22 @@ use Rattle.format.proofs.Count.{occurs-offset, all-at}
 use Rattle.format.proofs.Live.{owned}
 use Rattle.format.proofs.Chain.{chain-low}
 use Rattle.format.proofs.Handles.{handles, handles-high}
-use Rattle.structure.specs.Structure.{Block, fixed, decodeBlock, byType, join, decodeZone, decode, cell, handlesOf}
+use Rattle.structure.specs.Structure.{fixed, decodeBlock, byType, join, decodeZone, decode, cell, handlesOf}
 use Rattle.kinds.specs.Kinds.{itemIn}
+use Rattle.kinds.proofs.KindLaws.{read}
 use Rattle.bay.specs.Bay.{free, held}
 use Rattle.structure.proofs.Codec.{join-blocks}
 use Rattle.structure.proofs.Table.{Whole, whole, count-is, len-is}
 use Rattle.structure.proofs.Round.{offset-is}
 use Rattle.structure.specs.Valid.{Tiled, Valid}
-use Rattle.structure.proofs.Decoded.{by}
+use Rattle.structure.proofs.Decoded.{handle-dec}
 
 module _ (z : List ℕ) (first : ℕ) where
-  handle-dec : (prev : Bool) (at : ℕ) (b : List ℕ) (bs : List Block) → blockOk z first prev at b ≡ true
-      → handlesOf (decodeBlock b ∷ bs) ≡ cond (isReloc b) (handleOf b ∷ handlesOf bs) (handlesOf bs)
-  unfolding decodeBlock handlesOf isReloc
-  handle-dec prev at b bs g =
-      by z first prev at b g (λ k. handlesOf (byType k (cell (free (sizeOf b))) (fixed (drop fixedHeader b)) (cell (held (itemIn b))) ∷ bs) ≡ cond (eqb k relocCode) (handleOf b ∷ handlesOf bs) (handlesOf bs))
-      (λ e. refl) (λ e. refl) (λ e. refl)
-
   pub handles-decs : (prev : Bool) (at : ℕ) (bs : List (List ℕ)) → blocksOk z first prev at bs ≡ true → handlesOf (map decodeBlock bs) ≡ handles bs
   unfolding handles blocksOk handlesOf
   handles-decs prev at [] g = refl
   handles-decs prev at (b ∷ bs) g =
-      handle-dec prev at b (map decodeBlock bs) (and-left _ (blocksOk z first (isFree b) (at + length b) bs) g)
+      handle-dec z first prev at b (and-left _ (blocksOk z first (isFree b) (at + length b) bs) g) (map decodeBlock bs)
       ∙ ap (λ (hs : List ℕ). cond (isReloc b) (handleOf b ∷ hs) hs) (handles-decs (isFree b) (at + length b) bs (and-right (blockOk z first prev at b) _ g))
 
   pub tiled-decs : (prev : Bool) (at : ℕ) (bs : List (List ℕ)) → blocksOk z first prev at bs ≡ true → Bytes (join bs) → length (join bs) ≤ longestZone → Tiled prev (map decodeBlock bs)
@@ -58,8 +52,8 @@ module _ (z : List ℕ) (first : ℕ) where
           → Tiled (eqb k freeCode) (map decodeBlock bs) → Tiled prev (byType k (cell (free (sizeOf b))) (fixed (drop fixedHeader b)) (cell (held (itemIn b))) ∷ map decodeBlock bs)
       go zero e gb r y u t = (not-true prev (and-left (not prev) _ r), gb .low, gb .four, omega (arith, gb .whole), t)
       go (suc zero) e gb r y u t = (omega (arith, gb .low, gb .four, gb .whole, length-drop fixedHeader b), omega (arith, gb .four, gb .whole, length-drop fixedHeader b, size-used b 0 e), bytes-drop fixedHeader b y, t)
-      go (suc (suc zero)) e gb r y u t = (omega (arith, gb .low, gb .four, gb .whole, length-drop relocHeader b), omega (arith, gb .four, gb .whole, length-drop relocHeader b, size-used b 1 e), bytes-drop relocHeader b y, t)
-      go (suc (suc (suc k))) e gb r y u t = let q : _≡_ {A = ℕ} 0 1 = cc in let x : ⊥ = omega arith in absurd x
+      go (suc (suc k)) e gb r y u t = let x = read z first prev at b k (and-left _ (blocksOk z first (isFree b) (at + length b) bs) g) e in
+          (rw (x .size, ← gb .whole) (gb .four), omega (arith, gb .four, gb .whole, x .size, size-used b (suc k) e), x .written y, (rw (ne-eqb (suc (suc k)) freeCode (λ q. omega arith)) at t))
 
 module _ (z : List ℕ) (w : Whole z) where
   abbrev bs : List (List ℕ)

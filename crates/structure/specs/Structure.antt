@@ -7,7 +7,7 @@ use lib.ListN.{length, drop}
 use lib.Dec.{eqb}
 use Rattle.bigendian.specs.BigEndian.{toBE}
 use Rattle.block_type.specs.Limits.{fixedCode, fixedHeader, zoneHeader, firstBlock, typeUnit}
-use Rattle.kinds.specs.Kinds.{headerOf, masterOf, is, itemSize, itemIn}
+use Rattle.kinds.specs.Kinds.{headerOf, mastersOf, is, itemSize, itemIn}
 use Rattle.bay.specs.Bay.{Cell, free, held, cellSize, cellCode}
 use Rattle.bay.specs.Bytes.{encodeCell}
 use Rattle.format.specs.WellFormed.{firstField, mastersField, chainField, typeOf, sizeOf, splitBlocks, relocs, zoneOf, offsets, chain}
@@ -51,7 +51,7 @@ sizes (b ∷ bs) = size b + sizes bs
 unfoldable pub handlesOf : List Block → List ℕ
 handlesOf [] = []
 handlesOf (cell (free n) ∷ bs) = handlesOf bs
-handlesOf (cell (held e) ∷ bs) = masterOf e ∷ handlesOf bs
+handlesOf (cell (held e) ∷ bs) = mastersOf e ++ handlesOf bs
 handlesOf (fixed d ∷ bs) = handlesOf bs
 
 -- m: "relocatable blocks plus chain length"

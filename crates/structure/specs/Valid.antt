@@ -9,7 +9,7 @@ use Rattle.bigendian.specs.BigEndian.{Bytes}
 use Rattle.format.specs.WellFormed.{offsets}
 use Rattle.format.specs.Occurs.{occurs}
 use Rattle.structure.specs.Structure.{Block, fixed, Structure, count, len, cell, handlesOf}
-use Rattle.kinds.specs.Kinds.{itemSize}
+use Rattle.kinds.specs.Kinds.{itemSize, Written}
 use Rattle.bay.specs.Bay.{free, held}
 
 -- sizes as the format has them, and no two free neighbours; prev: the block before is free
@@ -17,7 +17,7 @@ abbrev pub Tiled : Bool → List Block → Type 0
 Tiled prev [] = Unit {0}
 Tiled prev (cell (free n) ∷ bs) = (prev ≡ false) × (smallestBlock ≤ n) × (n % 4 ≡ 0) × (n ≤ longestZone) × Tiled true bs
 Tiled prev (fixed d ∷ bs) = ((fixedHeader + length d) % 4 ≡ 0) × (length d ≤ fixedLimit) × Bytes d × Tiled false bs
-Tiled prev (cell (held e) ∷ bs) = (itemSize e % 4 ≡ 0) × (itemSize e ≤ largestBlock) × Bytes (e .bytes) × Tiled false bs
+Tiled prev (cell (held e) ∷ bs) = (itemSize e % 4 ≡ 0) × (itemSize e ≤ largestBlock) × Written e × Tiled false bs
 
 pub record Valid (s : Structure) : Type 0 where
   pub tiled : Tiled false (s .blocks)

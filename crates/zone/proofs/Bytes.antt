@@ -6,10 +6,10 @@ use Prim.Native.Nat.{ℕ, zero, suc, _+_, _-_, _/_, _%_, _^_, _*_}
 use lib.ListN.{replicate}
 use lib.Dec.{eqb}
 use Rattle.calls.specs.Bays.{Bays, last, more, orElse}
-use Rattle.kinds.specs.Kinds.{Item, itemSize, is}
+use Rattle.kinds.specs.Kinds.{Item, itemSize, is, codeOf, headerOf, tagOf}
 use Rattle.calls.specs.State.{Fixed, fsize, handlesFrom}
 use Rattle.bay.specs.Bay.{Cell, free, held, baySize}
-use Rattle.block_type.specs.Limits.{relocHeader, firstBlock, relocCode, typeUnit, zoneHeader, fixedCode, freeHeader}
+use Rattle.block_type.specs.Limits.{firstBlock, typeUnit, zoneHeader, fixedCode, freeHeader}
 use Rattle.structure.specs.Structure.{fixedTag}
 use Rattle.zone.specs.Work.{Zone}
 
@@ -22,7 +22,7 @@ abbrev pub freeBytes : ℕ → List ℕ
 freeBytes n = big 4 (n / 2) ++ replicate (n - freeHeader) 0
 
 abbrev pub itemBytes : Item → List ℕ
-itemBytes e = big 2 (relocCode * typeUnit + itemSize e / 2) ++ (big 2 (e .handle) ++ e .bytes)
+itemBytes e = big 2 (codeOf e * typeUnit + itemSize e / 2) ++ (tagOf e ++ e .bytes)
 
 abbrev pub cellBytes : List Cell → List ℕ
 cellBytes [] = []
@@ -44,7 +44,7 @@ blockBytes (more b x s) = cellBytes b ++ (fixedBytes x ++ blockBytes s)
 abbrev pub whereIn : ℕ → ℕ → List Cell → Option ℕ
 whereIn h p [] = none
 whereIn h p (free n ∷ cs) = whereIn h (p + n) cs
-whereIn h p (held e ∷ cs) = cond (is h e) (some (p + relocHeader)) (whereIn h (p + itemSize e) cs)
+whereIn h p (held e ∷ cs) = cond (is h e) (some (p + headerOf e)) (whereIn h (p + itemSize e) cs)
 
 abbrev pub whereS : ℕ → ℕ → Bays (List Cell) Fixed → Option ℕ
 whereS h p (last b) = whereIn h p b

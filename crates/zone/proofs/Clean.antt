@@ -1,5 +1,5 @@
 -- What holds of every block's data: bytes, and no more than a header can say. Kept by each call that is fed with bytes.
-use mathlib.Core.Path.{_≡_, subst}
+use mathlib.Core.Path.{_≡_, subst, refl}
 use mathlib.Core.Bool.{Bool, true, false, cond}
 use mathlib.Core.Option.{Option}
 use mathlib.Core.List.{List, [], _∷_, _++_, map, List·Permᴰ, List·Permᴰ·nil, List·Permᴰ·cons, List·Permᴰ·swap, List·Permᴰ·trans, Permᴰ·symm}
@@ -12,7 +12,8 @@ use Rattle.bigendian.specs.BigEndian.{Bytes}
 use Rattle.bigendian.proofs.Bytes.{bytes-take, bytes-zeros, bytes-append}
 use Rattle.calls.specs.Bays.{Bays, last, more, mapS, onFixed, onLast, lastS, findS}
 use Rattle.zone.specs.PickBays.{onLow, onHigh, onJoin}
-use Rattle.kinds.specs.Kinds.{Item, itemSize, is}
+use Rattle.kinds.specs.Kinds.{Item, itemSize, is, Written, item, holding}
+use Rattle.kinds.proofs.KindLaws.{bytes-of, written-item, written-holding, is-header}
 use Rattle.calls.specs.State.{get, alter, sized, Fixed, fsize, pointer, alterFixed, newItem, newFixed}
 use Rattle.bay.specs.Bay.{Cell, baySum, items, gap, joinBays, compactBay, put, takeHigh, release, edit, resized, reshape}
 use Rattle.bay.specs.Counted.{remove}
@@ -21,7 +22,7 @@ use Rattle.bay.proofs.Holes.{put-keeps}
 use Rattle.bay.proofs.Laws.{cut-less, tidy-items, items-weld, items-gap, release-items, edit-items}
 use Rattle.bay.proofs.Resize.{length-sized}
 use Rattle.zone.proofs.Own.{own-shaped}
-use Rattle.block_type.specs.Limits.{relocLimit, fixedLimit, fixedHeader, up4}
+use Rattle.block_type.specs.Limits.{relocLimit, fixedLimit, fixedHeader, up4, largestBlock}
 use Rattle.zone.specs.Search.{lookup, own}
 use Rattle.bay.proofs.Sound.{Block}
 use Rattle.zone.proofs.Walk.{Closed, any, Feeds}
@@ -96,9 +97,9 @@ module _ {P : Item → Type 0} where
   items-map f h i-nil = i-nil
   items-map f h (i-cons {e = e} x i) = i-cons (h e x) (items-map f h i)
 
-  pub items-get : (h : ℕ) {a : List Item} → Items P a → Each P (get h a)
+  pub items-get : (h : ℕ) {a : List Item} → Items P a → Each (λ (e : Item). P e × (is h e ≡ true)) (get h a)
   items-get h i-nil = nothing
-  items-get h (i-cons {e = e} x i) = each-cond (is h e) (λ k. just x) (items-get h i)
+  items-get h (i-cons {e = e} x i) = each-cond (is h e) (λ k. just (x, k)) (items-get h i)
 
 -- ---- bytes
 
@@ -108,8 +109,9 @@ pub record Data (n : ℕ) (l : List ℕ) : Type 0 where
   pub bytes : Bytes l
   pub short : length l ≤ n
 
-abbrev pub ItemOk : Item → Type 0
-ItemOk e = Data relocLimit (e .bytes)
+pub record ItemOk (e : Item) : Type 0 where
+  pub written : Written e
+  pub short : itemSize e ≤ largestBlock
 
 pub record FixedOk (x : Fixed) : Type 0 where
   pub holds : Data fixedLimit (x .bytes)
@@ -127,12 +129,19 @@ zeros-data n k l = record { bytes = bytes-zeros n; short = omega (arith, length-
 sized-data : (a k : ℕ) (l : List ℕ) → a ≤ k → Bytes l → Data k (sized a l)
 sized-data a k l q y = record { bytes = bytes-append (take a l) (replicate (a - length l) 0) (bytes-take a l y) (bytes-zeros (a - length l)); short = omega (arith, length-sized a l) }
 
+item-ok : (h : ℕ) {d : List ℕ} → Data relocLimit d → ItemOk (item h d)
+item-ok h {d} y = record { written = written-item h d (y .bytes); short = omega (arith, y .short) }
+
+-- the block of a handle, with other data
+holding-ok : (h : ℕ) (e : Item) {d : List ℕ} → is h e ≡ true → ItemOk e → Data relocLimit d → ItemOk (holding e d)
+holding-ok h e {d} q k y = record { written = written-holding e d (k .written) (y .bytes); short = omega (arith, y .short, is-header h e q) }
+
 alter-data : (h : ℕ) (f : List ℕ → List ℕ) → ((l : List ℕ) → Data relocLimit l → Data relocLimit (f l)) → (e : Item) → ItemOk e → ItemOk (alter h f e)
-alter-data h f k e d = go (is h e)
+alter-data h f k e d = go (is h e) refl
   where
-    go : (t : Bool) → ItemOk (cond t (record { handle = e .handle; bytes = f (e .bytes) }) e)
-    go true = k (e .bytes) d
-    go false = d
+    go : (t : Bool) → is h e ≡ t → ItemOk (cond t (holding e (f (e .bytes))) e)
+    go true q = holding-ok h e q d (k (e .bytes) (record { bytes = bytes-of e (d .written); short = omega (arith, d .short, is-header h e q) }))
+    go false q = d
 
 feed-data : (k : ℕ) (f : List ℕ → List ℕ) → ((l : List ℕ) → length (f l) ≡ length l) → Feeds f → (l : List ℕ) → Data k l → Data k (f l)
 feed-data k f q y l d = record { bytes = y .feeds l (d .bytes); short = omega (arith, q l, d .short) }
@@ -158,7 +167,7 @@ join-ok b c n p q = rw (items-weld b (gap n c), items-gap n c) (items-append p q
 
 pub clean-closed : Closed Clean
 clean-closed = record {
-  low = λ z h hs c lim q g. each-weaken (λ b r. record { clean = r }) (every-low _ (put (newItem h c)) (λ b t p. put-ok (newItem h c) (zeros-data (up4 c) relocLimit (omega arith)) b t p) (g .clean));
+  low = λ z h hs c lim q g. each-weaken (λ b r. record { clean = r }) (every-low _ (put (newItem h c)) (λ b t p. put-ok (newItem h c) (item-ok h (zeros-data (up4 c) relocLimit (omega arith))) b t p) (g .clean));
   high = λ z n b lim g. each-weaken (λ r q. record { clean = q })
       (every-high _ (takeHigh n) (newFixed n) [] _ (z .len) (λ b t p. rw (cut-less n b (leb-true n (baySum b) t) .same) p) (λ end. new-fixed-ok n end b lim) i-nil (g .clean));
   drop = λ z h g. each-weaken (λ e u. record { clean = every-map (release h) (release-ok h) (g .clean) }) (any (lookup h z));
@@ -167,8 +176,8 @@ clean-closed = record {
   edit-fixed = λ z p f y g. record { clean = every-fixed (alterFixed p f) (alter-fixed-ok p f (y .long) y) (g .clean) };
   resize = λ z h a q g. each-weaken (λ e d lim. each-weaken (λ b r. record { clean = r })
       (each-orElse (every-low (own h a) (reshape h a) (λ b t p. rw (own-shaped h a b t .same) (items-map (alter h (sized a)) (alter-data h (sized a) (λ l d. sized-data a relocLimit l lim (d .bytes))) p)) (g .clean))
-      (every-low _ (put (resized a e)) (λ b t p. put-ok (resized a e) (sized-data a relocLimit (e .bytes) lim (d .bytes)) b t p) (every-map (release h) (release-ok h) (g .clean)))))
-      (every-find ItemOk (λ (b : List Cell). get h (items b)) (λ b p. items-get h p) (g .clean));
+      (every-low _ (put (resized a e)) (λ b t p. put-ok (resized a e) (holding-ok h e (d .1) (d .0) (sized-data a relocLimit (e .bytes) lim (bytes-of e (d .0 .written)))) b t p) (every-map (release h) (release-ok h) (g .clean)))))
+      (every-find (λ (e : Item). ItemOk e × (is h e ≡ true)) (λ (b : List Cell). get h (items b)) (λ b p. items-get h p) (g .clean));
   compactBay = λ z g. record { clean = every-map compactBay (λ b p. rw (tidy-items b) p) (g .clean) };
   grow = λ z n q l o g. record { clean = every-last _ (λ p. join-ok (lastS (z .bays)) [] n p i-nil) (g .clean) };
   takeHigh = λ z j n q g. record { clean = every-last _ (λ p. rw (cut-less n (lastS (z .bays)) (omega (arith, q)) .same) p) (g .clean) };

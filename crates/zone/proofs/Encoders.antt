@@ -10,14 +10,14 @@ use lib.ListN.{replicate}
 use lib.Dec.{eqb}
 use Rattle.format.specs.Occurs.{occurs}
 use Rattle.format.specs.WellFormed.{offsets}
-use Rattle.block_type.specs.Limits.{masterSize, relocCode, typeUnit, zoneHeader, fixedCode, freeHeader, relocHeader}
+use Rattle.block_type.specs.Limits.{masterSize, typeUnit, zoneHeader, fixedCode, freeHeader}
 use Rattle.bigendian.specs.BigEndian.{toBE}
 use Rattle.structure.specs.Structure as Shape
 use Rattle.structure.specs.Structure.{Block, fixed, count, len, fixedTag, encodeBlock, placeOf, headOf, value, words, join, encode}
 use Rattle.calls.specs.Bays.{Bays, last, more, orElse}
 use Rattle.bay.specs.Counted as Counted
 use Rattle.bay.specs.Counted.{live}
-use Rattle.kinds.specs.Kinds.{itemSize}
+use Rattle.kinds.specs.Kinds.{itemSize, codeOf, headerOf, is, tagOf}
 use Rattle.calls.specs.State.{Fixed, fsize, handlesFrom}
 use Rattle.bay.specs.Bay.{Cell, free, held, baySize, items}
 use Rattle.bay.proofs.Each.{Each, nothing, just, each-weaken, each-orElse}
@@ -41,7 +41,7 @@ bay-bytes [] r = refl
 bay-bytes (free n ∷ cs) r = append-assoc (Old.freeBytes n) (cellBytes cs) (join (map encodeBlock r)) ∙ ap₂ _++_ (ap (_++ replicate (n - freeHeader) 0) (big-is 4 (n / 2))) (bay-bytes cs r)
 bay-bytes (held e ∷ cs) r =
     append-assoc (Old.itemBytes e) (cellBytes cs) (join (map encodeBlock r))
-    ∙ ap₂ _++_ (ap₂ (λ (a b : List ℕ). a ++ (b ++ e .bytes)) (big-is 2 (relocCode * typeUnit + itemSize e / 2)) (big-is 2 (e .handle))) (bay-bytes cs r)
+    ∙ ap₂ _++_ (ap (_++ (tagOf e ++ e .bytes)) (big-is 2 (codeOf e * typeUnit + itemSize e / 2))) (bay-bytes cs r)
 
 strip-bytes : (s : Bays (List Cell) Fixed) → blockBytes s ≡ join (map encodeBlock (flatten s))
 unfolding join encodeBlock
@@ -56,10 +56,10 @@ place-bay : (h p : ℕ) (cs : List Cell) (r : List Block) → placeOf h p (flatB
 unfolding placeOf
 place-bay h p [] r = ap (λ (q : ℕ). placeOf h q r) (sym (add-zero p))
 place-bay h p (free n ∷ cs) r = place-bay h (p + n) cs r ∙ ap (λ (q : ℕ). Option·getD (whereIn h (p + n) cs) (placeOf h q r)) (add-assoc p n (baySize cs))
-place-bay h p (held e ∷ cs) r = go (eqb h (e .handle)) (place-bay h (p + itemSize e) cs r ∙ ap (λ (q : ℕ). Option·getD (whereIn h (p + itemSize e) cs) (placeOf h q r)) (add-assoc p (itemSize e) (baySize cs)))
+place-bay h p (held e ∷ cs) r = go (is h e) (place-bay h (p + itemSize e) cs r ∙ ap (λ (q : ℕ). Option·getD (whereIn h (p + itemSize e) cs) (placeOf h q r)) (add-assoc p (itemSize e) (baySize cs)))
   where
     go : (t : Bool) → placeOf h (p + itemSize e) (flatBay cs r) ≡ Option·getD (whereIn h (p + itemSize e) cs) (placeOf h (p + (itemSize e + baySize cs)) r)
-        → cond t (p + relocHeader) (placeOf h (p + itemSize e) (flatBay cs r)) ≡ Option·getD (cond t (some (p + relocHeader)) (whereIn h (p + itemSize e) cs)) (placeOf h (p + (itemSize e + baySize cs)) r)
+        → cond t (p + headerOf e) (placeOf h (p + itemSize e) (flatBay cs r)) ≡ Option·getD (cond t (some (p + headerOf e)) (whereIn h (p + itemSize e) cs)) (placeOf h (p + (itemSize e + baySize cs)) r)
     go true q = refl
     go false q = q
 
@@ -95,10 +95,10 @@ next-none h (k ∷ ks) e = go (eqb h k) (next-none h ks) e
 where-count : (h p : ℕ) (cs : List Cell) → Each (λ (q : ℕ). 1 ≤ Counted.count h (items cs)) (whereIn h p cs)
 where-count h p [] = nothing
 where-count h p (free n ∷ cs) = where-count h (p + n) cs
-where-count h p (held e ∷ cs) = go (eqb h (e .handle)) (where-count h (p + itemSize e) cs)
+where-count h p (held e ∷ cs) = go (is h e) (where-count h (p + itemSize e) cs)
   where
     go : (t : Bool) → Each (λ (q : ℕ). 1 ≤ Counted.count h (items cs)) (whereIn h (p + itemSize e) cs)
-        → Each (λ (q : ℕ). 1 ≤ cond t (suc (Counted.count h (items cs))) (Counted.count h (items cs))) (cond t (some (p + relocHeader)) (whereIn h (p + itemSize e) cs))
+        → Each (λ (q : ℕ). 1 ≤ cond t (suc (Counted.count h (items cs))) (Counted.count h (items cs))) (cond t (some (p + headerOf e)) (whereIn h (p + itemSize e) cs))
     go true k = just (omega arith)
     go false k = k
 

@@ -2,16 +2,15 @@
 -- that change.
 use mathlib.Core.Path.{_≡_, refl, subst}
 use mathlib.Core.Bool.{Bool, true, false, cond, _&&_, not}
-use mathlib.Core.List.{List, [], _∷_}
+use mathlib.Core.List.{List}
 use mathlib.Core.Option.{Option, none, some}
 use Prim.Native.Nat.{ℕ, _+_, _-_, _≤_}
 use native.Mathlib.Omega.{arith}
 use lib.ListN.{length}
 use lib.Dec.{eqb, leb}
-use borrow.Author.Tests.{eqb-true}
 use Rattle.block_type.specs.Limits.{relocHeader}
 use Rattle.calls.specs.Bays.{Bays, last, more, over, orElse, onLowest, mapS, findF, maxS}
-use Rattle.kinds.specs.Kinds.{Item, is}
+use Rattle.kinds.specs.Kinds.{Item, item}
 use Rattle.calls.specs.State.{get, Fixed, fsize, pointer, newFixed, cutHigh, joinOver, joinAt, ownSum}
 use Rattle.calls.specs.Table.{below, isNone}
 use Rattle.zone.specs.PickBays.{onLow, onHigh, glue, onJoin}
@@ -22,7 +21,7 @@ use Rattle.zone.specs.Work.{has}
 use Rattle.zone.specs.Search as Search
 use Rattle.zone.specs.Search.{own, resizeIn}
 use Rattle.zone.proofs.Missing.{Missing, gone, there, low-missing, high-missing, join-missing}
-use Rattle.zone.proofs.Once.{often, count-get, blockOf}
+use Rattle.zone.proofs.Once.{often, count-get, blockOf, Named, unnamed, named, get-named}
 use Rattle.zone.proofs.ResizeMissing.{own-absent, own-missing, resize-missing, ownChanged}
 
 -- ---- nothing, or this
@@ -100,19 +99,6 @@ module _ (h a : ℕ) where
           alone true m = yes
           alone false gone = no
 
--- what is found has the handle
-pub data Named (h : ℕ) : Option Item → Type 0 where
-  unnamed : Named h none
-  named : {d : List ℕ} → Named h (some (record { handle = h; bytes = d }))
-
-get-named : (h : ℕ) (es : List Item) → Named h (get h es)
-get-named h [] = unnamed
-get-named h (e ∷ es) = go (is h e) refl (get-named h es)
-  where
-    go : (t : Bool) → is h e ≡ t → Named h (get h es) → Named h (cond t (some e) (get h es))
-    go true q k = let r : h ≡ e .handle = eqb-true h (e .handle) q in rw r named
-    go false q k = k
-
 pub block-named : (h : ℕ) (s : Bays (List Cell) Fixed) → Named h (blockOf h s)
 block-named h (last b) = get-named h (items b)
 block-named h (more b x s) = go (get-named h (items b)) (block-named h s)
@@ -121,8 +107,8 @@ block-named h (more b x s) = go (get-named h (items b)) (block-named h s)
     go unnamed q = q
     go named q = named
 
-resize-only : (h a : ℕ) (d : List ℕ) (s : Bays (List Cell) Fixed) → live h s ≤ 1 → blockOf h s ≡ some (record { handle = h; bytes = d })
-    → Only (Work.resizeIn h a d s) (Search.resizeIn h a (record { handle = h; bytes = d }) s)
+resize-only : (h a : ℕ) (d : List ℕ) (s : Bays (List Cell) Fixed) → live h s ≤ 1 → blockOf h s ≡ some (item h d)
+    → Only (Work.resizeIn h a d s) (Search.resizeIn h a (item h d) s)
 resize-only h a d s n q =
     go (leb (a - length d) (ownSum items baySum h s))
     (subst (λ (o : Option Item). Missing (not (roomFor a (ownSum items baySum h s) o)) (ownChanged h a s)) q (own-missing h a s n))
@@ -154,6 +140,6 @@ pub join-found : {B : Type 0} (j : B → ℕ → B → B) (p : ℕ) (s : Bays B 
     → Found (joinAt j p s) (isNone (over (λ (x : Fixed). x .bytes) (findF (λ (x : Fixed). eqb p (pointer x)) s))) (onJoin (λ (x : Fixed). eqb p (pointer x)) (λ (b : B) (x : Fixed) (c : B). j b (fsize x) c) s)
 join-found j p s = found (join-missing (λ (x : Fixed). x .bytes) (λ (x : Fixed). eqb p (pointer x)) _ s) (join-only j p s)
 
-pub resize-found : (h a : ℕ) (d : List ℕ) (s : Bays (List Cell) Fixed) → live h s ≤ 1 → blockOf h s ≡ some (record { handle = h; bytes = d })
-    → Found (Work.resizeIn h a d s) (below (ownSum items baySum h s) (a - length d) && below (maxS baySum s) (relocHeader + a)) (Search.resizeIn h a (record { handle = h; bytes = d }) s)
-resize-found h a d s n q = found (resize-missing h a (record { handle = h; bytes = d }) s n q) (resize-only h a d s n q)
+pub resize-found : (h a : ℕ) (d : List ℕ) (s : Bays (List Cell) Fixed) → live h s ≤ 1 → blockOf h s ≡ some (item h d)
+    → Found (Work.resizeIn h a d s) (below (ownSum items baySum h s) (a - length d) && below (maxS baySum s) (relocHeader + a)) (Search.resizeIn h a (item h d) s)
+resize-found h a d s n q = found (resize-missing h a d s n q) (resize-only h a d s n q)

@@ -89,7 +89,7 @@ clean-held e d (e-more i q r) = e-more (i-cons d i) q r
 clean-group : (prev : Bool) (p : ℕ) (bs : List Block) → Tiled prev bs → Every BayOk FixedOk (group p bs)
 clean-group prev p [] t = e-last i-nil
 clean-group prev p (cell (free n) ∷ bs) t = clean-free n (clean-group true (p + n) bs (t .4))
-clean-group prev p (cell (held e) ∷ bs) t = clean-held e (record { bytes = t .2; short = omega (arith, t .1) }) (clean-group false (p + itemSize e) bs (t .3))
+clean-group prev p (cell (held e) ∷ bs) t = clean-held e (record { written = t .2; short = t .1 }) (clean-group false (p + itemSize e) bs (t .3))
 clean-group prev p (fixed d ∷ bs) t = e-more i-nil (record { holds = record { bytes = t .2; short = t .1 }; by4 = t .0 }) (clean-group false (p + (fixedHeader + length d)) bs (t .3))
 
 pub whole-bays : (buf : ℕ) (s : Structure) → Valid s → len s ≤ buf → Whole (inBays buf s)

@@ -1,5 +1,5 @@
 -- Every master is either a live block's or in the chain, and once: kept by each call.
-use mathlib.Core.Path.{_≡_, refl, ap, sym, _∙_}
+use mathlib.Core.Path.{_≡_, refl, ap, _∙_}
 use mathlib.Core.Bool.{Bool, true, false, cond}
 use mathlib.Core.Option.{Option, none, some}
 use mathlib.Core.List.{List, [], _∷_, _++_, map, append-nil}
@@ -11,7 +11,8 @@ use borrow.Author.Tests.{leb-true, eqb-true, eqb-false, ne-eqb}
 use Rattle.block_type.specs.Limits.{zoneHeader, masterSize}
 use Rattle.calls.specs.Bays.{Bays, last, more, mapS, lastS}
 use Rattle.zone.specs.PickBays.{onLow, AllS}
-use Rattle.kinds.specs.Kinds.{Item, itemSize, is}
+use Rattle.kinds.specs.Kinds.{Item, itemSize, is, holding}
+use Rattle.kinds.proofs.KindLaws.{is-other, is-same}
 use Rattle.calls.specs.State.{alter, get, sized, alterFixed, Fixed, fsize, newItem, handlesFrom}
 use Rattle.bay.specs.Bay.{Cell, baySum, items, gap, joinBays, compactBay, takeHigh, release, edit, reshape, resized}
 use Rattle.bay.specs.Counted.{remove, count, live}
@@ -76,19 +77,19 @@ count-remove-other g h [] n = refl
 count-remove-other g h (e ∷ a) n = go (is h e) refl (count-remove-other g h a n)
   where
     go : (t : Bool) → is h e ≡ t → count g (remove h a) ≡ count g a → count g (cond t (remove h a) (e ∷ remove h a)) ≡ count g (e ∷ a)
-    go true q r = rw (ne-eqb g (e .handle) (λ k. n (k ∙ sym (eqb-true h (e .handle) q)))) r
+    go true q r = rw (is-other g h e q n) r
     go false q r = rw r
 
-alter-handle : (h : ℕ) (f : List ℕ → List ℕ) (e : Item) → (alter h f e) .handle ≡ e .handle
-alter-handle h f e = go (is h e)
+alter-is : (g h : ℕ) (f : List ℕ → List ℕ) (e : Item) → is g (alter h f e) ≡ is g e
+alter-is g h f e = go (is h e)
   where
-    go : (t : Bool) → (cond t (record { handle = e .handle; bytes = f (e .bytes) }) e) .handle ≡ e .handle
+    go : (t : Bool) → is g (cond t (holding e (f (e .bytes))) e) ≡ is g e
     go true = refl
     go false = refl
 
 count-alter : (g h : ℕ) (f : List ℕ → List ℕ) (a : List Item) → count g (map (alter h f) a) ≡ count g a
 count-alter g h f [] = refl
-count-alter g h f (e ∷ a) = rw (alter-handle h f e, count-alter g h f a)
+count-alter g h f (e ∷ a) = rw (alter-is g h f e, count-alter g h f a)
 
 pub get-count : (h : ℕ) (a : List Item) → Each (λ (e : Item). 1 ≤ count h a) (get h a)
 get-count h [] = nothing
@@ -98,9 +99,9 @@ get-count h (e ∷ a) = go (is h e) (get-count h a)
     go true q = just (omega arith)
     go false q = q
 
-get-its : (h : ℕ) (a : List Item) → Each (λ (e : Item). h ≡ e .handle) (get h a)
+get-its : (h : ℕ) (a : List Item) → Each (λ (e : Item). is h e ≡ true) (get h a)
 get-its h [] = nothing
-get-its h (e ∷ a) = each-cond (is h e) (λ q. just (eqb-true h (e .handle) q)) (get-its h a)
+get-its h (e ∷ a) = each-cond (is h e) (λ q. just q) (get-its h a)
 
 each-all : {A : Type 0} {P : ℕ → A → Type 0} {o : Option A} → ((k : ℕ) → Each (P k) o) → Each (λ (a : A). (k : ℕ) → P k a) o
 each-all {o = none} f = nothing
@@ -123,7 +124,7 @@ module _ (m : ℕ) where
 
   -- an item found by its handle
   pub record Found (h : ℕ) (z : Zone) (e : Item) : Type 0 where
-    pub its : h ≡ e .handle
+    pub its : is h e ≡ true
     pub once-live : 1 ≤ live h (z .bays)
 
   -- what became of the live handles
@@ -151,7 +152,7 @@ module _ (m : ℕ) where
   -- the item found is dropped and put again
   moved : (h : ℕ) (z : Zone) → Owns m z → (e : Item) → Found h z e → (u : Bays (List Cell) Fixed)
       → Lives (λ k. cond (is k e) 1 0) (mapS (release h) (z .bays)) u → (k : ℕ) → live k u ≡ live k (z .bays)
-  moved h z g e f u r k = go (eqb k h) refl (rw (← f .its) at (r k))
+  moved h z g e f u r k = go (eqb k h) refl (rw (is-same k h e (f .its)) at (r k))
     where
       go : (t : Bool) → eqb k h ≡ t → live k u ≡ cond t 1 0 + live k (mapS (release h) (z .bays)) → live k u ≡ live k (z .bays)
       go true q l = omega (arith, dropped h z g (f .once-live) k true q, g .owns k)
@@ -159,7 +160,7 @@ module _ (m : ℕ) where
 
   pub found : (h : ℕ) (z : Zone) → Each (Found h z) (lookup h z)
   found h z = each-weaken (λ e q. record { its = q .0; once-live = q .1 })
-      (each-and (find-each (λ (e : Item). h ≡ e .handle) (λ (b : List Cell). get h (items b)) (λ b. get-its h (items b)) (z .bays))
+      (each-and (find-each (λ (e : Item). is h e ≡ true) (λ (b : List Cell). get h (items b)) (λ b. get-its h (items b)) (z .bays))
       (find-sum (λ (b : List Cell). get h (items b)) (λ (b : List Cell). count h (items b)) (λ b. get-count h (items b)) (z .bays)))
 
   own-lives : (h a : ℕ) (s : Bays (List Cell) Fixed) → Each (λ (u : Bays (List Cell) Fixed). (k : ℕ) → live k u ≡ live k s) (onLow (own h a) (reshape h a) s)

@@ -14,6 +14,7 @@ use Rattle.format.proofs.Count.{sumOver, sum-occurs, length-offsets, occurs-app
 use Rattle.structure.proofs.Round.{offset-le}
 use Rattle.structure.specs.Structure.{Block, fixed, sizes, count, start, len, handlesOf}
 use Rattle.structure.specs.Valid.{Tiled, Valid}
+use Rattle.structure.proofs.Append.{occurs-held}
 use Rattle.calls.specs.Bays.{Bays, last, more}
 use Rattle.zone.specs.PickBays.{AllS}
 use Rattle.bay.specs.Counted as Counted
@@ -22,6 +23,7 @@ use Rattle.bay.specs.Bay.{Cell, free, held, baySize, items}
 use Rattle.bay.proofs.Sound as Sound
 use Rattle.bay.proofs.Sound.{Sound, s-nil, s-end, s-free, s-held}
 use Rattle.calls.specs.State.{Fixed, handlesFrom}
+use Rattle.kinds.specs.Kinds.{is}
 use Rattle.zone.proofs.Handles as Handles
 use Rattle.zone.proofs.Handles.{Owns, masters}
 use Rattle.zone.proofs.Places as Places
@@ -69,7 +71,7 @@ live-bay : (h : ℕ) (cs : List Cell) (r : List Block) → occurs h (handlesOf (
 unfolding occurs handlesOf
 live-bay h [] r = omega arith
 live-bay h (free n ∷ cs) r = live-bay h cs r
-live-bay h (held e ∷ cs) r = go (eqb h (e .handle)) (live-bay h cs r)
+live-bay h (held e ∷ cs) r = occurs-held h e (flatBay cs r) ∙ go (is h e) (live-bay h cs r)
   where
     go : (t : Bool) → occurs h (handlesOf (flatBay cs r)) ≡ Counted.count h (items cs) + occurs h (handlesOf r)
         → cond t 1 0 + occurs h (handlesOf (flatBay cs r)) ≡ cond t (suc (Counted.count h (items cs))) (Counted.count h (items cs)) + occurs h (handlesOf r)
@@ -134,8 +136,8 @@ module _ (z : Zone) (w : Whole z) where
 tiled-bay : {cs : List Cell} (r : List Block) → Sound cs → BayOk cs → baySize cs ≤ longestZone → ((q : Bool) → Tiled q r) → Tiled false (flatBay cs r)
 tiled-bay r s-nil i l k = k false
 tiled-bay r (s-end b) i l k = (refl, omega (arith, b), b .by4, omega arith, k true)
-tiled-bay r (s-free b (s-held c s)) (i-cons d i) l k = (refl, omega (arith, b), b .by4, omega arith, (omega (arith, c), omega (arith, d .short), d .bytes, tiled-bay r s i (omega arith) k))
-tiled-bay r (s-held b s) (i-cons d i) l k = (omega (arith, b), omega (arith, d .short), d .bytes, tiled-bay r s i (omega arith) k)
+tiled-bay r (s-free b (s-held c s)) (i-cons d i) l k = (refl, omega (arith, b), b .by4, omega arith, (omega (arith, c), d .short, d .written, tiled-bay r s i (omega arith) k))
+tiled-bay r (s-held b s) (i-cons d i) l k = (omega (arith, b), d .short, d .written, tiled-bay r s i (omega arith) k)
 
 tiled-strip : {p end : ℕ} {s : Bays (List Cell) Fixed} → Places.Tiled p s end → end ≤ longestZone → AllS Sound s → Every BayOk FixedOk s → Tiled false (flatten s)
 tiled-strip (tile-last e) l d (e-last i) = tiled-bay [] d i (omega arith) (λ q. tt)

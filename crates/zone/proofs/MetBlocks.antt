@@ -1,16 +1,16 @@
 -- A walk through a zone's bytes meets the fixed blocks of its bays, and no others, and between them each bay's free bytes.
 use mathlib.Core.Path.{_≡_, refl, ap, ap₂, sym, _∙_}
 use mathlib.Core.Bool.{Bool, true, false, cond, _&&_}
-use mathlib.Core.List.{List, [], _∷_, _++_, map, append-nil}
-use Prim.Native.Nat.{ℕ, _+_, _-_, _*_, _≤_}
+use mathlib.Core.List.{List, [], _∷_, _++_, map, append-nil, append-assoc}
+use Prim.Native.Nat.{ℕ, _+_, _-_, _*_, _≤_, suc}
 use native.Mathlib.Omega.{arith}
 use native.Mathlib.Nat.{add-zero, zero-add, add-assoc}
-use lib.ListN.{length, drop, length-drop}
+use lib.ListN.{length, drop}
 use lib.Dec.{eqb}
 use Rattle.block_type.specs.Limits.{freeCode, fixedCode, relocCode, relocHeader, masterSize, zoneHeader, fixedHeader, firstAt}
 use Rattle.bigendian.specs.BigEndian.{fromBE}
 use Rattle.bigendian.proofs.Parts.{slice-take}
-use Rattle.format.specs.WellFormed.{headerOk, lengthField, firstField, mastersField, chainField, typeOf, sizeOf, handleOf, isFree, splitBlocks, zoneOf}
+use Rattle.format.specs.WellFormed.{headerOk, lengthField, firstField, mastersField, chainField, typeOf, sizeOf, handleOf, isFree, splitBlocks, zoneOf, isReloc}
 use Rattle.format.specs.OneWalk.{blockOk, blocksOk, bodyOk}
 use Rattle.format.proofs.Bool.{and-left, and-right}
 use Rattle.format.proofs.Walk.{is-good}
@@ -24,8 +24,9 @@ use Rattle.calls.specs.Calls.{Card}
 use Rattle.ledger.specs.Space.{Spot, spot}
 use Rattle.calls.specs.Bays.{Bays, last, more, concatS}
 use Rattle.bay.specs.Bay.{Cell, free, held, items, baySize, baySum}
-use Rattle.kinds.specs.Kinds.{itemSize, itemIn}
-use Rattle.calls.specs.State.{Fixed, fsize, card}
+use Rattle.kinds.specs.Kinds.{itemSize, itemIn, mastersOf, is}
+use Rattle.kinds.proofs.KindLaws.{Read, is-header}
+use Rattle.calls.specs.State.{Fixed, fsize, card, listed}
 use Rattle.zone.specs.Group.{flatBay, flatten}
 use Rattle.zone.specs.Work.{Zone}
 use Rattle.zone.specs.Call.{inLine}
@@ -33,6 +34,7 @@ use Rattle.zone.specs.Claim.{fixedMet, relocMet, freeMet, fixedIn, reloc
 use Rattle.zone.proofs.Places.{Tiled, tile-last, tile-more}
 use Rattle.zone.proofs.Keep.{Whole, valid-line, count-line}
 use Rattle.zone.proofs.Run.{Stored, stored-well, stored-decode}
+use borrow.Author.Tests.{ne-eqb, eq-eqb}
 
 -- place and size of each fixed block, in address order
 abbrev pub spotsS : {B : Type 0} → Bays B Fixed → List Spot
@@ -69,7 +71,7 @@ abbrev pub cardsB : List Block → List Card
 cardsB [] = []
 cardsB (cell (free n) ∷ bs) = cardsB bs
 cardsB (fixed d ∷ bs) = cardsB bs
-cardsB (cell (held it) ∷ bs) = card it ∷ cardsB bs
+cardsB (cell (held e) ∷ bs) = map (card e) (mastersOf e) ++ cardsB bs
 
 -- ---- from bytes to blocks
 
@@ -79,7 +81,7 @@ module _ (z : List ℕ) (first : ℕ) where
   unfolding decodeBlock
   fixed-dec prev at b g =
       by z first prev at b g (λ k. isFixed (byType k (cell (free (sizeOf b))) (fixed (drop fixedHeader b)) (cell (held (itemIn b)))) ≡ eqb k fixedCode)
-      (λ e. refl) (λ e. refl) (λ e. refl)
+      (λ e. refl) (λ e. refl) (λ k e x. sym (ne-eqb (suc (suc k)) fixedCode (λ q. omega arith)))
 
   -- the walk meets what the decoded blocks have
   spots-decs : (prev : Bool) (at : ℕ) (bs : List (List ℕ)) → blocksOk z first prev at bs ≡ true → fixedMet at bs ≡ spotsB at (map decodeBlock bs)
@@ -98,7 +100,7 @@ module _ (z : List ℕ) (first : ℕ) where
   unfolding decodeBlock
   free-dec prev at b g =
       by z first prev at b g (λ k. freeSize (byType k (cell (free (sizeOf b))) (fixed (drop fixedHeader b)) (cell (held (itemIn b)))) ≡ cond (eqb k freeCode) (sizeOf b) 0)
-      (λ e. refl) (λ e. refl) (λ e. refl)
+      (λ e. refl) (λ e. refl) (λ k e x. rw (ne-eqb (suc (suc k)) freeCode (λ q. omega arith)))
 
   sums-decs : (prev : Bool) (at n : ℕ) (bs : List (List ℕ)) → blocksOk z first prev at bs ≡ true → freeMet n bs ≡ sumsB n (map decodeBlock bs)
   unfolding blocksOk freeMet
@@ -111,10 +113,17 @@ module _ (z : List ℕ) (first : ℕ) where
 
   card-dec : (prev : Bool) (at : ℕ) (b : List ℕ) (bs : List Block) → blockOk z first prev at b ≡ true
       → cond (eqb (typeOf b) relocCode) (record { handle = handleOf b; amount = sizeOf b - relocHeader } ∷ cardsB bs) (cardsB bs) ≡ cardsB (decodeBlock b ∷ bs)
-  unfolding decodeBlock
+  unfolding decodeBlock isReloc
   card-dec prev at b bs g =
-      by z first prev at b g (λ k. cond (eqb k relocCode) (record { handle = handleOf b; amount = sizeOf b - relocHeader } ∷ cardsB bs) (cardsB bs) ≡ cardsB (byType k (cell (free (sizeOf b))) (fixed (drop fixedHeader b)) (cell (held (itemIn b))) ∷ bs))
-      (λ e. refl) (λ e. refl) (λ e. ap (λ (n : ℕ). record { handle = handleOf b; amount = n } ∷ cardsB bs) (ap (_- relocHeader) (is-good z first prev at b g .whole) ∙ sym (length-drop relocHeader b)))
+      by z first prev at b g (λ k. cond (isReloc b) (record { handle = handleOf b; amount = sizeOf b - relocHeader } ∷ cardsB bs) (cardsB bs) ≡ cardsB (byType k (cell (free (sizeOf b))) (fixed (drop fixedHeader b)) (cell (held (itemIn b))) ∷ bs))
+      (λ e. rw e) (λ e. rw e) (λ k e x. its x (isReloc b) (x .one (handleOf b)) ∙ ap (λ (hs : List ℕ). map (card (itemIn b)) hs ++ cardsB bs) (sym (x .masters)))
+    where
+      its : Read b (itemIn b) → (t : Bool) → is (handleOf b) (itemIn b) ≡ t && eqb (handleOf b) (handleOf b)
+          → cond t (record { handle = handleOf b; amount = sizeOf b - relocHeader } ∷ cardsB bs) (cardsB bs) ≡ map (card (itemIn b)) (cond t (handleOf b ∷ []) []) ++ cardsB bs
+      its x true q =
+          let w : length ((itemIn b) .bytes) ≡ sizeOf b - relocHeader = omega (arith, x .size, is-header (handleOf b) (itemIn b) (q ∙ eq-eqb (handleOf b) (handleOf b) refl), is-good z first prev at b g .whole) in
+          ap (λ (n : ℕ). record { handle = handleOf b; amount = n } ∷ cardsB bs) (sym w)
+      its x false q = refl
 
   cards-decs : (prev : Bool) (at : ℕ) (bs : List (List ℕ)) → blocksOk z first prev at bs ≡ true → relocMet bs ≡ cardsB (map decodeBlock bs)
   unfolding blocksOk relocMet
@@ -148,14 +157,14 @@ sums-strip : (s : Bays (List Cell) Fixed) → sumsB 0 (flatten s) ≡ sumsS bayS
 sums-strip (last b) = sums-bay 0 b [] ∙ ap (_∷ []) (zero-add (baySum b))
 sums-strip (more b x s) = sums-bay 0 b (fixed (x .bytes) ∷ flatten s) ∙ ap₂ _∷_ (zero-add (baySum b)) (sums-strip s)
 
-cards-bay : (cs : List Cell) (r : List Block) → cardsB (flatBay cs r) ≡ map card (items cs) ++ cardsB r
+cards-bay : (cs : List Cell) (r : List Block) → cardsB (flatBay cs r) ≡ listed (items cs) ++ cardsB r
 cards-bay [] r = refl
 cards-bay (free n ∷ cs) r = cards-bay cs r
-cards-bay (held e ∷ cs) r = ap (card e ∷_) (cards-bay cs r)
+cards-bay (held e ∷ cs) r = ap (map (card e) (mastersOf e) ++_) (cards-bay cs r) ∙ sym (append-assoc (map (card e) (mastersOf e)) (listed (items cs)) (cardsB r))
 
-pub cards-strip : (s : Bays (List Cell) Fixed) → cardsB (flatten s) ≡ concatS (λ (b : List Cell). map card (items b)) s
-cards-strip (last b) = cards-bay b [] ∙ append-nil (map card (items b))
-cards-strip (more b x s) = cards-bay b (fixed (x .bytes) ∷ flatten s) ∙ ap (map card (items b) ++_) (cards-strip s)
+pub cards-strip : (s : Bays (List Cell) Fixed) → cardsB (flatten s) ≡ concatS (λ (b : List Cell). listed (items b)) s
+cards-strip (last b) = cards-bay b [] ∙ append-nil (listed (items b))
+cards-strip (more b x s) = cards-bay b (fixed (x .bytes) ∷ flatten s) ∙ ap (listed (items b) ++_) (cards-strip s)
 
 -- ---- the buffer
 
@@ -196,7 +205,7 @@ free-walk bs z w s =
     let p = body-parts (zoneOf bs) (firstField bs) (mastersField bs) (chainField bs) (and-right (headerOk bs) _ (stored-walk bs z w s)) in
     sums-decs (zoneOf bs) (firstField bs) false (firstField bs) 0 _ (p .walk) ∙ ap (sumsB 0) (blocks-are bs z w s) ∙ sums-strip (z .bays)
 
-pub reloc-walk : (bs : List ℕ) (z : Zone) → Whole z → Stored bs z → relocIn bs ≡ concatS (λ (b : List Cell). map card (items b)) (z .bays)
+pub reloc-walk : (bs : List ℕ) (z : Zone) → Whole z → Stored bs z → relocIn bs ≡ concatS (λ (b : List Cell). listed (items b)) (z .bays)
 reloc-walk bs z w s =
     let p = body-parts (zoneOf bs) (firstField bs) (mastersField bs) (chainField bs) (and-right (headerOk bs) _ (stored-walk bs z w s)) in
     cards-decs (zoneOf bs) (firstField bs) false (firstField bs) _ (p .walk) ∙ ap cardsB (blocks-are bs z w s) ∙ cards-strip (z .bays)

@@ -5,7 +5,8 @@ use mathlib.Core.List.{List, [], _∷_}
 use mathlib.Core.Option.{Option, none, some}
 use Prim.Native.Nat.{ℕ, suc, _+_, _≤_}
 use native.Mathlib.Omega.{arith}
-use Rattle.kinds.specs.Kinds.{Item, itemSize, is}
+use Rattle.kinds.specs.Kinds.{Item, item, itemSize, is}
+use Rattle.kinds.proofs.KindLaws.{is-item}
 use Rattle.calls.specs.State.{total, get, Fixed}
 use Rattle.calls.specs.Bays.{Bays, findS}
 use Rattle.bay.specs.Bay.{Cell, baySum, items, release}
@@ -15,6 +16,19 @@ use Rattle.bay.proofs.Laws.{bsize-split, release-size, release-items}
 -- the block of a handle among the bays
 abbrev pub blockOf : ℕ → Bays (List Cell) Fixed → Option Item
 blockOf h s = findS (λ (b : List Cell). get h (items b)) s
+
+-- what is found has the handle
+pub data Named (h : ℕ) : Option Item → Type 0 where
+  unnamed : Named h none
+  named : {d : List ℕ} → Named h (some (item h d))
+
+pub get-named : (h : ℕ) (es : List Item) → Named h (get h es)
+get-named h [] = unnamed
+get-named h (e ∷ es) = go (is h e) refl (get-named h es)
+  where
+    go : (t : Bool) → is h e ≡ t → Named h (get h es) → Named h (cond t (some e) (get h es))
+    go true q k = rw (is-item h e q) named
+    go false q k = k
 
 -- how often it stands there, by what is found, and what its block takes
 abbrev pub often : Option Item → ℕ

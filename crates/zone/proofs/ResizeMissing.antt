@@ -9,7 +9,7 @@ use lib.ListN.{length}
 use lib.Dec.{eqb, leb}
 use borrow.Author.Tests.{leb-false, lt-leb}
 use Rattle.block_type.specs.Limits.{relocHeader}
-use Rattle.kinds.specs.Kinds.{Item, itemSize}
+use Rattle.kinds.specs.Kinds.{Item, item, itemSize}
 use Rattle.calls.specs.Bays.{Bays, last, more, over, orElse, mapS, findS, maxS}
 use Rattle.calls.specs.State.{get, Fixed, ownSum}
 use Rattle.calls.specs.Table.{below}
@@ -20,7 +20,7 @@ use Rattle.bay.proofs.Resize.{length-sized}
 use Rattle.zone.specs.PickBays.{onLow}
 use Rattle.zone.specs.Search.{own, resizeIn}
 use Rattle.zone.proofs.Missing.{Missing, gone, there, one-missing, over-missing, else-missing, low-missing}
-use Rattle.zone.proofs.Once.{often, taken, count-get, sum-absent, sum-released, blockOf}
+use Rattle.zone.proofs.Once.{often, taken, count-get, sum-absent, sum-released, blockOf, Named, unnamed, named, get-named}
 
 module _ (h a : ℕ) where
   -- the sum of the bay that has the block
@@ -60,42 +60,42 @@ module _ (h a : ℕ) where
           alone false = over-missing (more b x) (own-absent s (omega arith))
 
   -- the own bay lacks a − b, so with the freed 4 + b bytes it still lacks 4 + a
-  sum-same : (b : List Cell) (o : Option Item) → baySum (release h b) ≡ baySum b + taken o → roomFor a (baySum b) o ≡ false
+  sum-same : (b : List Cell) {o : Option Item} → Named h o → baySum (release h b) ≡ baySum b + taken o → roomFor a (baySum b) o ≡ false
       → below (baySum (release h b)) (relocHeader + a) ≡ below (baySum b) (relocHeader + a)
-  sum-same b none q r = ap (λ (k : ℕ). below k (relocHeader + a)) (omega (arith, q))
-  sum-same b (some i) q r =
-      let l = leb-false (a - length (i .bytes)) (baySum b) r in
+  sum-same b unnamed q r = ap (λ (k : ℕ). below k (relocHeader + a)) (omega (arith, q))
+  sum-same b (named {d = d}) q r =
+      let l = leb-false (a - length d) (baySum b) r in
       ap not (lt-leb (relocHeader + a) (baySum (release h b)) (omega (arith, q, l)) ∙ sym (lt-leb (relocHeader + a) (baySum b) (omega (arith, l))))
 
   pub max-same : (s : Bays (List Cell) Fixed) → live h s ≤ 1 → roomFor a (sumOfOwn s) (blockOf h s) ≡ false
       → below (maxS baySum (mapS (release h) s)) (relocHeader + a) ≡ below (maxS baySum s) (relocHeader + a)
-  max-same (last b) n r = go (get h (items b)) (sum-released h b n) r
+  max-same (last b) n r = go (get-named h (items b)) (sum-released h b n) r
     where
-      go : (o : Option Item) → baySum (release h b) ≡ baySum b + taken o → roomFor a (Option·getD (over (λ (i : Item). baySum b) o) 0) o ≡ false
+      go : {o : Option Item} → Named h o → baySum (release h b) ≡ baySum b + taken o → roomFor a (Option·getD (over (λ (i : Item). baySum b) o) 0) o ≡ false
           → below (baySum (release h b)) (relocHeader + a) ≡ below (baySum b) (relocHeader + a)
-      go none q r = sum-same b none q refl
-      go (some i) q r = sum-same b (some i) q r
+      go unnamed q r = sum-same b unnamed q refl
+      go (named {d = d}) q r = sum-same b (named {d = d}) q r
   max-same (more b x s) n r =
       below-max (baySum (release h b)) (maxS baySum (mapS (release h) s)) (relocHeader + a)
-      ∙ go (get h (items b)) (count-get h (items b) (omega arith)) (sum-released h b (omega arith)) r (λ q. max-same s (omega arith) q)
+      ∙ go (get-named h (items b)) (count-get h (items b) (omega arith)) (sum-released h b (omega arith)) r (λ q. max-same s (omega arith) q)
       ∙ sym (below-max (baySum b) (maxS baySum s) (relocHeader + a))
     where
-      go : (o : Option Item) → count h (items b) ≡ often o → baySum (release h b) ≡ baySum b + taken o
+      go : {o : Option Item} → Named h o → count h (items b) ≡ often o → baySum (release h b) ≡ baySum b + taken o
           → roomFor a (Option·getD (orElse (over (λ (i : Item). baySum b) o) (findS (λ (b : List Cell). over (λ (i : Item). baySum b) (get h (items b))) s)) 0) (orElse o (blockOf h s)) ≡ false
           → (roomFor a (sumOfOwn s) (blockOf h s) ≡ false → below (maxS baySum (mapS (release h) s)) (relocHeader + a) ≡ below (maxS baySum s) (relocHeader + a))
           → below (baySum (release h b)) (relocHeader + a) && below (maxS baySum (mapS (release h) s)) (relocHeader + a) ≡ below (baySum b) (relocHeader + a) && below (maxS baySum s) (relocHeader + a)
-      go none c q r f = ap₂ _&&_ (sum-same b none q refl) (f r)
-      go (some i) c q r f = ap₂ _&&_ (sum-same b (some i) q r) (ap (λ (k : ℕ). below k (relocHeader + a)) (max-absent s (omega (arith, c, n))))
+      go unnamed c q r f = ap₂ _&&_ (sum-same b unnamed q refl) (f r)
+      go (named {d = d}) c q r f = ap₂ _&&_ (sum-same b (named {d = d}) q r) (ap (λ (k : ℕ). below k (relocHeader + a)) (max-absent s (omega (arith, c, n))))
 
   -- neither the own bay nor any other
-  pub resize-missing : (e : Item) (s : Bays (List Cell) Fixed) → live h s ≤ 1 → findS (λ (b : List Cell). get h (items b)) s ≡ some e
-      → Missing (below (Option·getD (findS (λ (b : List Cell). over (λ (i : Item). baySum b) (get h (items b))) s) 0) (a - length (e .bytes)) && below (maxS baySum s) (relocHeader + a)) (resizeIn h a e s)
-  resize-missing e s n q =
-      subst (λ (t : Bool). Missing t (resizeIn h a e s))
+  pub resize-missing : (d : List ℕ) (s : Bays (List Cell) Fixed) → live h s ≤ 1 → findS (λ (b : List Cell). get h (items b)) s ≡ some (item h d)
+      → Missing (below (Option·getD (findS (λ (b : List Cell). over (λ (i : Item). baySum b) (get h (items b))) s) 0) (a - length d) && below (maxS baySum s) (relocHeader + a)) (resizeIn h a (item h d) s)
+  resize-missing d s n q =
+      subst (λ (t : Bool). Missing t (resizeIn h a (item h d) s))
       (same (roomFor a (sumOfOwn s) (blockOf h s)) refl ∙ ap (λ (o : Option Item). not (roomFor a (sumOfOwn s) o) && below (maxS baySum s) (relocHeader + a)) q)
-      (else-missing (own-missing s n) (low-missing baySum (itemSize (resized a e)) (put (resized a e)) (mapS (release h) s)))
+      (else-missing (own-missing s n) (low-missing baySum (itemSize (resized a (item h d))) (put (resized a (item h d))) (mapS (release h) s)))
     where
       same : (t : Bool) → roomFor a (sumOfOwn s) (blockOf h s) ≡ t
-          → not t && below (maxS baySum (mapS (release h) s)) (itemSize (resized a e)) ≡ not t && below (maxS baySum s) (relocHeader + a)
+          → not t && below (maxS baySum (mapS (release h) s)) (itemSize (resized a (item h d))) ≡ not t && below (maxS baySum s) (relocHeader + a)
       same true r = refl
-      same false r = ap (λ (k : ℕ). below (maxS baySum (mapS (release h) s)) (relocHeader + k)) (length-sized a (e .bytes)) ∙ max-same s n r
+      same false r = ap (λ (k : ℕ). below (maxS baySum (mapS (release h) s)) (relocHeader + k)) (length-sized a d) ∙ max-same s n r

@@ -11,11 +11,12 @@ use Rattle.calls.specs.Bays.{Bays, last, more, findS}
 use Rattle.zone.specs.PickBays.{AllS}
 use Rattle.zone.proofs.BaysLaws.{Both, absent, present, cond-both, orElse-both}
 use Rattle.bay.proofs.Each.{Each, nothing, just}
-use Rattle.kinds.specs.Kinds.{Item, itemSize, is}
+use Rattle.kinds.specs.Kinds.{Item, itemSize, is, tagOf, headerOf, codeOf}
+use Rattle.kinds.proofs.KindLaws.{tag-long}
 use Rattle.calls.specs.State.{get, Fixed, fsize, pointer, handlesFrom}
 use Rattle.bay.specs.Bay.{Cell, held, baySize, items}
 use Rattle.bay.proofs.Sound.{Block, Sound, s-nil, s-end, s-free, s-held}
-use Rattle.block_type.specs.Limits.{fixedHeader, firstBlock, masterSize, relocCode, typeUnit, zoneHeader, relocHeader}
+use Rattle.block_type.specs.Limits.{fixedHeader, firstBlock, masterSize, typeUnit, zoneHeader}
 use Rattle.zone.specs.Work.{Zone}
 use Rattle.zone.proofs.Places.{Tiled, tile-last, tile-more, Placed}
 use Rattle.zone.proofs.Bytes.{big, freeBytes, itemBytes, cellBytes, fixedHead, fixedBytes, blockBytes, whereIn, whereS, nextOf, masterOf, masterBytes, headerBytes, zoneBytes}
@@ -43,11 +44,14 @@ stands-before {v = v} bs s = record { front = s .front; rest = s .rest ++ bs; sp
 pub length-free : (n : ℕ) → Block n → length (freeBytes n) ≡ n
 length-free n b = simp (length-replicate) (omega (arith, b))
 
+item-long : (e : Item) → length (itemBytes e) ≡ itemSize e
+item-long e = omega (arith, length-append (tagOf e) (e .bytes), tag-long e)
+
 pub length-cells : {cs : List Cell} → Sound cs → length (cellBytes cs) ≡ baySize cs
 length-cells s-nil = refl
 length-cells (s-end {n = n} b) = length-append (freeBytes n) [] ∙ ap (_+ 0) (length-free n b)
 length-cells (s-free {n = n} {e = e} {cs = cs} b s) = length-append (freeBytes n) (cellBytes (held e ∷ cs)) ∙ ap₂ _+_ (length-free n b) (length-cells s)
-length-cells (s-held {e = e} {cs = cs} b s) = simp (length-append) (omega (arith, length-cells s))
+length-cells (s-held {e = e} {cs = cs} b s) = length-append (itemBytes e) (cellBytes cs) ∙ ap₂ _+_ (item-long e) (length-cells s)
 
 -- an item's bytes stand where its handle is found, counted from p
 pub record At (bs : List ℕ) (p : ℕ) (e : Item) (q : ℕ) : Type 0 where
@@ -65,8 +69,8 @@ pub weaken-both : {A B : Type 0} {R Q : A → B → Type 0} {a : Option A} {b : 
 weaken-both h absent = absent
 weaken-both h (present {a = x} {b = y} r) = present (h x y r)
 
-data-stand : (e : Item) → Stands (itemBytes e) relocHeader (e .bytes)
-data-stand e = record { front = big 2 (relocCode * typeUnit + itemSize e / 2) ++ big 2 (e .handle); rest = []; split = simp append-nil; place = refl }
+data-stand : (e : Item) → Stands (itemBytes e) (headerOf e) (e .bytes)
+data-stand e = record { front = big 2 (codeOf e * typeUnit + itemSize e / 2) ++ tagOf e; rest = []; split = simp append-nil; place = omega (arith, tag-long e) }
 
 pub in-cells : (h p : ℕ) {cs : List Cell} → Sound cs → Both (At (cellBytes cs) p) (get h (items cs)) (whereIn h p cs)
 in-cells h p s-nil = absent
@@ -74,8 +78,8 @@ in-cells h p (s-end b) = absent
 in-cells h p (s-free {n = n} b s) = weaken-both (λ x y a. shift (freeBytes n) n (length-free n b) a) (in-cells h (p + n) s)
 in-cells h p (s-held {e = e} {cs = cs} b s) =
     cond-both (is h e) (is h e) refl
-    (λ t. present (record { off = relocHeader; found = refl; stands = stands-before (cellBytes cs) (data-stand e) }))
-    (weaken-both (λ x y a. shift (itemBytes e) (itemSize e) (omega arith) a) (in-cells h (p + itemSize e) s))
+    (λ t. present (record { off = headerOf e; found = refl; stands = stands-before (cellBytes cs) (data-stand e) }))
+    (weaken-both (λ x y a. shift (itemBytes e) (itemSize e) (item-long e) a) (in-cells h (p + itemSize e) s))
 
 pub in-blocks : (h p : ℕ) (s : Bays (List Cell) Fixed) → AllS Sound s → Both (At (blockBytes s) p) (findS (λ (b : List Cell). get h (items b)) s) (whereS h p s)
 in-blocks h p (last b) d = in-cells h p d

@@ -26,7 +26,8 @@ use Rattle.zone.specs.Work.{Zone, facts, work, freePointer, rewrite}
 use Rattle.zone.specs.Search.{lookup, placeLow, placeHigh, joinAt, resizeIn}
 use Rattle.bay.proofs.Each.{Each, nothing, just}
 use Rattle.bay.proofs.Sound.{Block}
-use Rattle.zone.proofs.Found.{Found, lost, got, low-found, high-found, join-found, resize-found, Named, unnamed, named, block-named}
+use Rattle.zone.proofs.Once.{Named, unnamed, named}
+use Rattle.zone.proofs.Found.{Found, lost, got, low-found, high-found, join-found, resize-found, block-named}
 
 -- ---- a change of a block's bytes that keeps their number and leaves bytes
 

@@ -12,7 +12,7 @@ use borrow.Author.Tests.{leb-true, eqb-true}
 use Rattle.block_type.specs.Limits.{relocHeader, up4, relocNeed, fixedNeed, recordSize, longestZone}
 use Rattle.calls.specs.Calls.{Target, by-handle, by-pointer, Call, allocate-relocatable, allocate-fixed, free-handle, free-pointer, read, write, size, compact, sums, enlarge, shrink, view, roster, check, length-of, resize, Answer, told, toldTwo, shows}
 use Rattle.calls.specs.Bays.{Bays, last, more, over, orElse, onLowest, mapS, onLast, findS, findF, lastS, maxS}
-use Rattle.kinds.specs.Kinds.{Item, itemSize}
+use Rattle.kinds.specs.Kinds.{Item, itemSize, item}
 use Rattle.calls.specs.State.{get, newItem, sized, alter, Fixed, fsize, pointer, newFixed, alterFixed, Out, dataOf, ownSum, top}
 use Rattle.calls.specs.Table.{below, isNone, refusalOf, causes, holdsIn, order}
 use Rattle.calls.proofs.First.{among, clear, or-left}
@@ -30,11 +30,11 @@ use Rattle.bay.proofs.Sound.{Block, sum-by4}
 use Rattle.zone.proofs.Places.{alter-fsize}
 use Rattle.bay.proofs.Resize.{length-sized, resized-block}
 use Rattle.zone.proofs.Solid.{new-block, new-sized}
-use Rattle.zone.proofs.Found.{Found, lost, got, low-found, high-found, join-found, Named, unnamed, named, block-named}
+use Rattle.zone.proofs.Found.{Found, lost, got, low-found, high-found, join-found, block-named}
 use Rattle.zone.proofs.Fits.{Fits, Equal, same-sum, put-fits, release-fits, edit-fits, reshape-fits, absent-fits, high-fits, compact-fits, grow-fits, fresh-fits, join-fits}
 use Rattle.zone.proofs.Matches.{Paired, Matches, matches, largest-same, total-same, count-same, cards-same, content-same, own-sum-same}
 use Rattle.zone.proofs.ResizeMissing.{max-same}
-use Rattle.zone.proofs.Once.{often, count-get}
+use Rattle.zone.proofs.Once.{Named, unnamed, named, often, count-get}
 
 -- ---- where two searches find what the table lets through
 
@@ -107,21 +107,21 @@ own-same h a q (like-more {b = b} {c = c} {x = x} {y = y} {s = s} {t = t} r k l)
     go (some i) p w g m f = like-more (reshape-fits r h a q (own-of h a b e (omega arith) (p ∙ g) m)) k (absent-same h (sized a) l (omega arith))
 
 resize-same : (h a : ℕ) (d : List ℕ) → a % 4 ≡ 0 → {s : Bays (List Cell) Fixed} {t : Bays Bay Fixed} → Paired s t → ((k : ℕ) → live k s ≤ 1)
-    → findS (λ (b : List Cell). get h (items b)) s ≡ some (record { handle = h; bytes = d })
+    → findS (λ (b : List Cell). get h (items b)) s ≡ some (item h d)
     → below (ownSum items baySum h s) (a - length d) && below (maxS baySum s) (relocHeader + a) ≡ false → Paired (Work.resizeIn h a d s) (Book.resizeIn h a d t)
 resize-same h a d q {s} {t} l o g m = rw (← own-sum-same l o h) (go (leb (a - length d) (ownSum items baySum h s)) refl m)
   where
     i : Item
-    i = record { handle = h; bytes = sized a d }
+    i = item h (sized a d)
 
     moved : leb (a - length d) (ownSum items baySum h s) ≡ false → below (maxS baySum s) (relocHeader + a) ≡ false → Paired (Work.placeLow i (mapS (release h) s)) (Book.enter (relocHeader + a) i (mapS (onEntries (without h)) t))
     moved p m =
-        low-same (release-same l h) i (relocHeader + a) (resized-block a (record { handle = h; bytes = d }) q) (ap (relocHeader +_) (length-sized a d))
+        low-same (release-same l h) i (relocHeader + a) (resized-block a (item h d) q) (ap (relocHeader +_) (length-sized a d))
         (max-same h a s (o h) (ap (roomFor a (ownSum items baySum h s)) g ∙ p) ∙ m)
 
     go : (u : Bool) → leb (a - length d) (ownSum items baySum h s) ≡ u → not u && below (maxS baySum s) (relocHeader + a) ≡ false
         → Paired (cond u (onLowest (has h) (reshape h a) s) (Work.placeLow i (mapS (release h) s))) (cond u (Book.change (by-handle h) (sized a) t) (Book.enter (relocHeader + a) i (mapS (onEntries (without h)) t)))
-    go true p m = own-same h a q l (o h) (record { handle = h; bytes = d }) g p
+    go true p m = own-same h a q l (o h) (item h d) g p
     go false p m = moved p m
 
 -- ---- the calls

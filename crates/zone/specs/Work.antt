@@ -1,7 +1,7 @@
 -- Document 01, 'Bays and the calls': the work of each call that nothing refuses. (A refused call does nothing: `call` says so. What these
 -- functions give of it is a value that nobody asks for.)
 use mathlib.Core.Bool.{Bool, cond, not}
-use mathlib.Core.List.{List, [], _∷_, _++_, map}
+use mathlib.Core.List.{List, [], _∷_, _++_}
 use Prim.Native.Nat.{ℕ, _+_, _-_, _*_, _/_, min}
 use lib.ListN.{length, take, drop}
 use lib.Seq.{sets}
@@ -10,7 +10,7 @@ use Rattle.block_type.specs.Limits.{up4, fixedNeed, zoneHeader, firstBlock, rec
 use Rattle.calls.specs.Calls.{Target, by-handle, by-pointer, Call, allocate-relocatable, allocate-fixed, free-handle, free-pointer, resize, size, read, write, view, compact, sums, check, length-of, enlarge, shrink, roster, Card, toldTwo, shows, lists}
 use Rattle.calls.specs.Bays.{Bays, last, onLowest, mapS, onFixed, onLast, concatS, sumS, maxS, lastS}
 use Rattle.kinds.specs.Kinds.{Item, item, itemSize}
-use Rattle.calls.specs.State.{get, newItem, sized, card, handlesFrom, Fixed, pointer, alterFixed, State, Out, says, done, withBays, cutHigh, joinAt, dataOf, ownSum, liveCount, top, rest}
+use Rattle.calls.specs.State.{get, newItem, sized, listed, handlesFrom, Fixed, pointer, alterFixed, State, Out, says, done, withBays, cutHigh, joinAt, dataOf, ownSum, liveCount, top, rest}
 use Rattle.calls.specs.Table.{Facts, factsOf, isNone}
 use Rattle.bay.specs.Bay.{Cell, baySum, items, gap, joinBays, compactBay, put, takeHigh, release, edit, reshape}
 
@@ -23,7 +23,7 @@ abbrev pub facts : Bool → Zone → Facts
 facts well z = factsOf items baySum well z
 
 abbrev pub cards : Zone → List Card
-cards z = concatS (λ (b : List Cell). map card (items b)) (z .bays)
+cards z = concatS (λ (b : List Cell). listed (items b)) (z .bays)
 
 -- ---- allocate, free, resize
 

@@ -1,5 +1,5 @@
 -- The named block among blocks: as the walk finds it, and as it is found in the bays.
-use mathlib.Core.Path.{_≡_, refl, ap, _∙_}
+use mathlib.Core.Path.{_≡_, refl, ap, _∙_, sym}
 use mathlib.Core.Bool.{Bool, true, false, cond, _&&_}
 use mathlib.Core.Option.{Option, none, some}
 use mathlib.Core.List.{List, [], _∷_}
@@ -8,11 +8,12 @@ use native.Mathlib.Omega.{arith}
 use lib.ListN.{length}
 use lib.Dec.{eqb}
 use borrow.Author.Tests.{ne-eqb}
-use Rattle.block_type.specs.Limits.{fixedHeader, relocHeader, fixedCode}
+use Rattle.block_type.specs.Limits.{fixedHeader, fixedCode}
 use Rattle.structure.specs.Structure.{Block, fixed, size, cell, code}
 use Rattle.calls.specs.Calls.{Target, by-handle, by-pointer}
 use Rattle.calls.specs.Bays.{Bays, last, more, over, orElse, findS, findF}
-use Rattle.kinds.specs.Kinds.{Item, itemSize, masterOf}
+use Rattle.kinds.specs.Kinds.{Item, itemSize, is, headerOf}
+use Rattle.kinds.proofs.KindLaws.{facts, not-fixed}
 use Rattle.calls.specs.State.{get, Fixed, pointer, content}
 use Rattle.bay.specs.Bay.{items, Cell, free, held}
 use Rattle.zone.specs.Group.{inFront, group}
@@ -25,7 +26,7 @@ module _ (p at : ℕ) (bs : List Block) where
   unfolding placeAmong
   pointer-place (cell (free n)) = refl
   pointer-place (fixed d) = refl
-  pointer-place (cell (held it)) = refl
+  pointer-place (cell (held e)) = sym (ap (λ (t : Bool). cond (t && eqb p (at + fixedHeader)) (at + fixedHeader) (placeAmong (by-pointer p) (at + itemSize e) bs)) (not-fixed e))
 
   pub pointer-data : (b : Block) → length (dataAmong (by-pointer p) at (b ∷ bs)) ≡ cond (eqb (code b) fixedCode && eqb p (at + fixedHeader)) (size b - fixedHeader) (length (dataAmong (by-pointer p) (at + size b) bs))
   unfolding dataAmong
@@ -35,7 +36,7 @@ module _ (p at : ℕ) (bs : List Block) where
       go : (t : Bool) → length (cond t d (dataAmong (by-pointer p) (at + (fixedHeader + length d)) bs)) ≡ cond t (fixedHeader + length d - fixedHeader) (length (dataAmong (by-pointer p) (at + (fixedHeader + length d)) bs))
       go true = omega arith
       go false = refl
-  pointer-data (cell (held it)) = refl
+  pointer-data (cell (held e)) = sym (ap (λ (t : Bool). cond (t && eqb p (at + fixedHeader)) (itemSize e - fixedHeader) (length (dataAmong (by-pointer p) (at + itemSize e) bs))) (not-fixed e))
 
 -- ---- in the bays
 
@@ -51,13 +52,13 @@ front-free (by-handle h) n (more b x s) = refl
 front-free (by-pointer p) n (last b) = refl
 front-free (by-pointer p) n (more b x s) = refl
 
-front-held : (h : ℕ) (e : Item) (s : Bays (List Cell) Fixed) → in-bays (by-handle h) (inFront (held e) s) ≡ cond (eqb h (e .handle)) (some (e .bytes)) (in-bays (by-handle h) s)
-front-held h e (last b) = go (eqb h (e .handle))
+front-held : (h : ℕ) (e : Item) (s : Bays (List Cell) Fixed) → in-bays (by-handle h) (inFront (held e) s) ≡ cond (is h e) (some (e .bytes)) (in-bays (by-handle h) s)
+front-held h e (last b) = go (is h e)
   where
     go : (t : Bool) → over (λ (e : Item). e .bytes) (cond t (some e) (get h (items b))) ≡ cond t (some (e .bytes)) (in-bays (by-handle h) (last b))
     go true = refl
     go false = refl
-front-held h e (more b x s) = go (eqb h (e .handle))
+front-held h e (more b x s) = go (is h e)
   where
     go : (t : Bool) → over (λ (e : Item). e .bytes) (orElse (cond t (some e) (get h (items b))) (findS (λ (b : List Cell). get h (items b)) s)) ≡ cond t (some (e .bytes)) (in-bays (by-handle h) (more b x s))
     go true = refl
@@ -88,5 +89,5 @@ content-among (by-pointer p) at (fixed d ∷ bs) = found (eqb p (at + fixedHeade
     found true = refl
     found false = refl
 content-among (by-handle h) at (cell (held it) ∷ bs) = front-held h it (group (at + itemSize it) bs)
-    ∙ ap (cond (eqb h (masterOf it)) (some (it .bytes))) (content-among (by-handle h) (at + itemSize it) bs) ∙ here (eqb h (masterOf it)) (at + relocHeader) _ (it .bytes) _ (λ e. omega arith)
+    ∙ ap (cond (is h it) (some (it .bytes))) (content-among (by-handle h) (at + itemSize it) bs) ∙ here (is h it) (at + headerOf it) _ (it .bytes) _ (λ e. omega (arith, facts it .low))
 content-among (by-pointer p) at (cell (held it) ∷ bs) = front-pointer p it (group (at + itemSize it) bs) ∙ content-among (by-pointer p) (at + itemSize it) bs

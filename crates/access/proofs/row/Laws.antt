@@ -5,13 +5,16 @@ use Prim.Native.Nat.{ℕ, _+_, _%_, _<_, _≤_}
 use native.Mathlib.Omega.{arith}
 use lib.ListN.{length, take, drop, length-append, length-drop, drop-of-length-le}
 use lib.Seq.{drop-drop, take-at, drop-at}
-use Rattle.block_type.specs.Limits.{smallestBlock}
+use lib.Dec.{eqb}
+use Rattle.block_type.specs.Limits.{smallestBlock, freeCode}
 use Rattle.format.specs.WellFormed.{typeOf, sizeOf}
 use Rattle.format.proofs.Walk.{blocks-cons, blocks-nil, kind-take, size-take}
 use Rattle.structure.specs.Structure.{Block, fixed, size, sizes, encodeBlock, decodeBlock, join, cell, code}
 use Rattle.bay.proofs.CellBytes.{enc}
+use Rattle.bay.specs.Bay.{free, held}
 use Rattle.structure.proofs.Back.{Enc, enc-cell, enc-fixed}
-use Rattle.access.specs.row.Row.{blocksOf, bytesOf, Sound1, Sound, Row, row, blockAt, Stepped}
+use Rattle.kinds.proofs.KindLaws.{not-free}
+use Rattle.access.specs.row.Row.{blocksOf, bytesOf, Sound1, Sound, Row, row, blockAt, Stepped, freeB}
 
 pub enc-of : (b : Block) → Sound1 b → Enc b
 enc-of (cell c) s = enc-cell c s
@@ -119,3 +122,9 @@ pub sound-four : (bs : List Block) → Sound bs → sizes bs % 4 ≡ 0
 unfolding sizes
 sound-four [] s = refl
 sound-four (b ∷ bs) s = omega (arith, low-of b (s .0) .1, sound-four bs (s .1))
+
+-- a free block is one of type 0
+pub free-code : (b : Block) → freeB b ≡ eqb (code b) freeCode
+free-code (cell (free n)) = refl
+free-code (cell (held e)) = sym (not-free e)
+free-code (fixed d) = refl

@@ -1,5 +1,5 @@
 -- The bytes of a well-formed zone from its first block on are a stretch, and its blocks are those of the zone's structure.
-use mathlib.Core.Path.{_≡_, refl, sym, ap₂, _∙_}
+use mathlib.Core.Path.{_≡_, sym, ap₂, _∙_}
 use mathlib.Core.List.{List, [], _∷_}
 use mathlib.Core.Bool.{Bool, true, false}
 use Prim.Native.Nat.{ℕ, _<_, _≤_}
@@ -7,9 +7,8 @@ use native.Mathlib.Omega.{arith}
 use lib.ListN.{length, drop}
 use Rattle.format.specs.Occurs.{occurs}
 use Rattle.block_type.specs.Limits.{longestZone, zoneHeader, handleRange}
-use Rattle.kinds.specs.Kinds.{masterOf}
+use Rattle.kinds.proofs.KindLaws.{ok-of}
 use Rattle.format.specs.WellFormed.{firstField}
-use Rattle.format.proofs.Count.{one-same}
 use Rattle.structure.specs.Structure.{Block, cell, fixed, Structure, count, decodeZone, handlesOf}
 use Rattle.structure.specs.Valid.{Tiled, Valid}
 use Rattle.structure.proofs.Table.{Whole, encode-zone, start-is}
@@ -18,6 +17,7 @@ use Rattle.structure.proofs.Round.{offset-is, rest-is}
 use Rattle.bay.specs.Bay.{free, held}
 use Rattle.structure.specs.IsZone.{IsZone}
 use Rattle.structure.proofs.IsZone.{whole-of}
+use Rattle.structure.proofs.Append.{occurs-own, occurs-held}
 use Rattle.access.specs.row.Row.{Sound, Row, row, blocksOf}
 
 -- ---- the sizes of a valid structure's blocks
@@ -27,7 +27,7 @@ unfolding handlesOf occurs
 tiled-sound prev [] t f = tt
 tiled-sound prev (cell (free n) ∷ bs) t f = ((t .1, t .2, t .3), tiled-sound true bs (t .4) f)
 tiled-sound prev (fixed d ∷ bs) t f = ((t .0, t .1), tiled-sound false bs (t .3) f)
-tiled-sound prev (cell (held e) ∷ bs) t f = ((t .0, t .1, f (masterOf e) (omega (arith, one-same (masterOf e) (masterOf e) refl))), tiled-sound false bs (t .3) (λ k l. f k (omega arith)))
+tiled-sound prev (cell (held e) ∷ bs) t f = ((t .0, t .1, ok-of e (t .2) (λ h q. f h (occurs-own h e bs q))), tiled-sound false bs (t .3) (λ k l. f k (omega (arith, occurs-held k e bs))))
 
 pub valid-sound : (s : Structure) → Valid s → Sound (s .blocks)
 valid-sound s v = tiled-sound false (s .blocks) (v .tiled) (λ h l. let q = offset-is h zoneHeader (count s) (omega (arith, v .owned h)) in omega (arith, q .1, v .few))

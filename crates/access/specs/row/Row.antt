@@ -1,15 +1,15 @@
 -- A stretch of blocks: bytes that blocks tile, whatever the masters hold.
 use mathlib.Core.Path.{_≡_}
 use mathlib.Core.List.{List, [], _∷_, map}
-use mathlib.Core.Bool.{Bool}
+use mathlib.Core.Bool.{Bool, true, false}
 use Prim.Native.Nat.{ℕ, _+_, _%_, _≤_}
 use lib.ListN.{length, take, drop}
-use lib.Dec.{eqb}
-use Rattle.block_type.specs.Limits.{freeCode, fixedHeader, fixedLimit, smallestBlock}
+use Rattle.block_type.specs.Limits.{fixedHeader, fixedLimit, smallestBlock}
 use Rattle.bigendian.specs.BigEndian.{slice}
 use Rattle.format.specs.WellFormed.{sizeOf, typeOf, splitBlocks}
 use Rattle.structure.specs.Structure.{Block, fixed, size, code, encodeBlock, decodeBlock, join, cell}
 use Rattle.bay.specs.Sound.{Sound1 as SoundCell}
+use Rattle.bay.specs.Bay.{free, held}
 
 -- the blocks of a stretch
 unfoldable pub blocksOf : List ℕ → List Block
@@ -20,7 +20,9 @@ abbrev pub bytesOf : List Block → List ℕ
 bytesOf bs = join (map encodeBlock bs)
 
 abbrev pub freeB : Block → Bool
-freeB b = eqb (code b) freeCode
+freeB (cell (free n)) = true
+freeB (cell (held e)) = false
+freeB (fixed d) = false
 
 -- the sizes that the format has
 abbrev pub Sound1 : Block → Type 0

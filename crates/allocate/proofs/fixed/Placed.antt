@@ -1,32 +1,29 @@
 -- The new block is in its place: the bytes are those of the structure with it.
 use mathlib.Core.Path.{_≡_, refl, sym, ap, ap₂, _∙_}
 use mathlib.Core.List.{List, [], _∷_, _++_, map, append-assoc, append-nil}
-use Prim.Native.Nat.{ℕ, _+_, _-_, _*_, _/_, _<_, _≤_}
+use Prim.Native.Nat.{ℕ, _+_, _-_, _*_, _/_, _≤_}
 use native.Mathlib.Omega.{arith}
 use lib.ListN.{length, replicate, length-replicate, replicate-append-replicate}
 use mir.Val.{Fits}
 use mir.Syntax.{w32}
 use Rattle.structure.proofs.Append.{sizes-append, handles-append}
-use Rattle.block_type.specs.Limits.{fixedCode, fixedHeader, longestZone, typeUnit, zoneHeader, tagAt}
+use Rattle.block_type.specs.Limits.{fixedCode, fixedHeader, longestZone, typeUnit, tagAt}
 use Rattle.bigendian.specs.BigEndian.{toBE, overwrite}
 use Rattle.bigendian.proofs.Laws.{length-toBE}
-use Rattle.format.proofs.Count.{occurs}
 use Rattle.kinds.specs.Kinds.{Item}
 use Rattle.bay.specs.Bay.{Cell, baySize, packed, takeHigh}
 use Rattle.bay.specs.Sound.{bytesOf}
 use Rattle.bay.proofs.Laws.{cut-less}
 use Rattle.bay.proofs.BayBytes.{bytes-long}
-use Rattle.structure.specs.Structure.{Block, cell, fixed, Structure, size, sizes, count, start, fixedTag, encodeBlock, join, encode, decodeZone, handlesOf}
+use Rattle.structure.specs.Structure.{Block, cell, fixed, Structure, size, sizes, start, fixedTag, encodeBlock, join, encode, decodeZone, handlesOf}
 use Rattle.structure.specs.Valid.{Valid}
-use Rattle.structure.proofs.Round.{offset-is}
 use Rattle.access.specs.row.Row as Row
 use Rattle.access.proofs.row.Laws.{bytes-append, sound-append}
 use Rattle.zone.proofs.GroupLaws.{flatten-group}
 use Rattle.settle.specs.surgery.Masters as Masters
 use Rattle.slide.specs.ZoneBay.{setAll, bayCells}
 use Rattle.slide.proofs.Change.{Kept}
-use Rattle.settle.proofs.surgery.Sound.{handle-in}
-use Rattle.settle.proofs.surgery.Replace.{moved, occurs-parts}
+use Rattle.settle.proofs.surgery.Replace.{moved}
 use Rattle.settle.proofs.Cells.{all-bytes, all-sizes, all-sound, all-set, handles-items}
 use Rattle.room.specs.bay_end.Taken.{beforeZeros, CanTake}
 use Rattle.room.specs.bay_end.Run.{Run}
@@ -120,12 +117,6 @@ module _ (z : List ℕ) (need a e sum tail : ℕ) (x : Site z need a e sum tail)
   same-size : sizes new ≡ sizes (map cell cs)
   same-size = omega (arith, sizes-append (map cell ds) (fixed zs ∷ []), fixed-size zs, long-zs, all-sizes ds, all-sizes cs, cut-less need cs (x .found .enough) .size)
 
-  masters : (k : ℕ) → 0 < occurs k (handlesOf (map cell ds)) → 0 < k
-  masters k l =
-      let o : occurs k (handlesOf (map cell ds)) ≡ occurs k (handlesOf (map cell cs)) = ap (occurs k) (sym (handles-fixed (map cell ds) zs) ∙ same-handles) in
-      let i = handle-in s v k (omega (arith, ap (λ (b : List Block). occurs k (handlesOf b)) (run .parts), occurs-parts k pre (map cell cs) post)) in
-      omega (arith, offset-is k zoneHeader (count s) i .0)
-
   spot : e - need ≡ a + length (bytesOf ds)
   spot = omega (arith, ends, bytes-long ds (kept .sound))
 
@@ -139,7 +130,7 @@ module _ (z : List ℕ) (need a e sum tail : ℕ) (x : Site z need a e sum tail)
       (ap (λ (x : List ℕ). overwrite (overwrite y a (bytesOf ds ++ x)) (e - need) h) (two-zeros need (omega (arith, x .low)))
       ∙ write-in y (bytesOf ds) (0 ∷ 0 ∷ []) h (fixedTag ++ zs) a (e - need) (omega (arith, ends)) spot (sym (length-toBE 2 (fixedCode * typeUnit + need / 2)))
       ∙ ap (overwrite y a) (ap₂ _++_ (all-bytes ds) (sym (fixed-bytes need (omega (arith, x .low)))) ∙ sym (bytes-append (map cell ds) (fixed zs ∷ []))))
-      ∙ all-set a ds (overwrite y a (Row.bytesOf new)) masters
+      ∙ all-set a ds (overwrite y a (Row.bytesOf new))
       ∙ sym (set-fixed a (map cell ds) zs (overwrite y a (Row.bytesOf new)))
       ∙ ap (λ (o : ℕ). Masters.setAll o new (overwrite y o (Row.bytesOf new))) (run .numbers .start-is)
       ∙ moved s v pre (map cell cs) new post (s .chain) (run .parts) same-size

@@ -1,6 +1,6 @@
 -- The laws that the call's proofs cite.
 use mathlib.Core.Path.{_≡_, refl, sym, ap, _∙_}
-use mathlib.Core.List.{List, [], _∷_, _++_}
+use mathlib.Core.List.{List, [], _∷_, _++_, append-nil}
 use Prim.Native.Nat.{ℕ, _+_, _-_, _<_, _≤_}
 use native.Mathlib.Omega.{arith}
 use mir.Val.{Fits}
@@ -26,6 +26,8 @@ use Rattle.call_laws.proofs.Frame.{frame-ready, frame-done}
 use Rattle.free.specs.handle.Ready.{ReadyIn}
 use Rattle.free.proofs.handle.Bays.{no-block, frees}
 use Rattle.structure.specs.IsZone.{IsZone}
+use Rattle.kinds.specs.Kinds.{mastersOf}
+use Rattle.kinds.proofs.KindLaws.{is-masters}
 
 -- ---- the plan
 
@@ -47,7 +49,7 @@ module _ (z : List ℕ) (h head from at end to : ℕ) (r : ReadyIn z h head from
 
   handles : handlesOf (cell (held (r .block)) ∷ []) ≡ h ∷ []
   unfolding handlesOf
-  handles = ap (_∷ []) (r .its)
+  handles = append-nil (mastersOf (r .block)) ∙ is-masters h (r .block) (r .its)
 
   pub write-word : h < argumentRange
   write-word = omega (arith, freeing-master z _ _ from at end to (r .freeing) h handles, write-between .short)

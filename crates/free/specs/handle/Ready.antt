@@ -1,9 +1,10 @@
 -- What the plan of a free by handle hands over.
 use mathlib.Core.Path.{_≡_}
 use mathlib.Core.List.{List}
+use mathlib.Core.Bool.{true}
 use Prim.Native.Nat.{ℕ}
 use Rattle.format.specs.WellFormed.{chainField}
-use Rattle.kinds.specs.Kinds.{Item, masterOf}
+use Rattle.kinds.specs.Kinds.{Item, is}
 use Rattle.bay.specs.Bay.{held}
 use Rattle.structure.specs.Structure.{decodeZone, cell}
 use Rattle.access.specs.Edit.{placeIn}
@@ -14,7 +15,7 @@ use Rattle.free.specs.declared.handle.FreePlan.{FreePlan}
 pub record ReadyIn (z : List ℕ) (h head from at end to : ℕ) : Type 0 where
   pub live : placeIn z h ≡ 0 → ⊥
   pub block : Item
-  pub its : masterOf block ≡ h
+  pub its : is h block ≡ true
   pub freeing : Freeing z (freed h (decodeZone z) .blocks) (cell (held block)) from at end to
   pub is-head : head ≡ chainField z
 

@@ -18,7 +18,7 @@ use Rattle.format.specs.WellFormed.{isFree, wellFormed, firstField, zoneOf, len
 use Rattle.structure.specs.Structure.{Block, fixed, size, decode, cell}
 use Rattle.bay.specs.Bay.{free, held}
 use Rattle.access.specs.row.Row.{blocksOf, Stepped, blockAt, freeB}
-use Rattle.access.proofs.row.Laws.{row-end}
+use Rattle.access.proofs.row.Laws.{row-end, free-code}
 use Rattle.access.proofs.row.Zone.{blocks-are}
 use Rattle.zone.specs.Census.{limitsFrom, lowerLimits, countIf, countsOf, freeWords, census}
 use Rattle.access.proofs.Checked.{is-well}
@@ -124,7 +124,7 @@ tally-start z first cs e low = record { long = e; few = low; same = refl }
 module _ (z : List ℕ) (first p n : ℕ) (s : Stepped z p n) (f : Bool) (ef : f ≡ isFree (drop p z)) (cs₀ cs ds : List ℕ) (t : Tally z first p cs₀ cs) where
   free-is : freeB (blockAt z p) ≡ f
   unfolding isFree
-  free-is = ap (λ (k : ℕ). eqb k freeCode) (s .kind) ∙ sym ef
+  free-is = free-code (blockAt z p) ∙ ap (λ (k : ℕ). eqb k freeCode) (s .kind) ∙ sym ef
 
   pub tally-free : (j : ℕ) → f ≡ true → j < 19 → Stratum j (n / 2) → ds ≡ set cs j (getD cs j 0 + 1) → Tally z first (p + n) cs₀ ds
   tally-free j q l i e =

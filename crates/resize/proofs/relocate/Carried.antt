@@ -7,7 +7,7 @@ use lib.ListN.{length}
 use Rattle.format.specs.WellFormed.{firstField}
 use Rattle.block_type.specs.Limits.{relocHeader}
 use Rattle.bigendian.specs.BigEndian.{toBE, slice, overwrite}
-use Rattle.kinds.specs.Kinds.{Item, itemSize}
+use Rattle.kinds.specs.Kinds.{Item, itemSize, headerOf}
 use Rattle.calls.specs.Bays.{Bays}
 use Rattle.calls.specs.State.{Fixed}
 use Rattle.bay.specs.Bay.{held, gap, fill, baySize, release}
@@ -74,7 +74,7 @@ module _ (z : List ℕ) (h b a at n : ℕ) (x : Carry z h b a at n) where
         let ar = around z h b a at n (carry-in x) in
         let i = its z h b a at n (carry-in x) in
         ap₂ (slice z) (eo ∙ its-place s vv ar h i) (b-is z h b a at n (carry-in x))
-        ∙ ap (λ (y : List ℕ). slice y (start s + (sizes (ar .pre) + baySize (ar .low)) + relocHeader) (length (block z h b a at n (carry-in x) .bytes))) (sym is-z)
+        ∙ ap (λ (y : List ℕ). slice y (start s + (sizes (ar .pre) + baySize (ar .low)) + headerOf (block z h b a at n (carry-in x))) (length (block z h b a at n (carry-in x) .bytes))) (sym is-z)
         ∙ its-data s vv ar h i ∙ data-is z h b a at n (carry-in x)
 
     done : (y : List ℕ) → y ≡ movedBytes z h from to at n (relocHeader + a) (slice z old b) → y ≡ encode (carriedTo z h b a at n x)
@@ -88,7 +88,7 @@ module _ (z : List ℕ) (h b a at n : ℕ) (x : Carry z h b a at n) where
         ∙ ap (λ (l : List ℕ). movedBytes z h from to at n (relocHeader + a) l) data-here
         ∙ ap (λ (t : List ℕ). overwrite (overwrite t h m) from u) (new-data z d at h a (n - (relocHeader + a)) (omega (arith, x .grows .more, x .grows .is-b)) (omega (arith, f .inside)))
         ∙ ap₂ (λ (t : List ℕ) (i : ℕ). overwrite (overwrite (overwrite t at (bytesOf (held e ∷ gap i []))) h m) from u) (sym is-z) j
-        ∙ moved s (v z h b a at n (carry-in x)) (around z h b a at n (carry-in x)) h (its z h b a at n (carry-in x)) valid-freed (blocksBefore k′) (blocksAfter k′) (x .bay) freed-parts (x .hole) (x .is) e refl ok (omega (arith, size-is, x .fits)) long
+        ∙ moved s (v z h b a at n (carry-in x)) (around z h b a at n (carry-in x)) h (its z h b a at n (carry-in x)) valid-freed (blocksBefore k′) (blocksAfter k′) (x .bay) freed-parts (x .hole) (x .is) e refl refl ok (omega (arith, size-is, x .fits)) long
         at from to place-new (from-place z h b a at n (carry-in x) old eo first ef prev stop p from to q) (to-place z h b a at n (carry-in x) old eo first ef prev stop p from to q) (apart z h b a at n (carry-in x) old eo first ef prev stop p from to q)
         ∙ ap (λ (bs : List Block). encode (record { chain = s .chain; blocks = bs })) (sym (plug-flat k′ (fill e (x .hole))))
 

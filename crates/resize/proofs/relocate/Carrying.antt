@@ -2,15 +2,16 @@
 use mathlib.Core.Path.{_≡_, refl, sym, ap, _∙_, subst}
 use mathlib.Core.Option.{some}
 use mathlib.Core.List.{List, [], _∷_}
+use mathlib.Core.Bool.{true}
 use Prim.Native.Nat.{ℕ, _+_, _-_, _<_, _≤_}
 use native.Mathlib.Omega.{arith}
 use mir.Val.{Fits}
 use mir.Syntax.{w64}
 use lib.ListN.{length}
-use borrow.Author.Tests.{eqb-true}
 use Rattle.format.specs.WellFormed.{firstField}
 use Rattle.block_type.specs.Limits.{relocHeader, zoneHeader, masterSize, argumentRange}
-use Rattle.kinds.specs.Kinds.{Item, headerOf, masterOf, itemSize}
+use Rattle.kinds.specs.Kinds.{Item, headerOf, itemSize, is}
+use Rattle.kinds.proofs.KindLaws.{is-header}
 use Rattle.calls.specs.Bays.{Bays, mapS, findS}
 use Rattle.calls.specs.State.{get, Fixed}
 use Rattle.bay.specs.Bay.{Cell, free, held, baySize, gap, items, release}
@@ -111,8 +112,11 @@ module _ (z : List ℕ) (h b a at n : ℕ) (y : CarryIn z h b a at n) where
   abbrev pub around : Around (decodeZone z .blocks) (freed h (decodeZone z) .blocks) (cell (held block))
   around = around-same blocks-are (ap (λ (u : Bays (List Cell) Fixed). flatten u) freed-bays) (side .around)
 
-  pub its : masterOf block ≡ h
-  its = sym (eqb-true h (masterOf block) (side .its))
+  pub its : is h block ≡ true
+  its = side .its
+
+  head : headerOf block ≡ relocHeader
+  head = is-header h block its
 
   pub b-is : b ≡ length (block .bytes)
   b-is = x .grows .is-b ∙ ap length (sym data-is)
@@ -156,19 +160,19 @@ module _ (z : List ℕ) (h b a at n : ℕ) (y : CarryIn z h b a at n) where
     place-is = eo ∙ its-place s v around h its
 
     carry-low : relocHeader ≤ old
-    carry-low = omega (arith, place-is)
+    carry-low = omega (arith, head, place-is)
 
     abbrev low : ℕ
     low = old - relocHeader
 
     low-is : low ≡ start s + (sizes (around .pre) + baySize (around .low))
-    low-is = omega (arith, place-is)
+    low-is = omega (arith, head, place-is)
 
     room : low + itemSize block ≤ length z
     room = Found.block-fits z carry-zone (firstField z) refl (freed h s .blocks) (cell (held block)) around low low-is
 
     high-is : old + b ≡ low + itemSize block
-    high-is = omega (arith, b-is, carry-low)
+    high-is = omega (arith, head, b-is, carry-low)
 
     module _ (first : ℕ) (ef : first ≡ firstField z) (prev stop : ℕ) (p : Stopped z first low prev stop) where
       high-in : old + b ≤ length z

@@ -8,11 +8,11 @@ use native.Mathlib.Omega.{arith}
 use lib.ListN.{length}
 use Rattle.block_type.specs.Limits.{relocHeader}
 use Rattle.calls.specs.Bays.{over, orElse, findS}
-use Rattle.kinds.specs.Kinds.{Item, itemSize}
+use Rattle.kinds.specs.Kinds.{Item, item}
 use Rattle.calls.specs.State.{get, ownSum}
 use Rattle.bay.specs.Bay.{Cell, baySum, items, release}
 use Rattle.bay.specs.Counted.{count, live}
-use Rattle.zone.proofs.Once.{often, taken, count-get, sum-released, blockOf}
+use Rattle.zone.proofs.Once.{Named, unnamed, named, get-named, often, taken, count-get, sum-released, blockOf}
 use Rattle.resize.specs.relocate.Slot.{Slot, at-end, at-fixed, behind, plug, others, Under}
 use Rattle.resize.proofs.relocate.Slots.{plug-live}
 
@@ -64,14 +64,14 @@ module _ (h a : ℕ) (e : Item) where
   under-freed at-end b l f t u = tt
   under-freed (at-fixed x s) b l f t u = tt
   under-freed (behind c x k) b l f t u =
-      go (get h (items c)) (count-get h (items c) (omega arith)) (sum-released h c (omega arith)) f t (λ f t. under-freed k b (omega arith) f t (u .1))
+      go (get-named h (items c)) (count-get h (items c) (omega arith)) (sum-released h c (omega arith)) f t (λ f t. under-freed k b (omega arith) f t (u .1))
     where
-      go : (o : Option Item) → count h (items c) ≡ often o → baySum (release h c) ≡ baySum c + taken o → orElse o (blockOf h (plug k b)) ≡ some e
+      go : {o : Option Item} → Named h o → count h (items c) ≡ often o → baySum (release h c) ≡ baySum c + taken o → orElse o (blockOf h (plug k b)) ≡ some e
           → Option·getD (orElse (sumIn c o) (findS (λ (c : List Cell). sumIn c (get h (items c))) (plug k b))) 0 + length (e .bytes) < a
           → (blockOf h (plug k b) ≡ some e → ownSum items baySum h (plug k b) + length (e .bytes) < a → Under (relocHeader + a) (others (release h) k))
           → Under (relocHeader + a) (others (release h) (behind c x k))
-      go none q s f t ih = (omega (arith, s, u .0), ih f t)
-      go (some i) q s f t ih =
-          let j : i ≡ e = cc in
-          let n : itemSize i ≡ itemSize e = ap itemSize j in
+      go unnamed q s f t ih = (omega (arith, s, u .0), ih f t)
+      go (named {d = d}) q s f t ih =
+          let j : item h d ≡ e = cc in
+          let n : length d ≡ length (e .bytes) = ap (λ (i : Item). length (i .bytes)) j in
           (omega (arith, s, t, n), under-same (relocHeader + a) k b (omega arith) (u .1))

@@ -2,7 +2,7 @@
 -- and its free neighbours. It is the block freed and then allocated anew.
 use mathlib.Core.Path.{_≡_, refl, sym, ap, ap₂, _∙_}
 use mathlib.Core.Bool.{Bool, true, false, cond}
-use mathlib.Core.List.{List, [], _∷_, _++_, map}
+use mathlib.Core.List.{List, [], _∷_, _++_, map, append-nil}
 use Prim.Native.Nat.{ℕ, _+_, _-_, _≤_, _<_}
 use native.Mathlib.Omega.{arith}
 use lib.Dec.{eqb}
@@ -13,7 +13,9 @@ use Rattle.block_type.specs.Limits.{zoneHeader, chainAt}
 use Rattle.bigendian.specs.BigEndian.{toBE, overwrite}
 use Rattle.bigendian.proofs.Laws.{length-toBE}
 use Rattle.bigendian.proofs.Overwrite.{swap}
-use Rattle.kinds.specs.Kinds.{Item, headerOf, masterOf, itemSize}
+use Rattle.kinds.specs.Kinds.{Item, headerOf, masterOf, itemSize, mastersOf}
+use Rattle.kinds.specs.Kinds as Kinds
+use Rattle.kinds.proofs.KindLaws.{is-masters}
 use Rattle.bay.specs.Bay.{Cell, free, held, baySize, gap, Hole, fill}
 use Rattle.bay.specs.Sound.{bytesOf, Sound1}
 use Rattle.bay.proofs.Laws.{bsize-append}
@@ -41,10 +43,10 @@ twice g h u v k = go (eqb k h)
     go true = refl
     go false = refl
 
-module _ (s : Structure) (v : Valid s) {bs′ : List Block} {e₀ : Item} (a : Around (s .blocks) bs′ (cell (held e₀))) (h : ℕ) (its : masterOf e₀ ≡ h) where
+module _ (s : Structure) (v : Valid s) {bs′ : List Block} {e₀ : Item} (a : Around (s .blocks) bs′ (cell (held e₀))) (h : ℕ) (its : Kinds.is h e₀ ≡ true) where
   pub handles : handlesOf (cell (held e₀) ∷ []) ≡ h ∷ []
   unfolding handlesOf
-  handles = ap (_∷ []) its
+  handles = append-nil (mastersOf e₀) ∙ is-masters h e₀ its
 
   abbrev new : List Block
   new = cell (free (Parts.amount s v a)) ∷ []
@@ -59,7 +61,7 @@ module _ (s : Structure) (v : Valid s) {bs′ : List Block} {e₀ : Item} (a : A
       omega (arith, ap sizes (Parts.new-parts s v a), sizes-parts (Parts.before s v a) new (Parts.after s v a), same-size s v a, Parts.inside-sizes s v a, Parts.all-sizes-are s v a)
 
   module _ (v₂ : Valid (record { chain = h ∷ s .chain; blocks = bs′ })) (before after : List Block) (bay : List Cell) (parts : bs′ ≡ before ++ (map cell bay ++ after))
-      (x : Hole) (is : bay ≡ x .before ++ (free (x .size) ∷ x .after)) (e : Item) (em : masterOf e ≡ h) (ok : Sound1 (held e)) (fits : itemSize e ≤ x .size)
+      (x : Hole) (is : bay ≡ x .before ++ (free (x .size) ∷ x .after)) (e : Item) (em : masterOf e ≡ h) (es : mastersOf e ≡ h ∷ []) (ok : Sound1 (held e)) (fits : itemSize e ≤ x .size)
       (long : length (bytesOf (held e ∷ gap (x .size - itemSize e) [])) ≡ x .size) (at from to : ℕ) (ea : at ≡ start s + sizes before + baySize (x .before))
       (ef : from ≡ start s + sizes (Parts.before s v a)) (et : to ≡ from + Parts.amount s v a) (apart : Apart from to at (x .size)) where
     abbrev B : List ℕ
@@ -149,4 +151,4 @@ module _ (s : Structure) (v : Valid s) {bs′ : List Block} {e₀ : Item} (a : A
         ∙ img-same (len s) (start s) (count s) c (upd (value s) h (at + headerOf e)) (upd (upd (value s) h c) h (at + headerOf e)) (overwrite (overwrite r pf X) pa B) (λ k l. sym (twice (value s) h c (at + headerOf e) k))
         ∙ sym placed-image
         ∙ ap (λ (o : ℕ). settled (overwrite (encode (record { chain = h ∷ s .chain; blocks = bs′ })) chainAt (toBE 2 c)) o (held e ∷ gap (x .size - itemSize e) [])) (sym q)
-        ∙ fill-placed (record { chain = h ∷ s .chain; blocks = bs′ }) v₂ before after bay parts x is e (s .chain) (ap (_∷ s .chain) (sym em)) ok fits
+        ∙ fill-placed (record { chain = h ∷ s .chain; blocks = bs′ }) v₂ before after bay parts x is e (s .chain) (ap (_++ s .chain) (sym es)) ok fits

@@ -5,7 +5,7 @@ use Prim.Native.Nat.{ℕ, _+_, _-_, _*_, _/_}
 use native.Mathlib.Omega.{arith}
 use lib.ListN.{length, take, drop, replicate, length-append}
 use lib.Seq.{drop-drop, take-at, drop-at, take-all}
-use Rattle.block_type.specs.Limits.{typeUnit, tagAt}
+use Rattle.block_type.specs.Limits.{typeUnit, tagAt, relocCode}
 use Rattle.bigendian.specs.BigEndian.{toBE, slice}
 use Rattle.bigendian.proofs.Laws.{length-toBE}
 use Rattle.kinds.specs.Kinds.{Item, codeOf, tagOf, itemSize}
@@ -79,16 +79,16 @@ module _ (xs ys : List Item) (e : Item) (n at o run more a : ℕ) (la : length (
   new-data : sized a d ≡ d ++ replicate more 0
   new-data = let k : a - length d ≡ more = omega arith in ap₂ (λ (x : List ℕ) (i : ℕ). x ++ replicate i 0) (take-all a d (omega arith)) k
 
-  pub grown-bay : grownBytes s at o run more ≡ bytesOf (laid xs (resized a e) ys (n - more))
+  pub grown-bay : codeOf e ≡ relocCode → grownBytes s at o run more ≡ bytesOf (laid xs (resized a e) ys (n - more))
   unfolding grownBytes
-  grown-bay =
+  grown-bay kind =
       let g = bytesOf (gap (n - more) []) in
       let e₁ : take at s ≡ bytesIn xs = ap (take at) image ∙ take-at (bytesIn xs) _ at la in
       let e₂ : slice s (at + tagAt) (o - (at + tagAt)) ≡ tagOf e ++ d = ap (take (o - (at + tagAt))) drop-w ∙ take-at (tagOf e ++ d) _ (o - (at + tagAt)) lhd in
       let e₃ : slice s o run ≡ bytesIn ys = ap (take run) drop-o ∙ take-at (bytesIn ys) _ run lb in
       let e₄ : length s - (o + run) - more ≡ n - more = omega (arith, long) in
       let e₅ : o + more - at ≡ itemSize (resized a e) = omega (arith, length-sized a d) in
-      rw (e₁, e₂, e₃, e₄, e₅)
+      rw (e₁, e₂, e₃, e₄, e₅, ap (λ (k : ℕ). toBE 2 (k * typeUnit + itemSize (resized a e) / 2)) (sym kind))
       (ap (λ (t : List ℕ). bytesIn xs ++ (toBE 2 (codeOf e * typeUnit + itemSize (resized a e) / 2) ++ t))
       (sym (ap (λ (x : List ℕ). (tagOf e ++ x) ++ (bytesIn ys ++ g)) new-data ∙ (simp append-assoc)))
       ∙ sym (laid-bytes xs ys (resized a e) (n - more) ∙ ap (λ (t : List ℕ). bytesIn xs ++ t) (append-assoc (toBE 2 (codeOf e * typeUnit + itemSize (resized a e) / 2)) (tagOf e ++ sized a d) (bytesIn ys ++ g))))

@@ -4,9 +4,8 @@ use mathlib.Core.Bool.{Bool, true, false, cond}
 use mathlib.Core.List.{List, [], _∷_, _++_, map}
 use Prim.Native.Nat.{ℕ, suc, _+_, _%_, _≤_}
 use native.Mathlib.Omega.{arith}
-use borrow.Author.Tests.{eq-eqb}
 use Rattle.block_type.specs.Limits.{longestZone, masterSize}
-use Rattle.kinds.specs.Kinds.{Item, headerOf, masterOf, itemSize, is}
+use Rattle.kinds.specs.Kinds.{Item, headerOf, masterOf, itemSize, is, mastersOf}
 use Rattle.calls.specs.State.{total}
 use Rattle.bay.specs.Bay.{Cell, held, baySize, baySum, items, gap, packed, compactBay}
 use Rattle.bay.specs.Counted.{count}
@@ -37,9 +36,9 @@ pub laid-size : (xs ys : List Item) (e : Item) (n : ℕ) → baySize (laid xs e 
 laid-size xs ys e n = omega (arith, bsize-packed xs (held e ∷ packed ys (gap n [])), bsize-packed ys (gap n []), bsize-gap n [])
 
 -- where the block is, the first item being at p
-pub laid-place : (h p : ℕ) (xs : List Item) (e : Item) (t : List Cell) (r : List Block) → count h xs ≡ 0 → h ≡ masterOf e → placeOf h p (map cell (packed xs (held e ∷ t)) ++ r) ≡ p + total xs + headerOf e
+pub laid-place : (h p : ℕ) (xs : List Item) (e : Item) (t : List Cell) (r : List Block) → count h xs ≡ 0 → is h e ≡ true → placeOf h p (map cell (packed xs (held e ∷ t)) ++ r) ≡ p + total xs + headerOf e
 unfolding placeOf
-laid-place h p [] e t r q i = rw (eq-eqb h (masterOf e) i) (omega arith)
+laid-place h p [] e t r q i = rw i (omega arith)
 laid-place h p (x ∷ xs) e t r q i = go (is h x) q (λ k. laid-place h (p + itemSize x) xs e t r k i)
   where
     go : (b : Bool) → cond b (suc (count h xs)) (count h xs) ≡ 0 → (count h xs ≡ 0 → placeOf h (p + itemSize x) (map cell (packed xs (held e ∷ t)) ++ r) ≡ p + itemSize x + total xs + headerOf e)
@@ -64,7 +63,7 @@ packed-low lim (x ∷ xs) t t′ f s = (s .0, packed-low lim xs t t′ f (s .1))
 packed-handles : (xs : List Item) (t t′ : List Cell) → handlesOf (map cell t) ≡ handlesOf (map cell t′) → handlesOf (map cell (packed xs t)) ≡ handlesOf (map cell (packed xs t′))
 unfolding handlesOf
 packed-handles [] t t′ q = q
-packed-handles (x ∷ xs) t t′ q = ap (λ (l : List ℕ). masterOf x ∷ l) (packed-handles xs t t′ q)
+packed-handles (x ∷ xs) t t′ q = ap (mastersOf x ++_) (packed-handles xs t t′ q)
 
 module _ (xs ys : List Item) (e : Item) (n : ℕ) where
   pub laid-sound1 : Sound (laid xs e ys n) → Sound1 (held e)
@@ -90,8 +89,8 @@ module _ (xs ys : List Item) (e e′ : Item) (n n′ : ℕ) where
       packed-low lim xs (held e ∷ packed ys (gap n [])) (held e′ ∷ packed ys (gap n′ []))
       (λ k. (omega (arith, k .0, q), packed-low lim ys (gap n []) (gap n′ []) (λ j. gap-low lim n′ [] l tt) (k .1))) s
 
-  pub laid-handles : masterOf e ≡ masterOf e′ → handlesOf (map cell (laid xs e ys n)) ≡ handlesOf (map cell (laid xs e′ ys n′))
+  pub laid-handles : mastersOf e ≡ mastersOf e′ → handlesOf (map cell (laid xs e ys n)) ≡ handlesOf (map cell (laid xs e′ ys n′))
   unfolding handlesOf
   laid-handles q =
       packed-handles xs (held e ∷ packed ys (gap n [])) (held e′ ∷ packed ys (gap n′ []))
-      (ap (λ (k : ℕ). k ∷ handlesOf (map cell (packed ys (gap n [])))) q ∙ ap (λ (l : List ℕ). masterOf e′ ∷ l) (packed-handles ys (gap n []) (gap n′ []) (gap-handles n ∙ sym (gap-handles n′))))
+      (ap (_++ handlesOf (map cell (packed ys (gap n [])))) q ∙ ap (mastersOf e′ ++_) (packed-handles ys (gap n []) (gap n′ []) (gap-handles n ∙ sym (gap-handles n′))))

@@ -8,10 +8,9 @@ use lib.Seq.{drop-drop, drop-at}
 use Rattle.bigendian.specs.BigEndian.{fromBE, slice}
 use Rattle.block_type.specs.Limits.{freeHeader, relocHeader, longestZone}
 use Rattle.kinds.specs.Kinds.{Item, headerOf, itemSize}
-use Rattle.kinds.proofs.KindLaws.{facts}
+use Rattle.kinds.proofs.KindLaws.{facts, is-code}
 use Rattle.calls.specs.State.{total}
 use Rattle.bay.specs.Bay.{Cell, baySize, baySum, items, gap, packed, compactBay, resized, reshape}
-use Rattle.bay.specs.Counted.{count}
 use Rattle.bay.specs.Sound.{bytesOf, cellsOf, Sound}
 use Rattle.bay.proofs.BayBytes.{bytes-long, cells-bytes, gap-some}
 use Rattle.bay.proofs.Laws.{bsize-gap, bsize-packed}
@@ -102,7 +101,7 @@ module _ (z : List ℕ) (h from end sum b a : ℕ) (x : Laid z h from end sum b 
     news = laid xs (resized a e) ys (n - more)
 
     grown-is : grownBytes (partOf z₁ from end) low high run more ≡ bytesOf news
-    grown-is = ap (λ (y : List ℕ). grownBytes y low high run more) part-is ∙ grown-bay xs ys e n low high run more a long-left high-of long-right long-gap gain
+    grown-is = ap (λ (y : List ℕ). grownBytes y low high run more) part-is ∙ grown-bay xs ys e n low high run more a long-left high-of long-right long-gap gain (is-code h e (o .its))
 
     new-sound : Sound news
     new-sound =
@@ -124,8 +123,7 @@ module _ (z : List ℕ) (h from end sum b a : ℕ) (x : Laid z h from end sum b 
     news-are : reshape h a (bayOf o) ≡ news
     news-are =
         let k : a - length (e .bytes) ≡ more = omega arith in
-        ap (λ (i : ℕ). reshape i a (bayOf o)) (o .its)
-        ∙ reshape-laid e a (o .left) (o .right) (subst (λ (i : ℕ). count i xs ≡ 0) (o .its) (o .first)) (subst (λ (i : ℕ). count i ys ≡ 0) (o .its) (o .only)) (omega (arith, x .grows, x .size)) (rw k fits)
+        reshape-laid h e (o .its) a (o .left) (o .right) (o .first) (o .only) (omega (arith, x .grows, x .size)) (rw k fits)
         ∙ sym (laid-map xs ys (resized a e) (n - (a - length (e .bytes))))
         ∙ ap (λ (i : ℕ). laid xs (resized a e) ys (n - i)) k
 
@@ -143,22 +141,22 @@ module _ (z : List ℕ) (h from end sum b a : ℕ) (x : Laid z h from end sum b 
     at₁ = at-is z h from end sum b a x z₁ e₁ at ea
 
     low-of : low ≡ total xs
-    low-of = el ∙ below at from (total xs) at₁
+    low-of = el ∙ below at from (total xs) (headerOf e) (x .own .head) at₁
       where
-        below : (i j k : ℕ) → i ≡ j + k + relocHeader → i - relocHeader - j ≡ k
-        below i j k q = omega arith
+        below : (i j k g : ℕ) → g ≡ relocHeader → i ≡ j + k + g → i - relocHeader - j ≡ k
+        below i j k g p q = omega arith
 
     high-of : high ≡ low + itemSize e
-    high-of = eh ∙ ap (λ (i : ℕ). at + i - from) (x .size) ∙ above at from (total xs) (length (e .bytes)) at₁ ∙ ap (λ (i : ℕ). i + itemSize e) (sym low-of)
+    high-of = eh ∙ ap (λ (i : ℕ). at + i - from) (x .size) ∙ above at from (total xs) (length (e .bytes)) (headerOf e) at₁ ∙ ap (λ (i : ℕ). i + itemSize e) (sym low-of)
       where
-        above : (i j k l : ℕ) → i ≡ j + k + relocHeader → i + l - j ≡ k + (relocHeader + l)
-        above i j k l q = omega arith
+        above : (i j k l g : ℕ) → i ≡ j + k + g → i + l - j ≡ k + (g + l)
+        above i j k l g q = omega arith
 
     run-of : run ≡ total ys
-    run-of = er ∙ behind end sum at b from (total xs) (total ys) n (length (e .bytes)) (span z h from end sum b a x) at₁ (x .size) (x .numbers .sum-is)
+    run-of = er ∙ behind end sum at b from (total xs) (total ys) n (length (e .bytes)) (headerOf e) (span z h from end sum b a x) at₁ (x .size) (x .numbers .sum-is)
       where
-        behind : (i j k l f m r c d : ℕ) → i ≡ f + (m + (relocHeader + d + (r + c))) → k ≡ f + m + relocHeader → l ≡ d → j ≡ c → i - j - (k + l) ≡ r
-        behind i j k l f m r c d p q u t = omega arith
+        behind : (i j k l f m r c d g : ℕ) → i ≡ f + (m + (g + d + (r + c))) → k ≡ f + m + g → l ≡ d → j ≡ c → i - j - (k + l) ≡ r
+        behind i j k l f m r c d g p q u t = omega arith
 
     gain : a ≡ more + length (e .bytes)
     gain = (sum-of a b more em (ask-more z h from end sum b a x)) ∙ ap (more +_) (x .size)

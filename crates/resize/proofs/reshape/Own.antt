@@ -6,8 +6,8 @@ use mathlib.Core.List.{List, [], _∷_, _++_, map, append-assoc, map-append}
 use Prim.Native.Nat.{ℕ, suc, _+_, _≤_}
 use native.Mathlib.Nat.{add-zero, add-assoc}
 use native.Mathlib.Omega.{arith}
-use borrow.Author.Tests.{eqb-true, eq-eqb}
 use Rattle.kinds.specs.Kinds.{Item, headerOf, itemSize, is}
+use Rattle.kinds.proofs.KindLaws.{is-header}
 use Rattle.calls.specs.Bays.{Bays, last, more, over, orElse, findS, onLowest}
 use Rattle.calls.specs.State.{Fixed, fsize, get, ownSum}
 use Rattle.calls.specs.Table.{isNone}
@@ -27,7 +27,7 @@ use Rattle.resize.specs.reshape.Own.{Own, dataAt}
 -- the block of handle h is there, or none
 data InBay (h : ℕ) (b : List Cell) : Type 0 where
   gone : count h (items b) ≡ 0 → InBay h b
-  there : (left : List Cell) (mine : Item) (right : List Cell) → b ≡ left ++ (held mine ∷ right) → h ≡ mine .handle → count h (items left) ≡ 0
+  there : (left : List Cell) (mine : Item) (right : List Cell) → b ≡ left ++ (held mine ∷ right) → is h mine ≡ true → count h (items left) ≡ 0
       → count h (items b) ≡ suc (count h (items right)) → has h b ≡ true → InBay h b
 
 in-bay : (h : ℕ) (b : List Cell) → InBay h b
@@ -40,7 +40,7 @@ in-bay h (free n ∷ b) = go (in-bay h b)
 in-bay h (held e ∷ b) = go (is h e) refl (in-bay h b)
   where
     go : (t : Bool) → is h e ≡ t → InBay h b → InBay h (held e ∷ b)
-    go true q i = there [] e b refl (eqb-true h (e .handle) q) refl (rw q) (rw q)
+    go true q i = there [] e b refl q refl (rw q) (rw q)
     go false q (gone c) = gone (rw q c)
     go false q (there l m r p i f c t) = there (held e ∷ l) m r (ap (held e ∷_) p) i (rw q f) (rw q c) (rw q t)
 
@@ -89,7 +89,7 @@ has-sum h b t = go (get h (items b)) t
 -- found in the bay b, behind which are the blocks r
 module _ (h p : ℕ) (s : Bays (List Cell) Fixed) (b : List Cell) (r : List Block) (fl : flatten s ≡ map cell b ++ r)
     (at : (f : List Cell → List Cell) → has h b ≡ true → At f s (onLowest (has h) f s) [] b r) (sum : has h b ≡ true → ownSum items baySum h s ≡ baySum b) where
-  found : (left : List Cell) (mine : Item) (right : List Cell) → b ≡ left ++ (held mine ∷ right) → h ≡ mine .handle → count h (items left) ≡ 0 → count h (items right) ≡ 0 → has h b ≡ true → OwnAt h p s
+  found : (left : List Cell) (mine : Item) (right : List Cell) → b ≡ left ++ (held mine ∷ right) → is h mine ≡ true → count h (items left) ≡ 0 → count h (items right) ≡ 0 → has h b ≡ true → OwnAt h p s
   unfolding placeOf dataOf
   found left mine right e i f o t =
       let fl′ : flatten s ≡ map cell left ++ (cell (held mine) ∷ (map cell right ++ r)) =
@@ -102,13 +102,14 @@ module _ (h p : ℕ) (s : Bays (List Cell) Fixed) (b : List Cell) (r : List Bloc
           right = right;
           after = r;
           its = i;
+          head = is-header h mine i;
           first = f;
           only = o;
-          bytes = ap (dataOf h) fl′ ∙ data-past h left (cell (held mine) ∷ (map cell right ++ r)) f ∙ (rw (eq-eqb h (mine .handle) i));
+          bytes = ap (dataOf h) fl′ ∙ data-past h left (cell (held mine) ∷ (map cell right ++ r)) f ∙ (rw i);
           sum = sum t ∙ ap baySum e;
           at = λ g. subst (λ (c : List Cell). At g s (onLowest (has h) g s) [] c r) e (at g t);
         };
-        place = ap (placeOf h p) fl′ ∙ place-past h p left (cell (held mine) ∷ (map cell right ++ r)) f ∙ (rw (eq-eqb h (mine .handle) i) (omega (arith, no-sizes)));
+        place = ap (placeOf h p) fl′ ∙ place-past h p left (cell (held mine) ∷ (map cell right ++ r)) f ∙ (rw i (omega (arith, no-sizes)));
       }
 
 pub own-of : (h : ℕ) (s : Bays (List Cell) Fixed) (p : ℕ) → live h s ≤ 1 → (placeOf h p (flatten s) ≡ 0 → ⊥) → OwnAt h p s
@@ -138,6 +139,7 @@ own-of h (more b x s) p l ne = go (in-bay h b) (own-of h s (p + baySize b + fsiz
             right = o .right;
             after = o .after;
             its = o .its;
+            head = o .head;
             first = o .first;
             only = o .only;
             bytes = data-past h b (fixed (x .bytes) ∷ flatten s) q ∙ o .bytes;

@@ -8,8 +8,7 @@ use lib.ListN.{length, drop}
 use lib.Seq.{drop-drop, drop-at}
 use Rattle.structure.proofs.Append.{sizes-append}
 use Rattle.calls.specs.Bays.{onLowest}
-use Rattle.bay.specs.Bay.{Cell, held, baySize, items, gap, resized, reshape}
-use Rattle.bay.specs.Counted.{count}
+use Rattle.bay.specs.Bay.{Cell, held, baySize, gap, resized, reshape}
 use Rattle.bay.specs.Ends.{startFree, pastStart}
 use Rattle.bay.proofs.Laws.{bsize-gap}
 use Rattle.bay.proofs.Sound.{Sound}
@@ -75,7 +74,7 @@ module _ (s : Structure) (v : Valid s) (h : ℕ) (o : Own h (baysOf s)) where
       → flatten (onLowest (has h) (reshape h a) (baysOf s)) ≡ pre ++ (map cell (held (resized a (o .mine)) ∷ gap (length (o .mine .bytes) + startFree (o .right) - a) []) ++ rest)
   parts-new a l =
       let w : reshape h a (bayOf o) ≡ o .left ++ (held (resized a (o .mine)) ∷ (gap (length (o .mine .bytes) + startFree (o .right) - a) [] ++ pastStart (o .right))) =
-      ap (λ (k : ℕ). reshape k a (bayOf o)) (o .its) ∙ reshape-here (o .mine) a (o .left) (o .right) (subst (λ (k : ℕ). count k (items (o .left)) ≡ 0) (o .its) (o .first)) right-sound l in
+      reshape-here h (o .mine) (o .its) a (o .left) (o .right) (o .first) right-sound l in
       at-new (o .at (reshape h a)) ∙ ap (λ (cs : List Cell). o .before ++ (map cell cs ++ o .after)) w
       ∙ regroup (o .before) (o .after) (o .left) (gap (length (o .mine .bytes) + startFree (o .right) - a) []) (pastStart (o .right)) (held (resized a (o .mine)))
 

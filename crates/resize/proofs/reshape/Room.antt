@@ -31,6 +31,7 @@ use Rattle.resize.proofs.reshape.Own.{OwnAt, own-of}
 use Rattle.resize.proofs.reshape.Parts.{behind-bytes, behind-sound, parts-end}
 use Rattle.structure.specs.IsZone.{IsZone}
 use Rattle.structure.proofs.IsZone.{whole-of}
+use Rattle.kinds.proofs.KindLaws.{facts}
 
 -- ---- the free bytes in front of some blocks
 
@@ -53,7 +54,7 @@ lead-cells (held e ∷ cs) r q = refl
 
 lead-free : (b : Block) (bs : List Block) (n : ℕ) → code b ≡ freeCode → size b ≡ n → n ≡ lead (b ∷ bs)
 lead-free (cell (free k)) bs n q z = sym z
-lead-free (cell (held e)) bs n q z = let x : ⊥ = omega arith in absurd x
+lead-free (cell (held e)) bs n q z = let x : ⊥ = omega (arith, facts e .used) in absurd x
 lead-free (fixed d) bs n q z = let x : ⊥ = omega arith in absurd x
 
 lead-used : (b : Block) (bs : List Block) → (code b ≡ freeCode → ⊥) → 0 ≡ lead (b ∷ bs)

@@ -7,8 +7,8 @@ use lib.ListN.{length, take, drop, replicate, length-take, take-append-drop}
 use Rattle.block_type.specs.Limits.{longestZone, relocHeader, relocCode, relocLimit, typeUnit}
 use Rattle.bigendian.specs.BigEndian.{toBE, slice, overwrite}
 use Rattle.bigendian.proofs.Overwrite.{write-mid}
-use Rattle.kinds.specs.Kinds.{headerOf}
-use Rattle.kinds.proofs.KindLaws.{facts}
+use Rattle.kinds.specs.Kinds.{headerOf, codeOf}
+use Rattle.kinds.proofs.KindLaws.{facts, is-code}
 use Rattle.bay.specs.Bay.{Cell, held, baySize, gap, resized}
 use Rattle.bay.specs.Ends.{startFree}
 use Rattle.bay.specs.Sound.{bytesOf, Sound}
@@ -96,7 +96,7 @@ module _ (z : List ℕ) (i : IsZone z) (h : ℕ) (o : Own h (baysOf (decodeZone 
         q
         ∙ sym (ap (λ (x : List ℕ). overwrite x p (bytesOf new)) split ∙ write-mid (take p z) (bytesOf old) (bytesOf new) back p lf (bytes-long old old-sound ∙ sym size-new ∙ sym (bytes-long new new-sound)))
         ∙ ap (λ (x : List ℕ). overwrite x p (bytesOf new)) (sym (encode-zone z w))
-        ∙ still s v (pre s v h o) (rest s v h o) (o .mine) (resized a (o .mine)) f (b + f - a) parts-are new-sound size-new refl refl
+        ∙ still s v (pre s v h o) (rest s v h o) (o .mine) (resized a (o .mine)) f (b + f - a) parts-are new-sound size-new refl (λ k. refl) refl
         ∙ ap (λ (l : List Block). encode (record { chain = s .chain; blocks = l })) (sym (bs ∙ ap (λ (k : ℕ). pre s v h o ++ (map cell (held (resized a (o .mine)) ∷ gap k []) ++ rest s v h o)) n))
 
     -- what a plan hands over
@@ -104,14 +104,17 @@ module _ (z : List ℕ) (i : IsZone z) (h : ℕ) (o : Own h (baysOf (decodeZone 
     here-in = record { is = known i o ea eb ef; low = omega (arith, at-is); end = end-in; short = is-short; four = four; four-end = is-four; high = high; fits = fits }
 
     module _ (keep : ℕ) (ek : keep ≡ min a b) (z₁ z₂ : List ℕ) (e₁ : z₁ ≡ overwrite z (at + keep) (replicate (at + b + f - (at + keep)) 0)) (e₂ : z₂ ≡ overwrite z₁ (at - relocHeader) (toBE 2 (relocCode * typeUnit + (relocHeader + a) / 2))) where
+      word : z₂ ≡ overwrite z₁ (at - headerOf (o .mine)) (toBE 2 (codeOf (o .mine) * typeUnit + (headerOf (o .mine) + a) / 2))
+      word = e₂ ∙ ap₂ (λ (k c : ℕ). overwrite z₁ (at - k) (toBE 2 (c * typeUnit + (k + a) / 2))) (sym (o .head)) (sym (is-code h (o .mine) (o .its)))
+
       long-gap : length (bytesOf (gap f [])) ≡ f
       long-gap = bytes-long (gap f []) (old-sound .1) ∙ omega (arith, bsize-gap f [])
 
       all-here : b + f ≤ a → z₂ ≡ encode (reshaped h a s)
-      all-here l = written z₂ (all-taken z (o .mine) p at b f a at-is eb there long-gap end-in four is-four fits keep ek z₁ z₂ e₁ e₂ l)
+      all-here l = written z₂ (all-taken z (o .mine) p at b f a at-is eb there long-gap end-in four is-four fits keep ek z₁ z₂ e₁ word l)
 
       part-here : (z₃ : List ℕ) → a < b + f → z₃ ≡ overwrite z₂ (at + a) (toBE 4 ((b + f - a) / 2)) → z₃ ≡ encode (reshaped h a s)
-      part-here z₃ l e₃ = written z₃ (part-left z (o .mine) p at b f a at-is eb there long-gap end-in four is-four fits keep ek z₁ z₂ e₁ e₂ z₃ l e₃)
+      part-here z₃ l e₃ = written z₃ (part-left z (o .mine) p at b f a at-is eb there long-gap end-in four is-four fits keep ek z₁ z₂ e₁ word z₃ l e₃)
 
 -- ---- what the code's proof cites
 

@@ -1,11 +1,10 @@
 -- A block and the free bytes behind it replaced by the same block at another size: no master changes.
 use mathlib.Core.Path.{_≡_, sym, ap, _∙_, ap₂}
-use mathlib.Core.List.{List, [], _∷_, _++_, map}
-use mathlib.Core.Bool.{cond}
+use mathlib.Core.List.{List, [], _∷_, _++_, map, append-nil}
+use mathlib.Core.Bool.{cond, Bool}
 use Prim.Native.Nat.{ℕ, _+_}
-use lib.Dec.{eqb}
 use Rattle.bigendian.specs.BigEndian.{overwrite}
-use Rattle.kinds.specs.Kinds.{Item, headerOf, masterOf, itemSize}
+use Rattle.kinds.specs.Kinds.{Item, headerOf, itemSize, mastersOf, is}
 use Rattle.bay.specs.Bay.{Cell, held, baySize, gap}
 use Rattle.bay.specs.Sound.{bytesOf, Sound}
 use Rattle.structure.specs.Structure.{Block, cell, Structure, sizes, start, placeOf, encode, handlesOf}
@@ -14,12 +13,12 @@ use Rattle.structure.proofs.Cells.{gap-handles, gap-place}
 use Rattle.settle.proofs.surgery.Stays.{stays}
 use Rattle.settle.proofs.Cells.{all-bytes, all-sizes, all-sound}
 
-one-handle : (e : Item) (n : ℕ) → handlesOf (map cell (held e ∷ gap n [])) ≡ masterOf e ∷ []
+one-handle : (e : Item) (n : ℕ) → handlesOf (map cell (held e ∷ gap n [])) ≡ mastersOf e
 unfolding handlesOf
-one-handle e n = ap (masterOf e ∷_) (gap-handles n)
+one-handle e n = ap (mastersOf e ++_) (gap-handles n) ∙ append-nil (mastersOf e)
 
 module _ (s : Structure) (v : Valid s) (pre post : List Block) (e e′ : Item) (n n′ : ℕ) (parts : s .blocks ≡ pre ++ (map cell (held e ∷ gap n []) ++ post)) (so : Sound (held e′ ∷ gap n′ []))
-    (sz : baySize (held e′ ∷ gap n′ []) ≡ baySize (held e ∷ gap n [])) (same : masterOf e′ ≡ masterOf e) (head : headerOf e′ ≡ headerOf e) where
+    (sz : baySize (held e′ ∷ gap n′ []) ≡ baySize (held e ∷ gap n [])) (same : mastersOf e′ ≡ mastersOf e) (its : (k : ℕ) → is k e′ ≡ is k e) (head : headerOf e′ ≡ headerOf e) where
   abbrev old : List Cell
   old = held e ∷ gap n []
 
@@ -28,9 +27,9 @@ module _ (s : Structure) (v : Valid s) (pre post : List Block) (e e′ : Item) (
 
   places : (k p : ℕ) → placeOf k p (map cell new) ≡ placeOf k p (map cell old)
   unfolding placeOf
-  places k p = rw (gap-place k (p + itemSize e′) n′, gap-place k (p + itemSize e) n) (ap₂ (λ (m h : ℕ). cond (eqb k m) (p + h) 0) same head)
+  places k p = rw (gap-place k (p + itemSize e′) n′, gap-place k (p + itemSize e) n) (ap₂ (λ (t : Bool) (h : ℕ). cond t (p + h) 0) (its k) head)
 
   pub still : overwrite (encode s) (start s + sizes pre) (bytesOf new) ≡ encode (record { chain = s .chain; blocks = pre ++ (map cell new ++ post) })
   still =
       ap (overwrite (encode s) (start s + sizes pre)) (all-bytes new)
-      ∙ stays s v pre (map cell old) (map cell new) post parts (sym (all-sizes new) ∙ sz ∙ all-sizes old) (all-sound new so) (one-handle e′ n′ ∙ ap (_∷ []) same ∙ sym (one-handle e n)) places
+      ∙ stays s v pre (map cell old) (map cell new) post parts (sym (all-sizes new) ∙ sz ∙ all-sizes old) (all-sound new so) (one-handle e′ n′ ∙ same ∙ sym (one-handle e n)) places

@@ -1,15 +1,16 @@
 -- The bay of a block that is to grow is compacted, and its master says where the block is then.
 use mathlib.Core.Path.{_≡_, refl, sym, ap, ap₂, _∙_, subst}
 use mathlib.Core.List.{List, [], _∷_, _++_, map}
+use mathlib.Core.Bool.{true}
 use Prim.Native.Nat.{ℕ, _+_, _<_, _≤_}
 use native.Mathlib.Omega.{arith}
 use lib.ListN.{length}
-use Rattle.structure.proofs.Append.{place-append}
+use Rattle.format.proofs.Count.{occurs}
+use Rattle.structure.proofs.Append.{place-append, occurs-own, occurs-held}
 use Rattle.bigendian.specs.BigEndian.{fromBE, slice}
 use Rattle.block_type.specs.Limits.{relocHeader, masterSize, zoneHeader, longestZone}
-use Rattle.format.proofs.Count.{occurs, one-same}
 use Rattle.format.proofs.Masters.{Master}
-use Rattle.kinds.specs.Kinds.{Item, headerOf, masterOf, itemSize}
+use Rattle.kinds.specs.Kinds.{Item, headerOf, itemSize, is}
 use Rattle.calls.specs.State.{total}
 use Rattle.bay.specs.Bay.{Cell, free, held, baySize, baySum, items, gap, packed, compactBay, reshape}
 use Rattle.bay.specs.Sound.{bytesOf, Sound}
@@ -43,11 +44,11 @@ module _ (t : Structure) (v : Valid t) (pre post : List Block) (cs : List Cell) 
   part-at = subst (λ (l : List ℕ). partOf l a e ≡ bytesOf cs) ey (subst (λ (k : ℕ). partOf (encode t) a k ≡ bytesOf cs) ee (subst (λ (k : ℕ). partOf (encode t) k (k + baySize cs) ≡ bytesOf cs) ea (part-is t v pre post cs parts)))
 
 -- the block's master is one of the bay's
-cells-have : (h : ℕ) (u : List Cell) (e : Item) (w : List Cell) → h ≡ masterOf e → 1 ≤ occurs h (handlesOf (map cell (u ++ (held e ∷ w))))
+cells-have : (h : ℕ) (u : List Cell) (e : Item) (w : List Cell) → is h e ≡ true → 1 ≤ occurs h (handlesOf (map cell (u ++ (held e ∷ w))))
 unfolding handlesOf occurs
-cells-have h [] e w q = omega (arith, one-same h (masterOf e) q)
+cells-have h [] e w q = occurs-own h e (map cell w) q
 cells-have h (free n ∷ u) e w q = cells-have h u e w q
-cells-have h (held d ∷ u) e w q = omega (arith, cells-have h u e w q)
+cells-have h (held d ∷ u) e w q = omega (arith, cells-have h u e w q, occurs-held h d (map cell (u ++ (held e ∷ w))))
 
 module _ (z : List ℕ) (h from end sum b a : ℕ) (x : Laid z h from end sum b a) where
   w : Whole z

@@ -1,9 +1,10 @@
 -- The block of a handle in its own bay, and the structure in which it has got another size there.
 use mathlib.Core.Path.{_≡_}
 use mathlib.Core.List.{List, _∷_, _++_}
+use mathlib.Core.Bool.{true}
 use Prim.Native.Nat.{ℕ, _+_}
 use lib.ListN.{length}
-use Rattle.kinds.specs.Kinds.{Item, headerOf, masterOf}
+use Rattle.kinds.specs.Kinds.{Item, headerOf, is}
 use Rattle.calls.specs.Bays.{Bays, onLowest}
 use Rattle.calls.specs.State.{Fixed, ownSum}
 use Rattle.bay.specs.Bay.{Cell, held, baySize, baySum, items, reshape}
@@ -16,6 +17,7 @@ use Rattle.zone.specs.Work.{has}
 use Rattle.bays.specs.Places.{baysOf}
 use Rattle.bays.specs.At.{At}
 use Rattle.structure.specs.IsZone.{IsZone}
+use Rattle.block_type.specs.Limits.{relocHeader}
 
 -- the block of handle h has a data bytes, in its own bay
 abbrev pub reshaped : ℕ → ℕ → Structure → Structure
@@ -28,7 +30,8 @@ pub record Own (h : ℕ) (s : Bays (List Cell) Fixed) : Type 0 where
   pub mine : Item
   pub right : List Cell
   pub after : List Block
-  pub its : h ≡ masterOf mine
+  pub its : is h mine ≡ true
+  pub head : headerOf mine ≡ relocHeader
   pub first : count h (items left) ≡ 0
   pub only : count h (items right) ≡ 0
   -- its data, and the sum of its bay

@@ -7,7 +7,7 @@ use native.Mathlib.Omega.{arith}
 use Rattle.block_type.specs.Limits.{masterSize}
 use Rattle.bigendian.specs.BigEndian.{toBE, slice, overwrite}
 use Rattle.block_type.specs.Limits.{chainAt}
-use Rattle.kinds.specs.Kinds.{Item, masterOf, itemSize}
+use Rattle.kinds.specs.Kinds.{Item, itemSize, mastersOf}
 use Rattle.bay.specs.Bay.{Cell, free, held, baySize, gap, Hole, fill}
 use Rattle.bay.specs.Bytes.{encodeCell}
 use Rattle.bay.specs.Sound.{bytesOf, Sound1}
@@ -76,7 +76,7 @@ module _ (s : Structure) (v : Valid s) (before after : List Block) (bay : List C
   pub fill-fit : (h : ℕ) (ks : List ℕ) → s .chain ≡ h ∷ ks → (need : ℕ) → Size need → need ≤ x .size → Fit (encode s) at (x .size) need h
   fill-fit h ks linked need z l = room-fit h need (head-low s v h ks linked .1) z l
 
-  module _ (e : Item) (ks : List ℕ) (linked : s .chain ≡ masterOf e ∷ ks) (ok : Sound1 (held e)) (fits : itemSize e ≤ x .size) where
+  module _ (e : Item) (ks : List ℕ) (linked : s .chain ≡ mastersOf e ++ ks) (ok : Sound1 (held e)) (fits : itemSize e ≤ x .size) where
     pub fill-placed : settled (overwrite (encode s) chainAt (toBE 2 (headOf ks))) at (held e ∷ gap (x .size - itemSize e) []) ≡ encode (record { chain = ks; blocks = before ++ (map cell (fill e x) ++ after) })
     fill-placed =
         let k = x .size - itemSize e in

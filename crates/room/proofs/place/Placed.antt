@@ -1,15 +1,15 @@
 -- A new block in the place of a free block, in the bytes of a valid structure: its bytes, the chain's head, its master.
-use mathlib.Core.Path.{_≡_, refl, ap, _∙_}
-use mathlib.Core.List.{List, [], _∷_, _++_, map}
+use mathlib.Core.Path.{_≡_, refl, ap, _∙_, sym}
+use mathlib.Core.List.{List, [], _∷_, _++_, map, append-nil}
 use Prim.Native.Nat.{ℕ, suc, _+_, _-_, _≤_}
 use native.Mathlib.Omega.{arith}
 use borrow.Author.Tests.{ne-eqb}
-use lib.ListN.{length}
+use lib.ListN.{length, length-append}
 use Rattle.format.specs.Occurs.{occurs}
 use Rattle.block_type.specs.Limits.{zoneHeader, masterSize, chainAt}
 use Rattle.bigendian.specs.BigEndian.{toBE, overwrite}
-use Rattle.format.proofs.Count.{one, one-same}
-use Rattle.kinds.specs.Kinds.{Item, masterOf, itemSize}
+use Rattle.format.proofs.Count.{one-same, occurs-append}
+use Rattle.kinds.specs.Kinds.{Item, itemSize, mastersOf}
 use Rattle.bay.specs.Bay.{Cell, free, held, gap}
 use Rattle.bay.specs.Sound.{Sound1, Sound}
 use Rattle.bay.proofs.Laws.{bsize-gap}
@@ -22,6 +22,11 @@ use Rattle.slide.specs.ZoneBay.{settled}
 use Rattle.settle.proofs.Any.{settle-chain}
 use Rattle.settle.proofs.Bay.{cells-sound}
 
+next-past : (k : ℕ) (hs ks : List ℕ) → occurs k hs ≡ 0 → nextOf k (hs ++ ks) ≡ nextOf k ks
+unfolding occurs nextOf
+next-past k [] ks q = refl
+next-past k (h ∷ hs) ks q = rw (ne-eqb k h (λ x. omega (arith, one-same k h x))) (next-past k hs ks (omega arith))
+
 module _ (s : Structure) (v : Valid s) (h : ℕ) (ks : List ℕ) (linked : s .chain ≡ h ∷ ks) where
   in-chain : occurs h (s .chain) ≡ suc (occurs h ks)
   unfolding occurs
@@ -31,7 +36,7 @@ module _ (s : Structure) (v : Valid s) (h : ℕ) (ks : List ℕ) (linked : s .ch
   pub head-low : (zoneHeader ≤ h) × (h + masterSize ≤ start s)
   head-low = let q = offset-is h zoneHeader (count s) (omega (arith, v .owned h, in-chain)) in (q .0, q .1)
 
-module _ (s : Structure) (v : Valid s) (pre post : List Block) (n : ℕ) (e : Item) (ks : List ℕ) (parts : s .blocks ≡ pre ++ (cell (free n) ∷ post)) (linked : s .chain ≡ masterOf e ∷ ks)
+module _ (s : Structure) (v : Valid s) (pre post : List Block) (n : ℕ) (e : Item) (ks : List ℕ) (parts : s .blocks ≡ pre ++ (cell (free n) ∷ post)) (linked : s .chain ≡ mastersOf e ++ ks)
     (ok : Sound1 (held e)) (fits : itemSize e ≤ n) where
   abbrev old : List Cell
   old = free n ∷ []
@@ -42,18 +47,14 @@ module _ (s : Structure) (v : Valid s) (pre post : List Block) (n : ℕ) (e : It
   so : Sound new
   so = let w = cells-sound s v pre post old parts in (ok, gap-sound (n - itemSize e) [] (omega (arith, w .0 .1, ok .0)) (omega (arith, w .0 .2)) tt)
 
-  each : (k : ℕ) → occurs k (handlesOf (map cell new)) ≡ one k (masterOf e)
-  unfolding handlesOf occurs
-  each k = rw (gap-handles (n - itemSize e)) (omega arith)
-
-  number : length (handlesOf (map cell new)) ≡ 1
+  all : handlesOf (map cell new) ≡ mastersOf e
   unfolding handlesOf
-  number = rw (gap-handles (n - itemSize e))
+  all = ap (mastersOf e ++_) (gap-handles (n - itemSize e)) ∙ append-nil (mastersOf e)
 
   pub placed : settled (overwrite (encode s) chainAt (toBE 2 (headOf ks))) (start s + sizes pre) new ≡ encode (record { chain = ks; blocks = pre ++ (map cell new ++ post) })
-  unfolding handlesOf occurs nextOf
+  unfolding handlesOf occurs
   placed =
       settle-chain s v pre post old new ks parts so (omega (arith, bsize-gap (n - itemSize e) []))
-      (λ k. omega (arith, each k, ap (occurs k) linked))
-      (omega (arith, number, ap length linked))
-      (λ k l q. let ne : (k ≡ masterOf e → ⊥) = λ x. omega (arith, each k, one-same k (masterOf e) x) in (refl, rw (linked, ne-eqb k (masterOf e) ne)))
+      (λ k. omega (arith, ap (occurs k) all, ap (occurs k) linked, occurs-append k (mastersOf e) ks))
+      (omega (arith, ap length all, ap length linked, length-append (mastersOf e) ks))
+      (λ k l q. (refl, sym (ap (nextOf k) linked ∙ next-past k (mastersOf e) ks (sym (ap (occurs k) all) ∙ q))))

@@ -7,19 +7,21 @@ use Prim.Native.Nat.{ℕ, _+_, _*_, _-_, _/_, _<_, _≤_}
 use native.Mathlib.Nat.{zero-add}
 use native.Mathlib.Omega.{arith}
 use lib.Dec.{eqb}
-use borrow.Author.Tests.{eqb-true, eq-eqb, ne-eqb}
+use borrow.Author.Tests.{eq-eqb, ne-eqb}
 use lib.ListN.{length, set, length-map}
 use Rattle.format.specs.Occurs.{occurs}
 use Rattle.format.specs.WellFormed.{offsets}
-use Rattle.block_type.specs.Limits.{fixedHeader, masterSize, zoneHeader, chainAt}
+use Rattle.block_type.specs.Limits.{fixedHeader, masterSize, zoneHeader, chainAt, relocHeader}
 use Rattle.bigendian.specs.BigEndian.{toBE, overwrite}
-use Rattle.format.proofs.Count.{one, one-same, length-offsets}
+use Rattle.format.proofs.Count.{one-same, length-offsets}
 use Rattle.structure.specs.Structure.{Block, fixed, Structure, size, count, start, len, headOf, placeOf, value, encode, cell, handlesOf}
-use Rattle.kinds.specs.Kinds.{headerOf, masterOf, itemSize}
+use Rattle.kinds.specs.Kinds.{headerOf, masterOf, itemSize, is, Item}
+use Rattle.kinds.proofs.KindLaws.{Owned, own-handle, own-none, is-self, owned}
 use Rattle.bay.specs.Bay.{free, held}
 use Rattle.structure.proofs.Round.{offset-is}
 use Rattle.access.specs.row.Row.{bytesOf}
 use Rattle.structure.proofs.ZoneLayout.{lay, encode-lay, lay-chain, lay-master, lay-rest, values-set}
+use Rattle.structure.proofs.Append.{occurs-own, occurs-held}
 use Rattle.settle.specs.surgery.Masters.{setOne, setAll}
 
 abbrev pub img : ℕ → ℕ → ℕ → ℕ → (ℕ → ℕ) → List ℕ → List ℕ
@@ -66,23 +68,38 @@ img-same l f m c g g′ r e = ap (λ (vs : List ℕ). lay l f m c vs r) (map-sam
 -- ---- the masters' pass
 
 unfoldable pub updOne : (ℕ → ℕ) → ℕ → Block → ℕ → ℕ
-updOne g at (cell (free n)) = g
-updOne g at (fixed d) = g
-updOne g at (cell (held it)) = upd g (masterOf it) (at + headerOf it)
+updOne g at (cell (free n)) k = g k
+updOne g at (fixed d) k = g k
+updOne g at (cell (held e)) k = cond (is k e) (at + headerOf e) (g k)
 
 unfoldable pub updAll : (ℕ → ℕ) → ℕ → List Block → ℕ → ℕ
 updAll g at [] = g
 updAll g at (b ∷ bs) = updAll (updOne g at b) (at + size b) bs
 
+-- a block's master is set
+one-set : (l f m c at : ℕ) (e : Item) (g : ℕ → ℕ) (r : List ℕ) → ((h : ℕ) → is h e ≡ true → 0 < occurs h (offsets zoneHeader m))
+    → setOne at (cell (held e)) (img l f m c g r) ≡ img l f m c (updOne g at (cell (held e))) r
+unfolding setOne updOne
+one-set l f m c at e g r o = go (owned e) o
+  where
+    go : {e : Item} → Owned e → ((h : ℕ) → is h e ≡ true → 0 < occurs h (offsets zoneHeader m))
+        → cond (eqb (masterOf e) 0) (img l f m c g r) (overwrite (img l f m c g r) (masterOf e) (toBE 4 (at + headerOf e))) ≡ img l f m c (λ k. cond (is k e) (at + headerOf e) (g k)) r
+    go (own-handle h d) o =
+        let q = o h (is-self h d) in
+        rw (ne-eqb h 0 (λ x. omega (arith, offset-is h zoneHeader m q .0))) (img-master l f m c h (at + relocHeader) g r q)
+    go (own-none e _ n i) o =
+        ap (λ (j : ℕ). cond (eqb j 0) (img l f m c g r) (overwrite (img l f m c g r) j (toBE 4 (at + headerOf e)))) n
+        ∙ (img-same l f m c g (λ k. cond (is k e) (at + headerOf e) (g k)) r (λ k _. rw (i k)))
+
 pub img-all : (l f m c at : ℕ) (bs : List Block) (g : ℕ → ℕ) (r : List ℕ) → ((h : ℕ) → 0 < occurs h (handlesOf bs) → 0 < occurs h (offsets zoneHeader m))
     → setAll at bs (img l f m c g r) ≡ img l f m c (updAll g at bs) r
-unfolding setAll setOne updAll updOne handlesOf occurs
+unfolding setAll updAll updOne setOne handlesOf
 img-all l f m c at [] g r o = refl
 img-all l f m c at (cell (free n) ∷ bs) g r o = img-all l f m c (at + n) bs g r o
 img-all l f m c at (fixed d ∷ bs) g r o = img-all l f m c (at + (fixedHeader + length d)) bs g r o
-img-all l f m c at (cell (held it) ∷ bs) g r o =
-    ap (setAll (at + itemSize it) bs) (img-master l f m c (masterOf it) (at + headerOf it) g r (o (masterOf it) (omega (arith, one-same (masterOf it) (masterOf it) refl))))
-    ∙ img-all l f m c (at + itemSize it) bs (upd g (masterOf it) (at + headerOf it)) r (λ k p. o k (omega arith))
+img-all l f m c at (cell (held e) ∷ bs) g r o =
+    ap (setAll (at + itemSize e) bs) (one-set l f m c at e g r (λ h q. o h (occurs-own h e bs q)))
+    ∙ img-all l f m c (at + itemSize e) bs (λ k. cond (is k e) (at + headerOf e) (g k)) r (λ k p. o k (omega (arith, occurs-held k e bs)))
 
 -- what a master holds after the pass: the place of its block, where it has one among these
 pub all-is : (g : ℕ → ℕ) (at k : ℕ) (bs : List Block) → occurs k (handlesOf bs) ≤ 1
@@ -91,12 +108,14 @@ unfolding updAll updOne handlesOf occurs placeOf
 all-is g at k [] o = refl
 all-is g at k (cell (free n) ∷ bs) o = all-is g (at + n) k bs o
 all-is g at k (fixed d ∷ bs) o = all-is g (at + (fixedHeader + length d)) k bs o
-all-is g at k (cell (held it) ∷ bs) o = go (eqb k (masterOf it)) refl (all-is (upd g (masterOf it) (at + headerOf it)) (at + itemSize it) k bs (omega arith))
+all-is g at k (cell (held e) ∷ bs) o =
+    let o′ : cond (is k e) 1 0 + occurs k (handlesOf bs) ≤ 1 = omega (arith, occurs-held k e bs) in
+    rw (occurs-held k e bs) (go (is k e) o′ (all-is (λ j. cond (is j e) (at + headerOf e) (g j)) (at + itemSize e) k bs (omega arith)))
   where
-    go : (t : Bool) → eqb k (masterOf it) ≡ t → updAll (upd g (masterOf it) (at + headerOf it)) (at + itemSize it) bs k ≡ cond (eqb (occurs k (handlesOf bs)) 0) (cond (eqb k (masterOf it)) (at + headerOf it) (g k)) (placeOf k (at + itemSize it) bs)
-        → updAll (upd g (masterOf it) (at + headerOf it)) (at + itemSize it) bs k ≡ cond (eqb (one k (masterOf it) + occurs k (handlesOf bs)) 0) (g k) (cond t (at + headerOf it) (placeOf k (at + itemSize it) bs))
-    go true e i =
-        let q = one-same k (masterOf it) (eqb-true k (masterOf it) e) in
+    go : (t : Bool) → cond t 1 0 + occurs k (handlesOf bs) ≤ 1
+        → updAll (λ j. cond (is j e) (at + headerOf e) (g j)) (at + itemSize e) bs k ≡ cond (eqb (occurs k (handlesOf bs)) 0) (cond t (at + headerOf e) (g k)) (placeOf k (at + itemSize e) bs)
+        → updAll (λ j. cond (is j e) (at + headerOf e) (g j)) (at + itemSize e) bs k ≡ cond (eqb (cond t 1 0 + occurs k (handlesOf bs)) 0) (g k) (cond t (at + headerOf e) (placeOf k (at + itemSize e) bs))
+    go true o i =
         let z : occurs k (handlesOf bs) ≡ 0 = omega arith in
-        i ∙ (rw (z, e))
-    go false e i = i ∙ (rw (e, zero-add (occurs k (handlesOf bs))))
+        i ∙ (rw z)
+    go false o i = i ∙ (rw (zero-add (occurs k (handlesOf bs))))

@@ -1,7 +1,7 @@
 -- The records in the order of the masters are those of the blocks in some order.
 use mathlib.Core.Path.{_≡_, refl, ap, sym, _∙_}
 use mathlib.Core.Bool.{Bool, true, false, cond}
-use mathlib.Core.List.{List, [], _∷_, map, List·Permᴰ, List·Permᴰ·nil, List·Permᴰ·cons, List·Permᴰ·swap, List·Permᴰ·trans, Permᴰ·refl}
+use mathlib.Core.List.{List, [], _∷_, List·Permᴰ, List·Permᴰ·nil, List·Permᴰ·cons, List·Permᴰ·swap, List·Permᴰ·trans, Permᴰ·refl}
 use Prim.Native.Nat.{ℕ, suc, _+_, _≤_}
 use native.Mathlib.Omega.{arith}
 use native.Mathlib.Decide.{ℕ-discrete}
@@ -21,7 +21,7 @@ use Rattle.access.specs.Edit.{dataOf, placeIn, dataIn}
 use Rattle.calls.specs.Calls.{Card}
 use Rattle.calls.specs.Bays.{Bays, concatS}
 use Rattle.kinds.specs.Kinds.{Item, masterOf, headerOf, itemSize}
-use Rattle.calls.specs.State.{Fixed, card}
+use Rattle.calls.specs.State.{Fixed, listed}
 use Rattle.bay.specs.Bay.{Cell, free, held, items}
 use Rattle.zone.specs.Group.{group}
 use Rattle.zone.proofs.MetBlocks.{cardsB, cards-strip}
@@ -41,7 +41,7 @@ length-cards (cell (held it) ∷ bs) = ap suc (length-cards bs)
 
 -- the records of the bays
 abbrev pub bayCards : Bays (List Cell) Fixed → List Card
-bayCards s = concatS (λ (b : List Cell). map card (items b)) s
+bayCards s = concatS (λ (b : List Cell). listed (items b)) s
 
 pub cards-are : (p : ℕ) (bs : List Block) → cardsB bs ≡ bayCards (group p bs)
 cards-are p bs = ap cardsB (sym (flatten-group p bs)) ∙ cards-strip (group p bs)
