@@ -7,7 +7,7 @@
 #include <sys/mman.h>
 #include "nafelode.h"
 
-enum { PAGE = 4096, LENGTH = 81, SECOND = 21 }; /* odd: at the end of a page both start at an odd address */
+enum { PAGE = 4096, LENGTH = 81, SECOND = 29 }; /* odd: at the end of a page both start at an odd address */
 static uint8_t *zone_page, *second_page, *zone, *second;
 static uint8_t zone_kept[PAGE], second_kept[PAGE];
 static unsigned tests, wrong;
@@ -136,6 +136,29 @@ static void bytes(void) {
     IS(blocks, 3), IS(walker, 64), IS(end.number + end.kind + end.offset + end.size, 0);
 }
 
+/* The roster comes by rising handle: the blocks stand as 20, 24 and, in the second bay, 16, and were made as 24, 20, 16. */
+static void roster_order(void) {
+    static const uint8_t records[24] = {0, 0, 0, 16, 0, 0, 0, 12, 0, 0, 0, 20, 0, 0, 0, 4, 0, 0, 0, 24, 0, 0, 0, 8};
+    TOLD(nafelode_initialize(Z, 80, 4), 0, 0);
+    TOLD(nafelode_allocate_fixed(Z, 0), 0, 78);
+    TOLD(nafelode_allocate_fixed(Z, 14), 0, 62);
+    TOLD(nafelode_allocate_fixed(Z, 0), 0, 58);
+    TOLD(nafelode_free_pointer(Z, 62), 0, 0);
+    TOLD(nafelode_allocate_relocatable(Z, 0), 0, 16);
+    TOLD(nafelode_allocate_relocatable(Z, 0), 0, 20);
+    TOLD(nafelode_allocate_relocatable(Z, 8), 0, 24);
+    TOLD(nafelode_free_handle(Z, 16), 0, 0);
+    TOLD(nafelode_free_handle(Z, 20), 0, 0);
+    TOLD(nafelode_allocate_relocatable(Z, 4), 0, 20);
+    TOLD(nafelode_allocate_relocatable(Z, 12), 0, 16);
+    IS(at(zone + 20) < at(zone + 24) && at(zone + 24) < at(zone + 16), 1);
+    memset(second, 0x5A, SECOND), keep(), told = nafelode_roster(Z, second, SECOND);
+    stayed(__LINE__, told.number, 1, 0);
+    IS(told.number, 0), IS(told.value, 3);
+    IS(memcmp(second, records, sizeof records) != 0, 0);
+    for (int i = sizeof records; i < SECOND; i++) IS(second[i], 0x5A);
+}
+
 static void refused_1(void) {
     uint32_t walker = 32;
     FRESH();
@@ -229,7 +252,7 @@ int main(void) {
         memset(zone_page, 0xA5, PAGE), memset(second_page, 0xA5, PAGE);
         zone = low ? zone_page : zone_page + PAGE - LENGTH;
         second = low ? second_page : second_page + PAGE - SECOND;
-        rig_sheet(), bytes(), refused_1(), refused_2_to_10(), empty();
+        rig_sheet(), bytes(), roster_order(), refused_1(), refused_2_to_10(), empty();
     }
     largest();
     printf("%u tests, %u wrong\n", tests, wrong);

@@ -77,7 +77,7 @@ ALLOWED = [
     ("crates/kinds/proofs/KindLaws.antt", r"\bdrop-drop 2\b|\(drop 2\)|\(e \.bytes\) 2\b", "the handle's width"),
     ("crates/kinds/proofs/KindLaws.antt", r"(?:drop-drop|take-append-drop|\bdrop) 2\b(?= \(?(?:drop )?tagAt)", "the handle's width"),
     ("crates/structure/proofs/Back.antt", rf"\bat-seam {ATOM} {ATOM} (4)\b", "the width of a master's number"),
-    ("crates/zone/specs/Roster.antt", r"handle = fromBE \(slice bs 0 4", "the handle is the first number of a record"),
+    ("crates/calls/specs/Roster.antt", r"handle = fromBE \(slice bs 0 4", "the handle is the first number of a record"),
     # the census
     ("crates/inspect/src/census.rt", r"^ +(?:2|4|8|16|64|16384|32768|65536),$", "the table of lower limits, powers of 2"),
     ("crates/inspect/proofs/census/lower/Proof.antt", r"^limits = .*", "the same table"),
@@ -116,7 +116,7 @@ ALLOWED = [
     ("crates/zone/specs/ReelB.antt", CALLS, "the customer's list: an argument"),
     ("crates/zone/specs/ReelB.antt", r"\b(?:read|write|view) \([\w-]+ \d+\) \d+ \d+\b", "the customer's list: an offset and a count"),
     ("crates/zone/specs/ReelB.antt", r"\breplicate 4 9\b", "the customer's list: a second buffer"),
-    ("crates/zone/specs/ReelB.antt", r"(?<![\w.])[248] ∷", "the customer's list: bytes and refusal numbers"),
+    ("crates/zone/specs/ReelB.antt", r"(?<![\w.])(?:[248]|16)(?: ∷|$)", "the customer's list: bytes and refusal numbers"),
     ("crates/zone/proofs/Shown.antt", r"\b96 4\b", "the customer's list: a zone of 96 bytes with 4 masters"),
     ("crates/zone/proofs/Shown.antt", r"≡ 64\b", "the customer's list: where the recipe's data are then"),
 ]

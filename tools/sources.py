@@ -4,7 +4,7 @@ import re
 from typing import NamedTuple
 
 # the rig sheet's table and the concrete list: nobody has to believe them, but emptied they would show nothing
-EXAMPLES = ("RigSheet.antt", "ReelB.antt", "WhichBay.antt", "Choice.antt")
+EXAMPLES = ("RigSheet.antt", "ReelB.antt", "WhichBay.antt", "Choice.antt", "RosterSays.antt")
 EXPORTED = ("nafelode", "nafelode_c", "records", "zone_run")
 
 ROW = re.compile(r"^\| \d+ \| (crates/\S+) \| (\d+) \|", re.M)

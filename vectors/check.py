@@ -16,8 +16,9 @@ from collections import Counter, defaultdict
 HERE = os.path.dirname(os.path.abspath(__file__))
 sys.path.insert(0, os.path.join(HERE, os.pardir, "python", "tests"))
 
+from builder import roster_bytes
 from library import Library, differences
-from nafelode import Zone, ZoneError, check, decode_roster
+from nafelode import Zone, ZoneError, check
 from ways import REFUSALS, WAYS, refusal_names, ways
 
 READING = ("size", "read", "view", "sum", "check", "length", "roster", "census",
@@ -37,7 +38,7 @@ def unhex(word):
     return bytes.fromhex(re.sub(r"(..)\*(\d+)\.", lambda run: run[1] * int(run[2]), word.replace("-", "")))
 
 
-def package_answer(zone, call, told):
+def package_answer(zone, call):
     """What the package says to an accepted call that changes nothing, in the file's words."""
     name, words = call[0], call[1:]
     if name in ("size", "read", "view"):
@@ -52,12 +53,8 @@ def package_answer(zone, call, told):
         given = unhex(words[4])
         return {"answer": [0], "second": data + given[count:]}
     if name == "roster":
-        count = told["answer"][1]
-        given, second = unhex(words[0]), told["second"]
-        # any order: as sets, and the later bytes stay
-        same = (set(decode_roster(second, count)) == set(zone.roster())
-                and second[8 * count:] == given[8 * count:])
-        return {"answer": [0, zone.live_handles], "second": second if same else given}
+        records, given = roster_bytes(zone.roster()), unhex(words[0])
+        return {"answer": [0, zone.live_handles], "second": records + given[len(records):]}
     if name == "walker_start":
         return {"walker": [zone.bk_fst]}
     if name == "walker_step":
@@ -77,7 +74,7 @@ def agrees(before, call, told):
     number = told.get("answer", [0])[0]
     refused = number or told.get("view") == [0, 0] or told.get("walker") == [0]
     try:
-        given = package_answer(Zone(before), call, told)
+        given = package_answer(Zone(before), call)
     except ZoneError:
         return bool(refused)
     # the package has no second buffer that could be too short
@@ -94,15 +91,25 @@ class Coverage:
 
     def __init__(self):
         self.ways, self.of_list, self.refused = Counter(), defaultdict(set), defaultdict(set)
+        self.made = defaultdict(list)  # the live handles of each list, oldest first
 
     def add(self, name, before, call, told):
         number = told.get("answer", [0])[0]
         if number or told.get("view") == [0, 0]:
             self.refused[name].add((call[0], number))
         else:
-            found = ways(before, call)
+            found = ways(before, call, self.made[name])
             self.ways.update(found)
             self.of_list[name] |= found
+            self.follow(self.made[name], call, told)
+
+    def follow(self, made, call, told):
+        if call[0] == "initialize":
+            made.clear()
+        elif call[0] == "allocate_relocatable":
+            made.append(told["answer"][1])
+        elif call[0] == "free_handle" and int(call[1]) in made:  # else put there by no call
+            made.remove(int(call[1]))
 
     def judge(self):
         named = {name.split(".")[0] for name in self.of_list}

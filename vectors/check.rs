@@ -129,20 +129,6 @@ fn tell(buffer: &[u8], words: &[&str]) -> Vec<String> {
     }
 }
 
-/// A roster's records may come in any order: both sides are compared with theirs sorted.
-fn in_order(lines: &[String]) -> Vec<String> {
-    let count = lines[0].split(' ').nth(2).map_or(0, |word| number(word) as usize);
-    let mut lines = lines.to_vec();
-    if let Some(word) = lines[1].strip_prefix("second ").filter(|&word| word != "same") {
-        let mut second = unhex(word);
-        let later = second.split_off(8 * count);
-        let mut records: Vec<&[u8]> = second.chunks(8).collect();
-        records.sort();
-        lines[1] = format!("second {}{}", hex(&records.concat()), hex(&later));
-    }
-    lines
-}
-
 /// Answers how many calls the file has.
 fn check_file(path: &str) -> usize {
     let text = std::fs::read_to_string(path).unwrap_or_else(|error| panic!("{path}: {error}"));
@@ -163,10 +149,7 @@ fn check_file(path: &str) -> usize {
                 let before = buffer.clone();
                 let mut here = carry_out(&mut buffer, &words[1..]);
                 here.push(format!("zone {}", if buffer == before { "same".to_string() } else { hex(&buffer) }));
-                let mut there: Vec<String> = lines.by_ref().take(here.len()).map(|(_, line)| line.to_string()).collect();
-                if words[1] == "roster" && there.len() == here.len() {
-                    (here, there) = (in_order(&here), in_order(&there));
-                }
+                let there: Vec<String> = lines.by_ref().take(here.len()).map(|(_, line)| line.to_string()).collect();
                 if here != there {
                     println!("{path}:{}: {line}\n  the file: {there:?}\n  in Rust:  {here:?}", at + 1);
                     exit(1);

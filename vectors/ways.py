@@ -23,7 +23,7 @@ WAYS = (
     "compact_nothing compact_slides compact_bays "
     "enlarge_none enlarge_free_last enlarge_used_last enlarge_no_block "
     "shrink_none shrink_free_last shrink_compacted "
-    "empty_bay handle_order high_handle").split()
+    "empty_bay handle_order high_handle roster_order").split()
 
 # Calls that lay blocks down anew; a write changes data alone.
 CHANGING = ("allocate_relocatable", "allocate_fixed", "free_handle",
@@ -140,13 +140,25 @@ def _whole_zone(zone: Zone, call: str, k: int) -> Set[str]:
     return {"shrink_" + ("free_last" if free(last) and last.size >= strips else "compacted")}
 
 
-def ways(before: bytes, call: Sequence[str]) -> Set[str]:
-    """The ways of an accepted call that may change the zone."""
+def _roster(zone: Zone, made: Sequence[int]) -> Set[str]:
+    """Whether by place, by age and by handle are three different orders."""
+    standing = tuple(block.handle for block in zone.blocks if block.handle is not None)
+    apart = len({standing, tuple(made), zone.handles}) == 3
+    return {"roster_order"} if apart and sorted(made) == list(zone.handles) else set()
+
+
+def ways(before: bytes, call: Sequence[str], made: Sequence[int]) -> Set[str]:
+    """The ways of an accepted call that may change the zone, or of a roster.
+
+    `made` has the live handles, oldest first, which the zone does not tell.
+    """
     name = call[0]
     if name == "initialize":
         length, m = map(int, call[1:])
         kind = "no_master" if m == 0 else "free" if length > 16 + 4 * m else "no_free"
         return {"initialize_" + kind}
+    if name == "roster":
+        return _roster(Zone(before), made)
     if name not in CHANGING:
         return set()
     zone, numbers = Zone(before), [int(word) for word in call[1:]]

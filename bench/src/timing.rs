@@ -78,20 +78,23 @@ fn settle(rounds: &[Round], clock: f64) -> f64 {
     (0..calls).map(of_call).sum::<f64>() / calls as f64
 }
 
-/// Times both sides; they must answer the same and leave the same bytes. They
-/// share one buffer, so that neither finds it further away than the other.
+/// Times both sides; they must answer the same and leave the same bytes in
+/// zone and second buffer. They share both buffers, so that neither finds them
+/// further away than the other.
 pub fn time(work: &Work) -> Times {
     let (mut buffer, mut left) = (work.zone.to_vec(), work.zone.to_vec());
     let mut second = vec![7; 8 * 8_188];
+    let mut second_left = second.clone();
     let mut rounds = [Vec::new(), Vec::new()];
     let sides: [Side; 2] = [archive, rust];
     for i in 0..=ROUNDS {
         let (first, then) = (i % 2, 1 - i % 2);
         rounds[first].push(round(work, sides[first], &mut buffer, &mut second));
         left.copy_from_slice(&buffer);
+        second_left.copy_from_slice(&second);
         rounds[then].push(round(work, sides[then], &mut buffer, &mut second));
-        let same = rounds[0][i].answers == rounds[1][i].answers && left == buffer;
-        assert!(same, "the two sides differ");
+        assert!(rounds[0][i].answers == rounds[1][i].answers, "the two sides answer differently");
+        assert!(left == buffer && second_left == second, "the two sides leave different bytes");
     }
     let clock = clock_nanoseconds();
     Times { archive: settle(&rounds[0], clock), rust: settle(&rounds[1], clock) }

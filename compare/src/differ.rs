@@ -3,7 +3,9 @@
 use crate::arena::{Arena, Place};
 use crate::calls::{ask_zone, Call, Reply};
 use crate::foreign::{ask_archive, without_number};
+use crate::model::Picture;
 use crate::random::Random;
+use crate::verdict::{difference, Left};
 use crate::zone::{self, Name};
 
 /// Largest buffers that are lent.
@@ -69,11 +71,16 @@ pub struct Tally {
     /// long stretches read or written
     pub long_by_handle: u64,
     pub long_by_pointer: u64,
+    /// rosters of zones whose blocks do not stand by rising handle
+    pub rosters_apart: u64,
 }
 
 impl Tally {
-    fn note(&mut self, call: &Call, refusal: u32) {
+    fn note(&mut self, zone: &[u8], call: &Call, refusal: u32) {
         self.answers[which(call)][refusal as usize] += 1;
+        if let (Call::Roster, 0) = (call, refusal) {
+            self.rosters_apart += u64::from(!Picture::decode(zone).handles().is_sorted());
+        }
         if let (Call::Read(stretch) | Call::Write(stretch), 0) = (call, refusal) {
             let long = u64::from(stretch.count >= LONG);
             match stretch.block {
@@ -88,6 +95,7 @@ impl Tally {
         self.answers.iter_mut().flatten().zip(more).for_each(|(all, more)| *all += more);
         self.long_by_handle += other.long_by_handle;
         self.long_by_pointer += other.long_by_pointer;
+        self.rosters_apart += other.rosters_apart;
     }
 }
 
@@ -133,7 +141,7 @@ impl Differ {
         let mut ours = second.to_vec();
         let refusal = number(buffer, call);
         let reply = ask_rust(buffer, call, &mut ours);
-        self.tally.note(call, reply.refusal.unwrap_or(0).max(refusal));
+        self.tally.note(&before, call, reply.refusal.unwrap_or(0).max(refusal));
 
         let (place, other_place) = (self.a_place(), self.a_place());
         let kind = self.random.pick(&[1, 1, 2, 0xFFFF_FFFF]);
@@ -141,7 +149,7 @@ impl Differ {
         let lent = self.seconds.lend(second, other_place);
         // SAFETY: both parts are lent from arenas that nothing else uses now.
         let theirs = unsafe { ask_archive(zone, call, lent, kind) };
-        let wrong = self.judge(call, &reply, &theirs, buffer, &ours);
+        let wrong = self.judge(&Left { reply: &reply, zone: buffer, second: &ours }, &theirs);
         match wrong {
             None => Ok(()),
             Some(wrong) => Err(self.story(&wrong, call, &before, second, &reply, &theirs)),
@@ -149,34 +157,10 @@ impl Differ {
     }
 
     /// What is not as it should be.
-    fn judge(
-        &mut self,
-        call: &Call,
-        reply: &Reply,
-        theirs: &Reply,
-        zone: &[u8],
-        second: &[u8],
-    ) -> Option<String> {
-        if reply != theirs {
-            return Some("the answers differ".into());
-        }
-        if let Some(at) = first_other(zone, self.zones.now()) {
-            return Some(format!("byte {at} of the zone should be {:02X}", zone[at]));
-        }
-        let records = match call {
-            Call::Roster => 8 * reply.values[0] as usize,
-            _ => 0,
-        };
-        let got = self.seconds.now();
-        if as_set(&second[..records]) != as_set(&got[..records]) {
-            return Some("the roster's records differ".into());
-        }
-        if let Some(at) = first_other(&second[records..], &got[records..]) {
-            return Some(format!(
-                "byte {} of the second buffer should be {:02X}",
-                records + at,
-                second[records + at]
-            ));
+    fn judge(&mut self, wanted: &Left, theirs: &Reply) -> Option<String> {
+        let got = Left { reply: theirs, zone: self.zones.now(), second: self.seconds.now() };
+        if let Some(wrong) = difference(wanted, &got) {
+            return Some(wrong);
         }
         if !self.zones.guards_stay() || !self.seconds.guards_stay() {
             return Some("a byte beside a buffer changed".into());
@@ -193,13 +177,15 @@ impl Differ {
         reply: &Reply,
         theirs: &Reply,
     ) -> String {
-        let (seed, step, after) = (self.seed, self.steps, hex(self.zones.now()));
+        let (seed, step) = (self.seed, self.steps);
+        let (after, second_after) = (hex(self.zones.now()), hex(self.seconds.now()));
         let mut story = format!("seed {seed} step {step}: {wrong}\ncall {call:?}\n");
         story += &format!("the Rust implementation {:?} {:?}\n", reply.refusal, reply.values);
         story += &format!("the archive {:?} {:?}\n", theirs.refusal, theirs.values);
         story += &format!("the zone before, {} bytes:\n{}", before.len(), hex(before));
         story += &format!("the archive's zone after:\n{after}");
-        story + &format!("second buffer before, {} bytes:\n{}", second.len(), hex(second))
+        story += &format!("second buffer before, {} bytes:\n{}", second.len(), hex(second));
+        story + &format!("the archive's second buffer after:\n{second_after}")
     }
 }
 
@@ -224,19 +210,6 @@ fn ask_rust(buffer: &mut [u8], call: &Call, second: &mut [u8]) -> Reply {
         Call::WalkerStart => without_number(&ask_zone(buffer, call, second).values),
         _ => ask_zone(buffer, call, second),
     }
-}
-
-fn first_other(wanted: &[u8], got: &[u8]) -> Option<usize> {
-    if wanted == got {
-        return None;
-    }
-    wanted.iter().zip(got).position(|(one, other)| one != other)
-}
-
-fn as_set(records: &[u8]) -> Vec<&[u8]> {
-    let mut records: Vec<&[u8]> = records.chunks(8).collect();
-    records.sort();
-    records
 }
 
 /// 32 bytes a line; lines of zeros alone are left out, the last one apart.

@@ -212,10 +212,11 @@ impl Ledger {
         (sums().sum::<u64>() as u32, sums().max().unwrap_or(0) as u32)
     }
 
-    /// The live handles with their bytes, by rising handle.
+    /// The live handles with their bytes by rising handle, which is a roster's
+    /// order; the bays have them as calls left them.
     fn live(&self) -> Vec<&(u32, Vec<u8>)> {
         let mut live: Vec<_> = self.bays.iter().flat_map(|bay| &bay.live).collect();
-        live.sort();
+        live.sort_by_key(|(handle, _)| *handle);
         live
     }
 

@@ -13,6 +13,7 @@ mod foreign;
 mod model;
 mod random;
 mod rules;
+mod verdict;
 #[allow(dead_code)]
 mod zone;
 mod zones;
@@ -167,6 +168,7 @@ fn print(tally: &Tally) {
         "  read or written, {LONG} bytes and more: {} by handle, {} by pointer",
         tally.long_by_handle, tally.long_by_pointer
     );
+    println!("  rosters of blocks that do not stand by rising handle: {}", tally.rosters_apart);
 }
 
 /// All of it from one seed.
@@ -204,6 +206,11 @@ fn main() -> ExitCode {
     }
     if status == ExitCode::SUCCESS {
         print(&tally);
+        // without one the roster's order would not have been compared
+        if tally.rosters_apart == 0 {
+            println!("no such roster");
+            return ExitCode::FAILURE;
+        }
         println!("the archive and the Rust implementation agree");
     }
     status

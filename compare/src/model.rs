@@ -243,6 +243,16 @@ impl Picture {
         Ok(&mut data[start as usize..(start + count) as usize])
     }
 
+    /// The live handles as their blocks stand.
+    pub fn handles(&self) -> Vec<u32> {
+        let handle = |item: &Item| match item {
+            Item::Relocatable(handle, _) => Some(*handle),
+            _ => None,
+        };
+        self.items.iter().filter_map(handle).collect()
+    }
+
+    /// The live handles with their data sizes, by rising handle.
     fn live(&self) -> Vec<(u32, usize)> {
         let mut live: Vec<(u32, usize)> = self
             .items

@@ -13,6 +13,7 @@ mod model;
 mod random;
 mod records;
 mod rules;
+mod verdict;
 mod zone;
 mod zones;
 
@@ -22,6 +23,7 @@ use ledger::Ledger;
 use model::{ask_model, Item, Picture};
 use random::Random;
 use std::collections::HashSet;
+use verdict::{difference, Left};
 use zone::{Name, Stretch};
 use zones::{a_zone, break_a_rule, damage, noise};
 
@@ -342,6 +344,71 @@ fn a_walker_goes_round_the_blocks() {
 }
 
 // --------------------------------------------- comparing with the two models
+
+/// A zone and its ledger after calls that leave handles 24 and 20 in the first
+/// bay, in this order, and 16 in the second: 20 was made first, 16 last.
+fn handles_out_of_order() -> (Vec<u8>, Ledger) {
+    let mut zone = vec![0xEE; 96];
+    assert_eq!(zone::initialize(&mut zone, 96, 5), Ok(()));
+    let mut ledger = Ledger::new(96, 96, 5);
+    for (call, value) in [
+        (Call::Fixed(2), Some(94)),
+        (Call::Fixed(18), Some(74)),
+        (Call::Fixed(2), Some(70)),
+        (Call::FreePointer(74), None),
+        (Call::Relocatable(12), Some(16)),
+        (Call::Relocatable(4), Some(20)),
+        (Call::Relocatable(0), Some(24)),
+        (Call::FreeHandle(16), None),
+        (Call::FreeHandle(24), None),
+        (Call::Relocatable(8), Some(24)),
+        (Call::Resize(20, 12), None),
+        (Call::Relocatable(0), Some(16)),
+        (Call::Resize(16, 12), None),
+    ] {
+        let reply = compare(&mut zone, &call, &[], Some(&mut ledger));
+        assert_eq!((reply.refusal, reply.values.first().copied()), (Some(0), value), "{call:?}");
+    }
+    assert_eq!(Picture::decode(&zone).handles(), [24, 20, 16], "the blocks as they stand");
+    (zone, ledger)
+}
+
+const BY_RISING_HANDLE: &str = "00000010 0000000C 00000014 0000000C 00000018 00000008";
+
+#[test]
+fn a_roster_comes_by_rising_handle() {
+    let (mut zone, mut ledger) = handles_out_of_order();
+    // three records, and bytes behind them that stay
+    let lent = [0xEE; 29];
+    let wanted = [bytes(BY_RISING_HANDLE, 24), vec![0xEE; 5]].concat();
+    let (mut of_zone, mut of_model, mut of_ledger) = (lent, lent, lent);
+    let three = Reply::new(0, &[3]);
+    assert_eq!(ask_zone(&mut zone, &Call::Roster, &mut of_zone), three);
+    assert_eq!(ask_model(&mut zone, &Call::Roster, &mut of_model), three);
+    assert_eq!(ledger.ask(&Call::Roster, &mut of_ledger), three);
+    assert_eq!(of_zone[..], wanted, "the zone's");
+    assert_eq!(of_model[..], wanted, "the model's");
+    assert_eq!(of_ledger[..], wanted, "the ledger's");
+}
+
+/// The archive is compared by `difference`.
+#[test]
+fn two_records_swapped_are_a_difference() {
+    let (zone, reply) = (handles_out_of_order().0, Reply::new(0, &[3]));
+    let wanted = [bytes(BY_RISING_HANDLE, 24), vec![0xEE; 5]].concat();
+    let told = |second: &[u8]| {
+        difference(
+            &Left { reply: &reply, zone: &zone, second: &wanted },
+            &Left { reply: &reply, zone: &zone, second },
+        )
+    };
+    assert_eq!(told(&wanted), None);
+    let swapped = [&wanted[..8], &wanted[16..24], &wanted[8..16], &wanted[24..]].concat();
+    assert_eq!(told(&swapped).as_deref(), Some("byte 11 of the second buffer should be 14"));
+    let mut later = wanted.clone();
+    later[28] = 0;
+    assert_eq!(told(&later).as_deref(), Some("byte 28 of the second buffer should be EE"));
+}
 
 /// One call: the zone against the model in every byte of both buffers, the
 /// rules one by one, and against the ledger if there is one.

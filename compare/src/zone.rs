@@ -837,7 +837,8 @@ pub fn shrink(zone: &mut [u8], k: u32) -> Answer<u32> {
 }
 
 /// "Roster: into a second buffer, 8 bytes a live handle (handle, data size; 4
-/// bytes each), no header; answers how many." By rising handle.
+/// bytes each), no header; answers how many." Document 02, U1: "Roster records
+/// come by rising handle", the numbers high byte first.
 pub fn roster(zone: &[u8], second: &mut [u8]) -> Answer<u32> {
     let layout = open(zone)?;
     if second.len() / 8 < layout.live {

@@ -50,8 +50,9 @@ HANDLE_NOT_LIVE = "handle not live"
 NOT_A_POINTER = "pointer not that of a fixed block"
 PAST_DATA = "offset + count, unwrapped, above data size"
 
-# A roster's bytes.
+# A roster's bytes; their order is document 02's (U1).
 ROSTER_RECORD = "8 bytes a live handle"
+ROSTER_ORDER = "records come by rising handle"
 
 
 class ZoneError(Exception):

@@ -5,7 +5,7 @@ tests compare what the package reads with what the plan says.
 """
 
 import random
-from typing import Dict, List, NamedTuple, Optional, Tuple
+from typing import Dict, Iterable, List, NamedTuple, Optional, Tuple
 
 FREE, FIXED, RELOCATABLE = 0, 1, 2
 
@@ -70,6 +70,12 @@ def block_bytes(part: Part) -> bytes:
     if part.kind == RELOCATABLE:
         head += part.handle.to_bytes(2, "big")
     return head + part.data
+
+
+def roster_bytes(records: Iterable[Tuple[int, int]]) -> bytes:
+    """The records as a roster has them: handle, data size, 4 bytes each."""
+    return b"".join(number.to_bytes(4, "big")
+                    for record in records for number in record)
 
 
 def free(size: int) -> Part:

@@ -10,6 +10,7 @@ import tempfile
 from ctypes import c_size_t, c_uint32
 from typing import Iterator, List, Tuple
 
+import builder
 import support  # noqa: F401  finds the package
 import nafelode
 
@@ -84,11 +85,11 @@ class Library:
         return self.call("write", kind, block, offset, count, data,
                          c_size_t(len(data)))
 
-    def roster(self, live: int) -> Tuple[int, int, bytes]:
-        """Refusal number, how many, and the second buffer's bytes."""
-        second = ctypes.create_string_buffer(8 * live + 1)
-        told = self.call("roster", second, c_size_t(8 * live))
-        return told.number, told.value, second.raw[:8 * live]
+    def roster(self, lent: bytes) -> Tuple[int, int, bytes]:
+        """Refusal number, how many, and the second buffer's bytes then."""
+        second = ctypes.create_string_buffer(lent, len(lent) + 1)
+        told = self.call("roster", second, c_size_t(len(lent)))
+        return told.number, told.value, second.raw[:len(lent)]
 
     def walk(self) -> Iterator[Tuple[int, int, int]]:
         """Type, offset and size of each block."""
@@ -172,7 +173,16 @@ def _same_sums(library, zone, same) -> None:
     same("sum", (0, *zone.sum()), (sums.number, sums.total, sums.largest))
     census = library.call("census")
     same("census", (0, *zone.census()), (census.number, *census.counts))
-    number, count, records = library.roster(zone.live_handles)
+    same_roster(library, zone, same)
+
+
+def same_roster(library, zone, same) -> None:
+    """The second buffer whole: records by rising handle, later bytes stay."""
+    records = builder.roster_bytes(zone.roster())
+    later = b"later"
+    number, count, second = library.roster(bytes(len(records)) + later)
     same("roster", (0, zone.live_handles), (number, count))
-    same("roster's records", set(zone.roster()),
-         set(nafelode.decode_roster(records, count)))
+    same("roster's bytes", records + later, second)
+    if second == records + later:
+        same("roster's records", zone.roster(),
+             nafelode.decode_roster(second, count))

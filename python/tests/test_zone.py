@@ -121,11 +121,11 @@ class RandomZones(unittest.TestCase):
         self.assertEqual(zone.scatter().pieces, sum(map(len, bays)))
 
     def compare_roster(self, zone: Zone, plan: builder.Plan) -> None:
-        expected = {(part.handle, len(part.data)) for part in plan.parts
-                    if part.kind == builder.RELOCATABLE}
+        expected = sorted((part.handle, len(part.data)) for part in plan.parts
+                          if part.kind == builder.RELOCATABLE)
         self.assertEqual(zone.live_handles, len(expected))
-        self.assertEqual(set(zone.roster()), expected)
-        self.assertEqual(list(zone.handles), sorted(h for h, _ in expected))
+        self.assertEqual(list(zone.roster()), expected)
+        self.assertEqual(list(zone.handles), [h for h, _ in expected])
 
 
 class Census(unittest.TestCase):
@@ -217,6 +217,17 @@ class Questions(unittest.TestCase):
 class Roster(unittest.TestCase):
     BYTES = bytes.fromhex("00000010 00000008 00000018 00000000")
 
+    def test_rising_handle(self) -> None:
+        # The blocks stand in another order, and in two bays.
+        plan = builder.Plan(5, (builder.relocatable(24, bytes(4)),
+                                builder.relocatable(16, bytes(8)),
+                                builder.fixed(bytes(2)), builder.free(8),
+                                builder.relocatable(20, b"")), (32, 28))
+        zone = Zone(plan.image())
+        self.assertEqual([b.handle for b in zone.blocks if b.handle],
+                         [24, 16, 20])
+        self.assertEqual(zone.roster(), ((16, 8), (20, 0), (24, 4)))
+
     def test_records(self) -> None:
         self.assertEqual(decode_roster(self.BYTES), ((16, 8), (24, 0)))
         self.assertEqual(decode_roster(b""), ())
@@ -231,6 +242,18 @@ class Roster(unittest.TestCase):
                 decode_roster(image, count)
             self.assertEqual(caught.exception.rule, "8 bytes a live handle")
             self.assertEqual(caught.exception.offset, offset)
+
+    def test_order(self) -> None:
+        # Records swapped, and one that comes twice.
+        for handles in ((24, 16), (16, 24, 20), (16, 20, 20)):
+            image = builder.roster_bytes((handle, 4) for handle in handles)
+            with self.assertRaises(ZoneError) as caught:
+                decode_roster(image)
+            self.assertEqual(caught.exception.rule,
+                             "records come by rising handle")
+            self.assertEqual(caught.exception.offset, len(image) - 8)
+        # What stands beyond the count is no record.
+        self.assertEqual(decode_roster(image, 2), ((16, 4), (20, 4)))
 
 
 if __name__ == "__main__":

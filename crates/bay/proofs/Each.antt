@@ -9,6 +9,9 @@ pub data Each {A : Type 0} (P : A → Type 0) : Option A → Type 0 where
   nothing : Each P none
   just : {a : A} → P a → Each P (some a)
 
+pub each-some : {A : Type 0} {P : A → Type 0} {a : A} → Each P (some a) → P a
+each-some (just p) = p
+
 pub each-over : {A B : Type 0} {P : A → Type 0} {Q : B → Type 0} (f : A → B) {o : Option A} → ((a : A) → P a → Q (f a)) → Each P o → Each Q (over f o)
 each-over f h nothing = nothing
 each-over f h (just {a = a} p) = just (h a p)

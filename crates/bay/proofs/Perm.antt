@@ -2,13 +2,12 @@
 use mathlib.Core.Path.{_≡_, refl, ap, ap₂, _∙_}
 use mathlib.Core.Bool.{Bool, true, false, cond}
 use mathlib.Core.Option.{some}
-use mathlib.Core.List.{List, _∷_, map, List·Permᴰ, List·Permᴰ·nil, List·Permᴰ·cons, List·Permᴰ·swap, List·Permᴰ·trans, Permᴰ·refl, Permᴰ·append-left, _++_, Permᴰ·middle, [], Permᴰ·symm}
+use mathlib.Core.List.{List, _∷_, map, List·Permᴰ, List·Permᴰ·nil, List·Permᴰ·cons, List·Permᴰ·swap, List·Permᴰ·trans, Permᴰ·refl}
 use Prim.Native.Nat.{ℕ, suc, _+_, _≤_}
 use native.Mathlib.Omega.{arith}
-use lib.ListN.{length}
+use lib.ListN.{length, length-append, length-map}
 use Rattle.kinds.specs.Kinds.{Item, itemSize, is, mastersOf}
 use Rattle.calls.specs.State.{total, get, card, listed}
-use Rattle.calls.specs.Calls.{Card}
 use Rattle.bay.specs.Counted.{remove, count}
 
 pub perm-total : {a b : List Item} → List·Permᴰ a b → total a ≡ total b
@@ -16,12 +15,6 @@ perm-total List·Permᴰ·nil = refl
 perm-total (List·Permᴰ·cons e p) = ap₂ _+_ (ap itemSize e) (perm-total p)
 perm-total (List·Permᴰ·swap e f) = omega (arith, ap itemSize e, ap itemSize f)
 perm-total (List·Permᴰ·trans p q) = perm-total p ∙ perm-total q
-
-pub perm-length : {X : Type 0} {a b : List X} → List·Permᴰ a b → length a ≡ length b
-perm-length List·Permᴰ·nil = refl
-perm-length (List·Permᴰ·cons e p) = ap suc (perm-length p)
-perm-length (List·Permᴰ·swap e q) = refl
-perm-length (List·Permᴰ·trans p q) = perm-length p ∙ perm-length q
 
 pub perm-map : {X Y : Type 0} (f : X → Y) {a b : List X} → List·Permᴰ a b → List·Permᴰ (map f a) (map f b)
 perm-map f List·Permᴰ·nil = List·Permᴰ·nil
@@ -57,16 +50,19 @@ perm-count h (List·Permᴰ·swap {a = x} {b = y} {l = l} e q) = rw (← e, ← 
     both false false n = refl
 perm-count h (List·Permᴰ·trans p q) = perm-count h p ∙ perm-count h q
 
--- the cards of items in another order
-lists-swap : (a b l : List Card) → List·Permᴰ (a ++ (b ++ l)) (b ++ (a ++ l))
-lists-swap [] b l = Permᴰ·refl (b ++ l)
-lists-swap (x ∷ a) b l = List·Permᴰ·trans (List·Permᴰ·cons refl (lists-swap a b l)) (Permᴰ·symm (Permᴰ·middle x b (a ++ l)))
+-- how many live handles
+pub listed-held : (e : Item) (es : List Item) → length (listed (e ∷ es)) ≡ length (mastersOf e) + length (listed es)
+listed-held e es = length-append (map (card e) (mastersOf e)) (listed es) ∙ ap (_+ length (listed es)) (length-map (mastersOf e) (card e))
 
-pub perm-listed : {a b : List Item} → List·Permᴰ a b → List·Permᴰ (listed a) (listed b)
-perm-listed List·Permᴰ·nil = List·Permᴰ·nil
-perm-listed (List·Permᴰ·cons {a = x} e p) = rw (← e) (Permᴰ·append-left (map (card x) (mastersOf x)) (perm-listed p))
-perm-listed (List·Permᴰ·swap {a = x} {b = y} {l = l} e q) = rw (← e, ← q) (lists-swap (map (card x) (mastersOf x)) (map (card y) (mastersOf y)) (listed l))
-perm-listed (List·Permᴰ·trans p q) = List·Permᴰ·trans (perm-listed p) (perm-listed q)
+many : {d e : Item} → d ≡ e → length (mastersOf d) ≡ length (mastersOf e)
+many q = ap (λ (i : Item). length (mastersOf i)) q
+
+pub perm-live : {a b : List Item} → List·Permᴰ a b → length (listed a) ≡ length (listed b)
+perm-live List·Permᴰ·nil = refl
+perm-live (List·Permᴰ·cons {a = x} {b = y} {l₁ = l} {l₂ = m} e p) = omega (arith, listed-held x l, listed-held y m, many e, perm-live p)
+perm-live (List·Permᴰ·swap {a = w} {b = x} {a′ = y} {b′ = z} {l = l} e q) =
+    omega (arith, listed-held w (x ∷ l), listed-held x l, listed-held y (z ∷ l), listed-held z l, many e, many q)
+perm-live (List·Permᴰ·trans p q) = perm-live p ∙ perm-live q
 
 -- where no handle stands twice, order does not matter to a search
 pub perm-get : (h : ℕ) {a b : List Item} → List·Permᴰ a b → count h a ≤ 1 → get h a ≡ get h b

@@ -1,4 +1,4 @@
--- The numbers of document 01: block types, header lengths, limits, the header of a zone and where its fields lie. `tools/numbers.py` tests
+-- The numbers of document 01: block types, header lengths, limits, the header of a zone and where its fields lie. `tools/by_name.py` tests
 -- that they stand by name everywhere else.
 use Prim.Native.Nat.{ℕ, _+_, _*_, _/_}
 

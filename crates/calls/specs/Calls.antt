@@ -1,6 +1,7 @@
 -- The ledger's calls with their arguments, and what a call answers. Neither a zone nor a ledger is named here.
 use mathlib.Core.List.{List, []}
 use Prim.Native.Nat.{ℕ}
+use Rattle.bigendian.specs.BigEndian.{toBE}
 
 -- "a stretch names its block, by handle or by pointer"
 pub data Target : Type 0 where
@@ -32,40 +33,36 @@ pub data Call : Type 0 where
   -- the second buffer as it is given
   roster : List ℕ → Call
 
--- "8 bytes a live handle (handle, data size; 4 bytes each)"
-pub record Card : Type 0 where
-  pub handle : ℕ
-  pub amount : ℕ
-
 pub record Answer : Type 0 where
   -- the refusal number, 0 if the call is done
   pub number : ℕ
   -- the values: "A call for which no answer is named answers 0", "A call with several answers gives 0 for each when refused"
   pub value : ℕ
   pub second : ℕ
-  -- the second buffer after the call (of a roster that is done, from behind its records on; of a refused one, all of it), or what a
-  -- view shows
+  -- the second buffer after the call, all of it, or what a view shows
   pub bytes : List ℕ
-  -- a roster's records
-  pub records : List Card
 
--- a refusal number (0 for done) and a value
+-- a refusal number (0 for done), a value, and the second buffer
+abbrev pub toldWith : ℕ → ℕ → List ℕ → Answer
+toldWith n v bs = record { number = n; value = v; second = 0; bytes = bs }
+
+-- no second buffer
 abbrev pub told : ℕ → ℕ → Answer
-told n v = record { number = n; value = v; second = 0; bytes = []; records = [] }
-
--- a refusal number (0 for done) and two values
-abbrev pub toldTwo : ℕ → ℕ → ℕ → Answer
-toldTwo n v w = record { number = n; value = v; second = w; bytes = []; records = [] }
+told n v = toldWith n v []
 
 -- done (n is 0) or refused, with these bytes in the second buffer, or in the view
 abbrev pub shows : ℕ → List ℕ → Answer
-shows n bs = record { number = n; value = 0; second = 0; bytes = bs; records = [] }
+shows n bs = toldWith n 0 bs
 
--- a roster: how many, the records, and the later bytes of the second buffer
-abbrev pub lists : ℕ → List Card → List ℕ → Answer
-lists n cs bs = record { number = 0; value = n; second = 0; bytes = bs; records = cs }
+-- a refusal number and two values
+abbrev pub toldTwo : ℕ → ℕ → ℕ → Answer
+toldTwo n v w = record { number = n; value = v; second = w; bytes = [] }
 
 -- ---- what a call is lent beside the zone
+
+-- "Numbers in every lent buffer, now and later, stand high byte first" (document 02, U1): one of 4 bytes
+abbrev pub lentNumber : ℕ → List ℕ
+lentNumber v = toBE 4 v
 
 pub data Beside : Type 0 where
   -- nothing
@@ -106,4 +103,4 @@ numberTold n part = 0
 
 -- A CALL REFUSED with number n: 0 for each value, and the second buffer as it was (a view shows nothing)
 abbrev pub refused : Call → ℕ → Answer
-refused c n = record { number = numberTold n (beside c); value = 0; second = 0; bytes = secondOf (beside c); records = [] }
+refused c n = record { number = numberTold n (beside c); value = 0; second = 0; bytes = secondOf (beside c) }

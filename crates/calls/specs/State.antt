@@ -8,7 +8,8 @@ use lib.ListN.{length, getD, take, drop, replicate}
 use lib.Dec.{eqb, leb}
 use Rattle.block_type.specs.Limits.{fixedHeader, masterSize, up4}
 use Rattle.kinds.specs.Kinds.{Item, item, mastersOf, holding, is, itemSize}
-use Rattle.calls.specs.Calls.{Target, by-handle, by-pointer, Card, Answer, told}
+use Rattle.calls.specs.Calls.{Target, by-handle, by-pointer, Answer, told}
+use Rattle.calls.specs.Roster.{Card}
 use Rattle.calls.specs.Bays.{Bays, last, more, over, findS, findF, maxS, sumS}
 
 -- ---- relocatable blocks

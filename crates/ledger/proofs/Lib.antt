@@ -1,2 +1,3 @@
 pub mod Still
 pub mod Space
+pub mod Sorted

@@ -1,14 +1,15 @@
 -- Document 01, 'The ledger'. It is fed the calls alone. It holds no place of a relocatable block and never reads a zone: of a bay it
--- keeps a capacity and what the live handles in it hold. With the zone's definitions it shares State, Bays and Table, and of Kinds what an
--- item is and how many bytes it takes; of a zone's bays and bytes it has nothing.
+-- keeps a capacity and what the live handles in it hold. With the zone's definitions it shares State, Bays, Table and Roster (how
+-- records stand in a buffer), and of Kinds what an item is and how many bytes it takes; of a zone's bays and bytes it has nothing.
 use mathlib.Core.Bool.{true, cond}
 use mathlib.Core.List.{List, [], _∷_, _++_, map}
 use Prim.Native.Nat.{ℕ, _+_, _-_, _*_, _/_, min}
 use lib.ListN.{length, take, drop}
 use lib.Seq.{sets}
 use lib.Dec.{leb, eqb}
-use Rattle.block_type.specs.Limits.{relocHeader, up4, fixedNeed, relocNeed, zoneHeader, firstBlock, recordSize}
-use Rattle.calls.specs.Calls.{Target, by-handle, by-pointer, Call, allocate-relocatable, allocate-fixed, free-handle, free-pointer, resize, size, read, write, view, compact, sums, check, length-of, enlarge, shrink, roster, Card, Answer, toldTwo, shows, lists, refused}
+use Rattle.block_type.specs.Limits.{relocHeader, up4, fixedNeed, relocNeed, zoneHeader, firstBlock}
+use Rattle.calls.specs.Calls.{Target, by-handle, by-pointer, Call, allocate-relocatable, allocate-fixed, free-handle, free-pointer, resize, size, read, write, view, compact, sums, check, length-of, enlarge, shrink, roster, Answer, toldTwo, shows, refused}
+use Rattle.calls.specs.Roster.{Card, rostered}
 use Rattle.calls.specs.Bays.{Bays, last, onLowest, mapS, onFixed, onLast, concatS, sumS, maxS, lastS}
 use Rattle.kinds.specs.Kinds.{Item, item, is}
 use Rattle.calls.specs.State.{total, alter, newItem, sized, listed, handlesFrom, Fixed, pointer, alterFixed, State, Out, says, done, withBays, cutHigh, joinAt, dataOf, ownSum, liveCount, top, rest}
@@ -97,9 +98,19 @@ enlargeBy k l = done 0 (record { buf = l .buf; len = l .len + k; chain = l .chai
 abbrev pub strip : ℕ → Ledger → Out Bay
 strip n l = done n (record { buf = l .buf; len = l .len - n; chain = l .chain; bays = onLast (less n) (l .bays) })
 
--- the roster's records: each live handle with its data size
+-- "Roster records come by rising handle" (document 02, U1): each live handle with its data size, sorted by handle
+
+-- a record before the first one whose handle is not smaller
+abbrev pub insert : Card → List Card → List Card
+insert c [] = c ∷ []
+insert c (d ∷ ds) = cond (leb (c .handle) (d .handle)) (c ∷ (d ∷ ds)) (d ∷ insert c ds)
+
+abbrev pub byHandle : List Card → List Card
+byHandle [] = []
+byHandle (c ∷ cs) = insert c (byHandle cs)
+
 abbrev pub cards : Ledger → List Card
-cards l = concatS (λ (b : Bay). listed (b .entries)) (l .bays)
+cards l = byHandle (concatS (λ (b : Bay). listed (b .entries)) (l .bays))
 
 abbrev pub work : Call → Ledger → Out Bay
 work (allocate-relocatable c) l = allocate c l
@@ -120,7 +131,7 @@ work check l = says (toldTwo 0 1 (liveCount entriesOf l)) l
 work length-of l = done (l .len) l
 work (enlarge k) l = enlargeBy k l
 work (shrink k) l = strip (min (k / 4 * 4) (sumOf (lastS (l .bays)))) l
-work (roster second) l = says (lists (liveCount entriesOf l) (cards l) (drop (recordSize * liveCount entriesOf l) second)) l
+work (roster second) l = says (rostered (cards l) second) l
 
 -- ---- a step: "Refusals follow the table, by this state and the call; 1 never comes", "A refused call leaves the state"
 

@@ -1,7 +1,7 @@
 -- The customer's three demands hold of whatever keeps the exported functions' promises.
-use mathlib.Core.Path.{_≡_, refl, ap, ap₂, sym, _∙_, subst}
+use mathlib.Core.Path.{_≡_, refl, ap, ap₂, sym, _∙_}
 use mathlib.Core.Bool.{Bool, true, false, cond}
-use mathlib.Core.List.{List, [], _∷_, _++_, List·Permᴰ}
+use mathlib.Core.List.{List, [], _∷_, _++_}
 use Prim.Native.Nat.{ℕ, zero, suc}
 use native.Mathlib.Omega.{arith}
 use lib.ListN.{length, drop, replicate}
@@ -9,14 +9,13 @@ use lib.Dec.{eqb·suc-zero}
 use Rattle.format.specs.WellFormed.{wellFormed, countOf}
 use Rattle.structure.specs.Structure.{encode, decode}
 use Rattle.bigendian.specs.BigEndian.{Bytes, slice}
-use Rattle.calls.specs.Calls.{Target, Call, check, view, Answer, Card, told, toldTwo, refused}
+use Rattle.calls.specs.Calls.{Target, Call, check, view, Answer, told, toldTwo, refused}
 use Rattle.calls.specs.Table.{first, order, badInitialize, initRefusal}
 use Rattle.zone.specs.Work.{work, fresh}
-use Rattle.zone.specs.Call.{result, outcome, inLine, zoneIn, numberOf, Result, callWith, call, initializeWith}
+use Rattle.zone.specs.Call.{result, outcome, inLine, zoneIn, numberOf, Result, callWith, initializeWith}
 use Rattle.zone.specs.Census.{strata, Counted, counted}
 use Rattle.zone.specs.View.{viewStart, viewLength}
-use Rattle.zone.specs.Promise.{Alike, Promise, InitPromise}
-use Rattle.bay.proofs.Perm.{perm-length}
+use Rattle.zone.specs.Promise.{Promise, InitPromise}
 use Rattle.zone.proofs.Numbers.{work-number}
 use Rattle.zone.proofs.Run.{stored-well, call-well}
 use Rattle.zone.proofs.Initial.{accepted, fresh-whole, fresh-stored}
@@ -27,35 +26,27 @@ use Rattle.nafelode.proofs.ViewPlace.{start-tied, length-tied}
 use Rattle.nafelode.specs.Demands.{OneRefusal, Demand1, Worked, Demand2, Demand3}
 use Rattle.zone.proofs.Theorem.{the-list}
 
--- no record is among none
-none-left : {l : List Card} → List·Permᴰ l [] → l ≡ []
-none-left {l = []} p = refl
-none-left {l = c ∷ cs} p = absurd (omega (arith, perm-length p))
-
-same-as : {a b : Answer} → b .records ≡ [] → Alike a b → a ≡ b
-same-as e k = λ i. record { number = k .number i; value = k .value i; second = k .second i; bytes = k .bytes i; records = (none-left (rw e at k .records) ∙ sym e) i }
-
 one-refusal : (c : Call) (entry : List ℕ) (a : Answer) (exit : List ℕ) → Promise c entry a exit → OneRefusal (numberOf c entry) (refused c (numberOf c entry)) entry a exit
-one-refusal c entry a exit k = go (numberOf c entry) (k .answer) (k .bytes)
+one-refusal c entry a exit k = go (numberOf c entry) k
   where
     worked-number : (t : Bool) → (cond t (outcome entry (decode entry) (work c (zoneIn entry))) (result (told 0 0) entry)) .answer .number ≡ 0
     worked-number true = work-number c (zoneIn entry)
     worked-number false = refl
 
-    go : (n : ℕ) → Alike a ((callWith n c entry) .answer) → exit ≡ (callWith n c entry) .bytes → OneRefusal n (refused c n) entry a exit
-    go zero k e = record { done = λ q. k .number ∙ worked-number (wellFormed entry); refused = λ ne. absurd (ne refl) }
-    go (suc n) k e = record { done = λ q. absurd (omega (arith, q)); refused = λ ne. (same-as refl (rw (eqb·suc-zero n) at k), rw (eqb·suc-zero n) at e) }
+    go : (n : ℕ) → result a exit ≡ callWith n c entry → OneRefusal n (refused c n) entry a exit
+    go zero k = record { done = λ q. ap (λ (r : Result). r .answer .number) k ∙ worked-number (wellFormed entry); refused = λ ne. absurd (ne refl) }
+    go (suc n) k = let e = rw (eqb·suc-zero n) at k in record { done = λ q. absurd (omega (arith, q)); refused = λ ne. (ap (λ (r : Result). r .answer) e, ap (λ (r : Result). r .bytes) e) }
 
 init-refusal : (n m : ℕ) (entry : List ℕ) (a : Answer) (exit : List ℕ) → InitPromise n m entry a exit
     → OneRefusal (initRefusal (length entry) n m) (told 2 0) entry a exit
-init-refusal n m entry a exit k = go (badInitialize (length entry) n m .holds) (k .answer) (k .bytes)
+init-refusal n m entry a exit k = go (badInitialize (length entry) n m .holds) k
   where
     number : Bool → ℕ
     number t = first order (record { number = 2; holds = t } ∷ [])
 
-    go : (t : Bool) → a ≡ (initializeWith (number t) n m entry) .answer → exit ≡ (initializeWith (number t) n m entry) .bytes → OneRefusal (number t) (told 2 0) entry a exit
-    go true e q = record { done = λ z. absurd (omega (arith, z)); refused = λ ne. (e, q) }
-    go false e q = record { done = λ z. ap (λ (x : Answer). x .number) e; refused = λ ne. absurd (ne refl) }
+    go : (t : Bool) → result a exit ≡ initializeWith (number t) n m entry → OneRefusal (number t) (told 2 0) entry a exit
+    go true k = record { done = λ z. absurd (omega (arith, z)); refused = λ ne. (ap (λ (r : Result). r .answer) k, ap (λ (r : Result). r .bytes) k) }
+    go false k = record { done = λ z. ap (λ (r : Result). r .answer .number) k; refused = λ ne. absurd (ne refl) }
 
 pub demand-1 : Demand1
 demand-1 = record {
@@ -67,16 +58,16 @@ demand-1 = record {
 
 worked : (c : Call) (entry : List ℕ) (a : Answer) (exit : List ℕ) → Promise c entry a exit → wellFormed entry ≡ true → numberOf c entry ≡ 0 → Worked c entry a exit
 worked c entry a exit k w e =
-    let q : call c entry ≡ outcome entry (decode entry) (work c (zoneIn entry)) = ap (λ (n : ℕ). callWith n c entry) e ∙ rw w in
+    let q : result a exit ≡ outcome entry (decode entry) (work c (zoneIn entry)) = k ∙ ap (λ (n : ℕ). callWith n c entry) e ∙ rw w in
     record {
-      answer = subst (λ (r : Result). Alike a (r .answer)) q (k .answer);
-      bytes = k .bytes ∙ ap (λ (r : Result). r .bytes) q;
-      zone = λ y u. rw (k .bytes) (call-well entry y w c u);
+      answer = ap (λ (r : Result). r .answer) q;
+      bytes = ap (λ (r : Result). r .bytes) q;
+      zone = λ y u. ap (λ (r : Result). wellFormed (r .bytes)) k ∙ call-well entry y w c u;
     }
 
 initialized : (n m : ℕ) (entry : List ℕ) (a : Answer) (exit : List ℕ) → InitPromise n m entry a exit → a .number ≡ 0
     → (a ≡ told 0 0) × (exit ≡ encode (inLine (fresh (length entry) n m)) ++ drop n entry) × (wellFormed exit ≡ true)
-initialized n m entry a exit k d = go (initRefusal (length entry) n m) refl (sym (ap (λ (x : Answer). x .number) (k .answer)) ∙ d) (k .answer) (k .bytes)
+initialized n m entry a exit k d = go (initRefusal (length entry) n m) refl (sym (ap (λ (r : Result). r .answer .number) k) ∙ d) (ap (λ (r : Result). r .answer) k) (ap (λ (r : Result). r .bytes) k)
   where
     go : (j : ℕ) → initRefusal (length entry) n m ≡ j → (initializeWith j n m entry) .answer .number ≡ 0 → a ≡ (initializeWith j n m entry) .answer → exit ≡ (initializeWith j n m entry) .bytes
         → (a ≡ told 0 0) × (exit ≡ encode (inLine (fresh (length entry) n m)) ++ drop n entry) × (wellFormed exit ≡ true)
@@ -85,13 +76,13 @@ initialized n m entry a exit k d = go (initRefusal (length entry) n m) refl (sym
         (p, q, rw q (stored-well _ (fresh (length entry) n m) (fresh-whole (length entry) n m u) (fresh-stored (length entry) n m u entry refl)))
     go (suc j) e d p q = absurd (omega (arith, rw (eqb·suc-zero j) at d))
 
-checked : (entry : List ℕ) (a : Answer) (exit : List ℕ) → Bytes entry → Promise check entry a exit → Alike a (toldTwo 0 (cond (wellFormed entry) 1 0) (countOf entry)) × (exit ≡ entry)
-checked entry a exit y k = (subst (Alike a) (sym (check-is entry (wellFormed entry) (countOf entry) y refl refl)) (k .answer), k .bytes ∙ unchanged check entry y refl)
+checked : (entry : List ℕ) (a : Answer) (exit : List ℕ) → Bytes entry → Promise check entry a exit → (a ≡ toldTwo 0 (cond (wellFormed entry) 1 0) (countOf entry)) × (exit ≡ entry)
+checked entry a exit y k = (ap (λ (r : Result). r .answer) k ∙ sym (check-is entry (wellFormed entry) (countOf entry) y refl refl), ap (λ (r : Result). r .bytes) k ∙ unchanged check entry y refl)
 
 viewed : (t : Target) (i n : ℕ) (entry : List ℕ) (a : Answer) (exit : List ℕ) → Bytes entry → Promise (view t i n) entry a exit
     → slice entry (viewStart t i n entry) (viewLength t i n entry) ≡ a .bytes
 viewed t i n entry a exit y k =
-    ap₂ (slice entry) (sym (start-tied t i n entry y)) (sym (length-tied t i n entry y)) ∙ view-there t i n entry y ∙ sym (k .answer .bytes)
+    ap₂ (slice entry) (sym (start-tied t i n entry y)) (sym (length-tied t i n entry y)) ∙ view-there t i n entry y ∙ sym (ap (λ (r : Result). r .answer .bytes) k)
 
 pub demand-2 : Demand2
 demand-2 = record { of-calls = worked; of-initialize = initialized; of-check = checked; of-view = viewed }

@@ -1,23 +1,14 @@
--- An equation to the definitions is a promise.
+-- An answer that is the definition's, of a call that leaves the zone, is a promise.
 use mathlib.Core.Path.{_≡_, refl, ap, sym, _∙_}
 use mathlib.Core.List.{List}
 use Prim.Native.Nat.{ℕ}
 use Rattle.bigendian.specs.BigEndian.{Bytes}
-use Rattle.calls.specs.Calls.{Target, Call, Answer, size, read, view, sums, check, length-of, shows}
-use Rattle.zone.specs.Call.{Result, result, call, initialize}
-use Rattle.zone.specs.Promise.{Promise, InitPromise}
-use Rattle.zone.proofs.Works.{equal}
+use Rattle.calls.specs.Calls.{Target, Answer, size, read, view, sums, check, length-of, roster, shows}
+use Rattle.zone.specs.Call.{call}
+use Rattle.zone.specs.Promise.{Promise}
 use Rattle.stretch.proofs.Answers.{view-is}
 use Rattle.tell.proofs.Outcomes as Outcomes
 use Rattle.tell.proofs.Outcomes.{unchanged}
-
-pub promised : (c : Call) (s e : List ℕ) (a : Answer) → result a e ≡ call c s → Promise c s a e
-promised c s e a q = record { answer = equal (ap (λ (r : Result). r .answer) q); bytes = ap (λ (r : Result). r .bytes) q }
-
-pub init-promised : (n m : ℕ) (s e : List ℕ) (a : Answer) → result a e ≡ initialize n m s → InitPromise n m s a e
-init-promised n m s e a q = record { answer = ap (λ (r : Result). r .answer) q; bytes = ap (λ (r : Result). r .bytes) q }
-
--- ---- calls that leave the zone
 
 pub sum-promised : (s : List ℕ) (a : Answer) → Bytes s → a ≡ (call sums s) .answer → Promise sums s a s
 sum-promised s a y q = Outcomes.promised sums s a q (unchanged sums s y refl)
@@ -27,6 +18,9 @@ check-promised s a y q = Outcomes.promised check s a q (unchanged check s y refl
 
 pub length-promised : (s : List ℕ) (a : Answer) → Bytes s → a ≡ (call length-of s) .answer → Promise length-of s a s
 length-promised s a y q = Outcomes.promised length-of s a q (unchanged length-of s y refl)
+
+pub roster-promised : (s out : List ℕ) (a : Answer) → Bytes s → a ≡ (call (roster out) s) .answer → Promise (roster out) s a s
+roster-promised s out a y q = Outcomes.promised (roster out) s a q (unchanged (roster out) s y refl)
 
 module _ (t : Target) (s : List ℕ) where
   pub size-promised : (a : Answer) → Bytes s → a ≡ (call (size t) s) .answer → Promise (size t) s a s

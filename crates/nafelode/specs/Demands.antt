@@ -1,6 +1,6 @@
 -- THE CUSTOMER'S THREE DEMANDS, each as one statement about what the exported functions promise in their contracts (crates/nafelode/src):
 -- a function of a ledger's call promises `Promise`, initialize `InitPromise`, census and a walker's step equations to `census` and `walkStep`, a
--- view its place beside. There the numbers that a function returns are read as an answer by `told`, `toldTwo`, `shows` and `rosterAnswer`.
+-- view its place beside. There the numbers that a function returns are read as an answer by `told`, `toldTwo`, `shows` and `toldWith`.
 -- That each function returns, whatever it is given, and stays inside what it is lent, is proved with its contract, which requires nothing.
 use mathlib.Core.Path.{_≡_}
 use mathlib.Core.Bool.{true, false, cond}
@@ -17,7 +17,7 @@ use Rattle.zone.specs.Call.{inLine, zoneIn, numberOf, replacing}
 use Rattle.zone.specs.Census.{strata, counted, census}
 use Rattle.zone.specs.Walker.{Walked, walked, walkStep}
 use Rattle.zone.specs.View.{viewStart, viewLength}
-use Rattle.zone.specs.Promise.{Alike, Promise, InitPromise}
+use Rattle.zone.specs.Promise.{Promise, InitPromise}
 use Rattle.zone.specs.Claim.{TheList}
 
 -- ---- "1. If a call is given any buffer and any numbers, it returns and stays inside the buffer. It does its work or gives the one
@@ -39,7 +39,7 @@ pub record Demand1 : Type 0 where
 
 -- the work that the definitions lay down, on the zone in the bytes; and a zone stays a zone
 pub record Worked (c : Call) (entry : List ℕ) (a : Answer) (exit : List ℕ) : Type 0 where
-  pub answer : Alike a ((work c (zoneIn entry)) .answer)
+  pub answer : a ≡ (work c (zoneIn entry)) .answer
   pub bytes : exit ≡ replacing entry (decode entry) (inLine ((work c (zoneIn entry)) .next))
   pub zone : Bytes entry → Bytes (secondOf (beside c)) → wellFormed exit ≡ true
 
@@ -49,7 +49,7 @@ pub record Demand2 : Type 0 where
       → (a ≡ told 0 0) × (exit ≡ encode (inLine (fresh (length entry) n m)) ++ drop n entry) × (wellFormed exit ≡ true)
   -- yes or no, and the number of relocatable blocks; it changes nothing
   pub of-check : (entry : List ℕ) (a : Answer) (exit : List ℕ) → Bytes entry → Promise check entry a exit
-      → Alike a (toldTwo 0 (cond (wellFormed entry) 1 0) (countOf entry)) × (exit ≡ entry)
+      → (a ≡ toldTwo 0 (cond (wellFormed entry) 1 0) (countOf entry)) × (exit ≡ entry)
   -- what a view shows stands at its place in the zone
   pub of-view : (t : Target) (i n : ℕ) (entry : List ℕ) (a : Answer) (exit : List ℕ) → Bytes entry → Promise (view t i n) entry a exit
       → slice entry (viewStart t i n entry) (viewLength t i n entry) ≡ a .bytes

@@ -4,11 +4,10 @@ ghost use mathlib.Core.Path.{_≡_};
 ghost use mathlib.Core.Bool.{cond};
 ghost use Prim.Native.Nat.{_+_};
 ghost use lib.ListN.{length};
-ghost use Rattle.calls.specs.Calls.{allocate-relocatable, allocate-fixed, free-handle, free-pointer, resize, size, read, write, view, compact, sums, check, length-of, enlarge, shrink, roster, told, shows, toldTwo};
+ghost use Rattle.calls.specs.Calls.{allocate-relocatable, allocate-fixed, free-handle, free-pointer, resize, size, read, write, view, compact, sums, check, length-of, enlarge, shrink, roster, told, shows, toldTwo, toldWith};
 ghost use Rattle.zone.specs.Promise.{Promise, InitPromise};
 ghost use Rattle.access.specs.locate.Named.{targetOf};
 ghost use Rattle.zone.specs.View.{viewStart, viewLength};
-ghost use Rattle.zone.specs.Roster.{rosterAnswer};
 pub use access::locate::Target;
 pub use calls::Told;
 pub use inspect::census::Counts;
@@ -136,9 +135,9 @@ pub fn length(zone: &[u8]) -> Told
     tell::length(zone)
 }
 
-// Handle and data size of each live handle, 4 bytes each, to the start of out. Answers how many.
+// Handle and data size of each live handle, by rising handle, 4 bytes each, high byte first, to the start of out. Answers how many.
 pub fn roster(zone: &[u8], out: &mut [u8]) -> Told
-    ensures { λ r. ⌜ Promise (roster (now (out .entry))) (now (zone .entry)) (rosterAnswer (r .number) (r .value) (now (out .exit))) (now (zone .entry)) ⌝ }
+    ensures { λ r. ⌜ Promise (roster (now (out .entry))) (now (zone .entry)) (toldWith (r .number) (r .value) (now (out .exit))) (now (zone .entry)) ⌝ }
 {
     tell::roster::roster(zone, out)
 }

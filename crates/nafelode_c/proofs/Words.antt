@@ -18,7 +18,7 @@ use Rattle.structure.proofs.Sound.{valid}
 use Rattle.calls.specs.Bays.{Bays, sumS}
 use Rattle.calls.specs.State.{Fixed}
 use Rattle.calls.specs.Calls.{sums, check, toldTwo}
-use Rattle.zone.specs.Call.{call}
+use Rattle.zone.specs.Call.{Result, call}
 use Rattle.zone.specs.Promise.{Promise}
 use Rattle.zone.proofs.Places.{Tiled, tile-last, tile-more}
 use Rattle.zone.proofs.Run.{well-whole}
@@ -42,13 +42,13 @@ total-small s y = go (wellFormed s) refl
 module _ (s : List ℕ) (y : Bytes s) where
   module _ (n total largest : ℕ) (p : Promise sums s (toldTwo n total largest) s) where
     pub total-word : Fits w32 total
-    total-word = record { fits = omega (arith, p .answer .value, total-small s y) }
+    total-word = record { fits = omega (arith, ap (λ (r : Result). r .answer .value) p, total-small s y) }
 
     pub largest-word : Fits w32 largest
-    largest-word = record { fits = omega (arith, p .answer .second, largest-total s, total-small s y) }
+    largest-word = record { fits = omega (arith, ap (λ (r : Result). r .answer .second) p, largest-total s, total-small s y) }
 
   pub count-word : (b n : ℕ) → Promise check s (toldTwo 0 b n) s → Fits w32 n
-  count-word b n p = record { fits = omega (arith, p .answer .second, check-few s y) }
+  count-word b n p = record { fits = omega (arith, ap (λ (r : Result). r .answer .second) p, check-few s y) }
 
 -- ---- the walker
 

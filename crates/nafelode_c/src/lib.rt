@@ -5,14 +5,13 @@ ghost use mathlib.Core.Path.{_≡_};
 ghost use Prim.Native.Nat.{_+_, _≤_};
 ghost use lib.ListN.{length};
 ghost use Rattle.format.specs.WellFormed.{lengthField};
-ghost use Rattle.calls.specs.Calls.{told, shows, toldTwo, allocate-relocatable, allocate-fixed, free-handle, free-pointer, resize, size, read, write, view, compact, sums, check, length-of, enlarge, shrink, roster};
+ghost use Rattle.calls.specs.Calls.{told, shows, toldTwo, toldWith, allocate-relocatable, allocate-fixed, free-handle, free-pointer, resize, size, read, write, view, compact, sums, check, length-of, enlarge, shrink, roster};
 ghost use Rattle.bigendian.specs.BigEndian.{slice};
 ghost use Rattle.zone.specs.Promise.{Promise, InitPromise};
 ghost use Rattle.zone.specs.Census.{counted, census};
 ghost use Rattle.zone.specs.Walker.{walked, walkStart, walkStep};
 ghost use Rattle.access.specs.locate.Named.{targetOf};
 ghost use Rattle.zone.specs.View.{viewStart, viewLength};
-ghost use Rattle.zone.specs.Roster.{rosterAnswer};
 ghost use Rattle.nafelode_c.specs.Named.{named};
 use nafelode::Stretch;
 use nafelode::Target;
@@ -344,13 +343,13 @@ pub extern "C" fn nafelode_shrink(zone: &mut [u8], k: u32) -> Told
     }
 }
 
-// Writes 8 bytes for each live handle to the start of out: the handle and its data size, 4 bytes each, high byte first, in no
-// promised order; later bytes of out stay.
+// Writes 8 bytes for each live handle to the start of out, by rising handle: the handle and its data size, 4 bytes each; later bytes
+// of out stay.
 // Value: how many live handles there are.
 // Refused: 1 zone not well-formed, 10 out too short.
 #[no_mangle]
 pub extern "C" fn nafelode_roster(zone: &[u8], out: &mut [u8]) -> Told
-    ensures { λ r. ⌜ Promise (roster (now (out .entry))) (now (zone .entry)) (rosterAnswer (r .number) (r .value) (now (out .exit))) (now (zone .entry)) ⌝ }
+    ensures { λ r. ⌜ Promise (roster (now (out .entry))) (now (zone .entry)) (toldWith (r .number) (r .value) (now (out .exit))) (now (zone .entry)) ⌝ }
 {
     let t = nafelode::roster(zone, out);
     Told {

@@ -1,5 +1,5 @@
 -- What a call's promise says of a record's line.
-use mathlib.Core.Path.{_≡_, refl, ap, ap₂, _∙_}
+use mathlib.Core.Path.{_≡_, refl, ap, _∙_}
 use mathlib.Core.Bool.{Bool, true, false}
 use mathlib.Core.List.{List, [], _∷_}
 use Prim.Native.Nat.{ℕ, _+_, _%_, _≤_}
@@ -8,7 +8,8 @@ use borrow.Author.Tests.{eq-eqb, ne-eqb}
 use lib.ListN.{length, getD, List·getD-eq-default}
 use Rattle.bigendian.specs.BigEndian.{fromBE, slice}
 use Rattle.memory.specs.Zeros.{allZero}
-use Rattle.calls.specs.Calls.{Call, Answer, by-handle, read, write, told, shows, allocate-relocatable, allocate-fixed, free-handle, free-pointer, resize, compact, enlarge, shrink}
+use Rattle.calls.specs.Calls.{Call, by-handle, read, write, told, shows, allocate-relocatable, allocate-fixed, free-handle, free-pointer, resize, compact, enlarge, shrink}
+use Rattle.zone.specs.Call.{Result}
 use Rattle.zone.specs.Promise.{Promise, InitPromise}
 use Rattle.records.specs.Records.{Action, initialize, call, read-byte, nothing, actions, Line, skip, line, ran, act, withValue, withByte, actionOf, runRecord, recordLength, aAt, bAt, dAt}
 use Rattle.records.specs.Shown.{lineOf}
@@ -16,23 +17,23 @@ use Rattle.records.specs.Shown.{lineOf}
 -- a call that is promised tells its number and its value
 pub called : (c : Call) (s e : List ℕ) (n v : ℕ) → Promise c s (told n v) e → ran (line n v) e ≡ act (call c) s
 unfolding act withValue
-called c s e n v p = ap₂ ran (ap₂ line (p .answer .number) (p .answer .value)) (p .bytes)
+called c s e n v p = ap (λ (r : Result). ran (line (r .answer .number) (r .answer .value)) (r .bytes)) p
 
 pub initialized : (n m : ℕ) (s e : List ℕ) (k v : ℕ) → InitPromise n m s (told k v) e → ran (line k v) e ≡ act (initialize n m) s
 unfolding act withValue
-initialized n m s e k v p = ap₂ (λ (a : Answer) (b : List ℕ). ran (line (a .number) (a .value)) b) (p .answer) (p .bytes)
+initialized n m s e k v p = ap (λ (r : Result). ran (line (r .answer .number) (r .answer .value)) (r .bytes)) p
 
 pub wrote : (h i d n : ℕ) (s e : List ℕ) → Promise (write (by-handle h) i 1 (d ∷ [])) s (shows n (d ∷ [])) e
     → ran (lineOf false n 0) e ≡ act (call (write (by-handle h) i 1 (d ∷ []))) s
 unfolding act withValue
-wrote h i d n s e p = ap₂ ran (ap₂ line (p .answer .number) (p .answer .value)) (p .bytes)
+wrote h i d n s e p = ap (λ (r : Result). ran (line (r .answer .number) (r .answer .value)) (r .bytes)) p
 
 -- the byte that was read is the value
 pub peeked : (h i n v : ℕ) (s b : List ℕ) → Promise (read (by-handle h) i 1 (0 ∷ [])) s (shows n b) s → v ≡ getD b 0 0
     → ran (lineOf false n v) s ≡ act (read-byte h i) s
 unfolding act withByte
 peeked h i n v s b p q =
-    ap₂ (λ (l : Line) (t : List ℕ). ran l t) (ap₂ line (p .answer .number) (q ∙ ap (λ (x : List ℕ). getD x 0 0) (p .answer .bytes))) (p .bytes)
+    ap (λ (x : ℕ). ran (line n x) s) q ∙ ap (λ (r : Result). ran (line (r .answer .number) (getD (r .answer .bytes) 0 0)) (r .bytes)) p
 
 -- ---- each code's arm
 

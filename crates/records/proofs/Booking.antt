@@ -18,7 +18,6 @@ use Rattle.ledger.specs.Ledger.{Ledger}
 use Rattle.zone.specs.Work.{facts, fresh}
 use Rattle.zone.specs.Call as Zone
 use Rattle.zone.specs.Call.{inLine, zoneIn, result, callWith, initializeWith}
-use Rattle.zone.specs.Promise.{Alike}
 use Rattle.structure.specs.Structure.{encode}
 use Rattle.zone.proofs.Initial.{Accepted, accepted, fresh-stored}
 use Rattle.zone.proofs.Theorem.{Point, onward, first-point}
@@ -98,13 +97,13 @@ record Agrees (r : Ran) (b : Line × Option Ledger) : Type 0 where
 ill-call : (c : Call) → Plain c → Zone.call c (replicate bufferLength 0) ≡ result (refused c 1) (replicate bufferLength 0)
 ill-call c k = ap (λ (n : ℕ). callWith n c (replicate bufferLength 0)) (k .ill (facts (wellFormed (replicate bufferLength 0)) (zoneIn (replicate bufferLength 0))) no-zone)
 
--- v is the value that the line shows: 0 of a refused call, and the same of alike answers
-module _ (c : Call) (v : Answer → ℕ) (k : Plain c) (v-0 : v (refused c 1) ≡ 0) (v-same : (a b : Answer) → Alike a b → v a ≡ v b) where
+-- v is the value that the line shows: 0 of a refused call
+module _ (c : Call) (v : Answer → ℕ) (k : Plain c) (v-0 : v (refused c 1) ≡ 0) where
   call-agrees : {bs : List ℕ} {b : Option Ledger} → Kept bs b → Agrees (ran (line (Zone.call c bs .answer .number) (v (Zone.call c bs .answer))) (Zone.call c bs .bytes)) (bookCall c v b)
   call-agrees blank = rw (ill-call c k) (record { shown = ap₂ line (k .told) v-0; kept = blank })
   call-agrees {bs} (going e p) =
       let o = onward c (k .lent) p in
-      record { shown = ap₂ line (o .alike .number) (v-same _ _ (o .alike)); kept = going (o .long ∙ e) (o .point) }
+      record { shown = ap (λ (a : Answer). line (a .number) (v a)) (o .same); kept = going (o .long ∙ e) (o .point) }
 
 module _ (n m : ℕ) {bs : List ℕ} {b : Option Ledger} (k : Kept bs b) where
   -- by whether cause 2 holds
@@ -129,10 +128,9 @@ module _ (n m : ℕ) {bs : List ℕ} {b : Option Ledger} (k : Kept bs b) where
 act-agrees : {a : Action} → Asks a → {bs : List ℕ} {b : Option Ledger} → Kept bs b → Agrees (act a bs) (bookAct a b)
 unfolding act withValue withByte
 act-agrees (asks-initialize {n} {m}) k = init-agrees n m k
-act-agrees (asks-call c p) k = call-agrees c (λ (a : Answer). a .value) p refl (λ a b q. q .value) k
+act-agrees (asks-call c p) k = call-agrees c (λ (a : Answer). a .value) p refl k
 act-agrees (asks-byte {h} {i}) k =
-    call-agrees (read (by-handle h) i 1 (0 ∷ [])) (λ (a : Answer). getD (a .bytes) 0 0) (record { lent = one-lent 0 (omega arith); ill = λ f w. rw w; told = refl }) refl
-    (λ a b q. ap (λ (l : List ℕ). getD l 0 0) (q .bytes)) k
+    call-agrees (read (by-handle h) i 1 (0 ∷ [])) (λ (a : Answer). getD (a .bytes) 0 0) (record { lent = one-lent 0 (omega arith); ill = λ f w. rw w; told = refl }) refl k
 act-agrees asks-nothing k = record { shown = refl; kept = k }
 
 lines-agree : (rs : List (List ℕ)) {bs : List ℕ} {b : Option Ledger} → Kept bs b → printed rs bs ≡ bookLines rs b

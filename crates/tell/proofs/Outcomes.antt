@@ -1,5 +1,5 @@
 -- What the answers of sum, length and check say.
-use mathlib.Core.Path.{_≡_, refl, ap, sym, _∙_}
+use mathlib.Core.Path.{_≡_, refl, ap, ap₂, sym, _∙_}
 use mathlib.Core.Bool.{Bool, true, false, cond}
 use mathlib.Core.List.{List, [], _∷_}
 use Prim.Native.Nat.{ℕ, zero, suc, _+_, _%_, _≤_, max}
@@ -11,7 +11,7 @@ use Rattle.bigendian.specs.BigEndian.{Bytes}
 use Rattle.format.specs.WellFormed.{wellFormed}
 use Rattle.structure.specs.Structure.{decode, start}
 use Rattle.calls.specs.Bays.{Bays, last, more, sumS, maxS}
-use Rattle.zone.specs.Call.{zoneIn, inLine, numberOf, replacing, callWith, call}
+use Rattle.zone.specs.Call.{zoneIn, inLine, numberOf, replacing, callWith, result, call}
 use Rattle.calls.specs.State.{Fixed}
 use Rattle.zone.specs.Promise.{Promise}
 use Rattle.zone.proofs.Run.{same-bytes, well-whole, well-stored}
@@ -19,7 +19,6 @@ use Rattle.zone.specs.Claim.{freeIn}
 use Rattle.zone.proofs.MetBlocks.{sumsS, free-walk}
 use Rattle.zone.specs.Group.{group}
 use Rattle.zone.specs.Work.{Zone, work}
-use Rattle.zone.proofs.Works.{equal}
 use Rattle.bay.specs.Bay.{baySum}
 use Rattle.calls.specs.Calls.{Call, Answer, sums, length-of, check}
 use Rattle.access.proofs.Checked.{fields-of, length-is}
@@ -100,4 +99,4 @@ unchanged c s y e = go (numberOf c s) (wellFormed s) refl
 
 -- an answer that is the definition's, of a call that changes no byte, is what the call promises
 pub promised : (c : Call) (s : List ℕ) (a : Answer) → a ≡ (call c s) .answer → (call c s) .bytes ≡ s → Promise c s a s
-promised c s a e b = record { answer = equal e; bytes = sym b }
+promised c s a e b = ap₂ result e (sym b)

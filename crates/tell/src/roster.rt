@@ -6,8 +6,10 @@ ghost use lib.ListN.{length};
 ghost use Rattle.bigendian.specs.BigEndian.{toBE, overwrite};
 ghost use Rattle.block_type.specs.Limits.{argumentRange, recordSize};
 ghost use Rattle.access.specs.Edit.{placeIn, dataIn};
-ghost use Rattle.zone.specs.Roster.{cardBytes};
-ghost use Rattle.tell.specs.roster.Listed.{cardsOf, allCards, Entered, Planned, Rostered};
+ghost use Rattle.calls.specs.Calls.{roster, toldWith};
+ghost use Rattle.calls.specs.Roster.{cardBytes};
+ghost use Rattle.zone.specs.Call.{call};
+ghost use Rattle.tell.specs.roster.Listed.{liveCards, allCards, Entered, Planned};
 use calls::Told;
 ghost use Rattle.structure.specs.IsZone.{IsZone};
 
@@ -36,7 +38,7 @@ fn put_record(out: &mut [u8], at: usize, h: u32, n: u32)
 
 // The record of handle h goes to `at`, if h is live. Where the next record goes.
 fn enter(z: &[u8], out: &mut [u8], at: usize, h: usize) -> usize
-    requires { ⌜ (IsZone (now z)) × (h < argumentRange) × (at + recordSize * length (cardsOf (now z) (h ∷ [])) ≤ length (now out)) ⌝ }
+    requires { ⌜ (IsZone (now z)) × (h < argumentRange) × (at + recordSize * length (liveCards (now z) (h ∷ [])) ≤ length (now out)) ⌝ }
     ensures { λ r. ⌜ Entered (now (z .entry)) (now (out .entry)) at h (now (out .exit)) r ⌝ }
 {
     let e = entry_of(z, h);
@@ -97,9 +99,9 @@ fn prepare(zone: &[u8], have: usize) -> Plan
     }
 }
 
-// Handle and data size of each live handle, 4 bytes each, to the start of the second buffer.
+// Handle and data size of each live handle, 4 bytes each, high byte first, by rising handle, to the start of the second buffer.
 pub fn roster(zone: &[u8], out: &mut [u8]) -> Told
-    ensures { λ r. ⌜ Rostered (now (zone .entry)) (now (out .entry)) (r .number) (r .value) (now (out .exit)) ⌝ }
+    ensures { λ r. ⌜ toldWith (r .number) (r .value) (now (out .exit)) ≡ (call (roster (now (out .entry))) (now (zone .entry))) .answer ⌝ }
 {
     let p = prepare(zone, out.len());
     let number = p.number;

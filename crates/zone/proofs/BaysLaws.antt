@@ -2,9 +2,8 @@
 use mathlib.Core.Path.{_≡_, refl, ap₂, subst}
 use mathlib.Core.Bool.{Bool, true, false, cond, true≢false, false≢true}
 use mathlib.Core.Option.{Option, none, some}
-use mathlib.Core.List.{List, List·Permᴰ, List·Permᴰ·trans, Permᴰ·append-left, Permᴰ·append-right}
 use Prim.Native.Nat.{ℕ, _+_, max}
-use Rattle.calls.specs.Bays.{Bays, last, more, over, orElse, mapS, onFixed, onLast, concatS, sumS, maxS, lastS}
+use Rattle.calls.specs.Bays.{Bays, last, more, over, orElse, mapS, onFixed, onLast, sumS, maxS, lastS}
 use Rattle.zone.specs.PickBays.{onLow, onHigh, glue, onJoin}
 
 -- both absent, or both present and related
@@ -84,10 +83,6 @@ module _ {B C F G : Type 0} (R : B → C → Type 0) (Q : F → G → Type 0) wh
   pub sumS-like : (μ : B → ℕ) (ν : C → ℕ) → ((b : B) (c : C) → R b c → μ b ≡ ν c) → {s : Bays B F} {s′ : Bays C G} → Like s s′ → sumS μ s ≡ sumS ν s′
   sumS-like μ ν h (like-last r) = h _ _ r
   sumS-like μ ν h (like-more r e l) = ap₂ _+_ (h _ _ r) (sumS-like μ ν h l)
-
-  pub concatS-like : {X : Type 0} (f : B → List X) (g : C → List X) → ((b : B) (c : C) → R b c → List·Permᴰ (f b) (g c)) → {s : Bays B F} {s′ : Bays C G} → Like s s′ → List·Permᴰ (concatS f s) (concatS g s′)
-  concatS-like f g h (like-last r) = h _ _ r
-  concatS-like f g h (like-more {b = b} {c = c} {s = s} r e l) = List·Permᴰ·trans (Permᴰ·append-right (concatS f s) (h b c r)) (Permᴰ·append-left (g c) (concatS-like f g h l))
 
   pub maxS-like : (μ : B → ℕ) (ν : C → ℕ) → ((b : B) (c : C) → R b c → μ b ≡ ν c) → {s : Bays B F} {s′ : Bays C G} → Like s s′ → maxS μ s ≡ maxS ν s′
   maxS-like μ ν h (like-last r) = h _ _ r

@@ -16,7 +16,7 @@ use Rattle.kinds.proofs.KindLaws.{is-other, is-same}
 use Rattle.calls.specs.State.{alter, get, sized, alterFixed, Fixed, fsize, newItem, handlesFrom}
 use Rattle.bay.specs.Bay.{Cell, baySum, items, gap, joinBays, compactBay, takeHigh, release, edit, reshape, resized}
 use Rattle.bay.specs.Counted.{remove, count, live}
-use Rattle.bay.proofs.Each.{Each, nothing, just, each-cond, each-weaken, each-and, each-orElse}
+use Rattle.bay.proofs.Each.{Each, nothing, just, each-some, each-cond, each-weaken, each-and, each-orElse}
 use Rattle.bay.proofs.Perm.{perm-count}
 use Rattle.bay.proofs.Holes.{put-keeps}
 use Rattle.bay.proofs.Laws.{cut-less, tidy-items, items-weld, items-gap, release-items, edit-items}
@@ -56,7 +56,7 @@ occurs-once h k (suc n) = go (eqb h k) refl (occurs-once h (k + masterSize) n)
     go false e l = l
 
 -- counts after each change of a bay
-count-append : (h : ℕ) (a b : List Item) → count h (a ++ b) ≡ count h a + count h b
+pub count-append : (h : ℕ) (a b : List Item) → count h (a ++ b) ≡ count h a + count h b
 count-append h [] b = omega arith
 count-append h (e ∷ a) b = go (is h e) (count-append h a b)
   where
@@ -105,10 +105,7 @@ get-its h (e ∷ a) = each-cond (is h e) (λ q. just q) (get-its h a)
 
 each-all : {A : Type 0} {P : ℕ → A → Type 0} {o : Option A} → ((k : ℕ) → Each (P k) o) → Each (λ (a : A). (k : ℕ) → P k a) o
 each-all {o = none} f = nothing
-each-all {o = some a} f = just (λ k. one (f k))
-  where
-    one : {P : _ → Type 0} → Each P (some a) → P a
-    one (just p) = p
+each-all {o = some a} f = just (λ k. each-some (f k))
 
 cond-add : (t : Bool) (n : ℕ) → cond t (suc n) n ≡ cond t 1 0 + n
 cond-add true n = omega arith

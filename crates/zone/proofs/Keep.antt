@@ -15,15 +15,16 @@ use Rattle.structure.proofs.Round.{offset-le}
 use Rattle.structure.specs.Structure.{Block, fixed, sizes, count, start, len, handlesOf}
 use Rattle.structure.specs.Valid.{Tiled, Valid}
 use Rattle.structure.proofs.Append.{occurs-held}
-use Rattle.calls.specs.Bays.{Bays, last, more}
+use Rattle.calls.specs.Bays.{Bays, last, more, sumS}
 use Rattle.zone.specs.PickBays.{AllS}
 use Rattle.bay.specs.Counted as Counted
 use Rattle.bay.specs.Counted.{live}
 use Rattle.bay.specs.Bay.{Cell, free, held, baySize, items}
 use Rattle.bay.proofs.Sound as Sound
 use Rattle.bay.proofs.Sound.{Sound, s-nil, s-end, s-free, s-held}
-use Rattle.calls.specs.State.{Fixed, handlesFrom}
-use Rattle.kinds.specs.Kinds.{is}
+use Rattle.calls.specs.State.{Fixed, listed, handlesFrom}
+use Rattle.kinds.specs.Kinds.{is, mastersOf}
+use Rattle.bay.proofs.Perm.{listed-held}
 use Rattle.zone.proofs.Handles as Handles
 use Rattle.zone.proofs.Handles.{Owns, masters}
 use Rattle.zone.proofs.Places as Places
@@ -82,6 +83,17 @@ pub live-strip : (h : ℕ) (s : Bays (List Cell) Fixed) → occurs h (handlesOf 
 unfolding occurs handlesOf
 live-strip h (last b) = live-bay h b [] ∙ add-zero _
 live-strip h (more b x s) = live-bay h b (fixed (x .bytes) ∷ flatten s) ∙ ap (Counted.count h (items b) +_) (live-strip h s)
+
+many-bay : (cs : List Cell) (r : List Block) → length (handlesOf (flatBay cs r)) ≡ length (listed (items cs)) + length (handlesOf r)
+unfolding handlesOf
+many-bay [] r = omega arith
+many-bay (free n ∷ cs) r = many-bay cs r
+many-bay (held e ∷ cs) r = omega (arith, length-append (mastersOf e) (handlesOf (flatBay cs r)), listed-held e (items cs), many-bay cs r)
+
+pub many-strip : (s : Bays (List Cell) Fixed) → length (handlesOf (flatten s)) ≡ sumS (λ (b : List Cell). length (listed (items b))) s
+unfolding handlesOf
+many-strip (last b) = many-bay b [] ∙ add-zero _
+many-strip (more b x s) = many-bay b (fixed (x .bytes) ∷ flatten s) ∙ ap (length (listed (items b)) +_) (many-strip s)
 
 -- ---- as many handles as masters
 

@@ -24,6 +24,7 @@ pub mod Rig
 pub mod Numbers
 pub mod Fits
 pub mod Matches
+pub mod Rosters
 pub mod Works
 pub mod MetBlocks
 pub mod Theorem

@@ -2,13 +2,13 @@
 use mathlib.Core.Path.{_≡_, refl, ap, ap₂, sym}
 use mathlib.Core.Bool.{true, cond}
 use mathlib.Core.Option.{Option, Option·getD}
-use mathlib.Core.List.{List, List·Permᴰ}
+use mathlib.Core.List.{List}
 use Prim.Native.Nat.{ℕ, _≤_}
 use native.Mathlib.Omega.{arith}
 use lib.ListN.{length}
 use lib.Dec.{eqb}
 use Rattle.calls.specs.Calls.{Target, by-handle, by-pointer}
-use Rattle.calls.specs.Bays.{Bays, over, orElse, findS, findF, sumS, maxS, concatS}
+use Rattle.calls.specs.Bays.{Bays, over, orElse, findS, findF, sumS, maxS}
 use Rattle.kinds.specs.Kinds.{Item}
 use Rattle.calls.specs.State.{get, listed, Fixed, pointer, content, ownSum}
 use Rattle.ledger.specs.Ledger.{Bay, Ledger, entriesOf, sumOf}
@@ -18,8 +18,8 @@ use Rattle.bay.specs.Bay.{Cell, items, baySum}
 use Rattle.bay.specs.Counted.{count, live}
 use Rattle.zone.specs.Work as Work
 use Rattle.zone.specs.Work.{Zone}
-use Rattle.bay.proofs.Perm.{perm-length, perm-listed}
-use Rattle.zone.proofs.BaysLaws.{Like, like-last, like-more, maxS-like, sumS-like, concatS-like}
+use Rattle.bay.proofs.Perm.{perm-live}
+use Rattle.zone.proofs.BaysLaws.{Like, like-last, like-more, maxS-like, sumS-like}
 use Rattle.zone.proofs.Fits.{Fits, Equal, same-sum, same-get, same-count}
 
 abbrev pub Paired : Bays (List Cell) Fixed → Bays Bay Fixed → Type 0
@@ -53,10 +53,7 @@ module _ {s : Bays (List Cell) Fixed} {t : Bays Bay Fixed} (l : Paired s t) wher
   total-same = sumS-like Fits Equal baySum sumOf (λ b c r. same-sum r) l
 
   pub count-same : sumS (λ (b : List Cell). length (listed (items b))) s ≡ sumS (λ (c : Bay). length (listed (c .entries))) t
-  count-same = sumS-like Fits Equal (λ (b : List Cell). length (listed (items b))) (λ (c : Bay). length (listed (c .entries))) (λ b c r. perm-length (perm-listed (r .perm))) l
-
-  pub cards-same : List·Permᴰ (concatS (λ (b : List Cell). listed (items b)) s) (concatS (λ (c : Bay). listed (c .entries)) t)
-  cards-same = concatS-like Fits Equal (λ (b : List Cell). listed (items b)) (λ (c : Bay). listed (c .entries)) (λ b c r. perm-listed (r .perm)) l
+  count-same = sumS-like Fits Equal (λ (b : List Cell). length (listed (items b))) (λ (c : Bay). length (listed (c .entries))) (λ b c r. perm-live (r .perm)) l
 
   pub live-same : (h : ℕ) → liveIn h t ≡ live h s
   live-same h = sym (sumS-like Fits Equal (λ (b : List Cell). count h (items b)) (λ (c : Bay). _) (λ b c r. sym (same-count r h)) l)

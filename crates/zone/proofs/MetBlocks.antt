@@ -20,7 +20,7 @@ use Rattle.format.proofs.Live.{body-parts}
 use Rattle.structure.specs.Structure.{Structure, Block, fixed, size, byType, decodeBlock, decodeZone, decode, cell}
 use Rattle.structure.proofs.Round.{heads}
 use Rattle.structure.proofs.Decoded.{by, size-dec}
-use Rattle.calls.specs.Calls.{Card}
+use Rattle.calls.specs.Roster.{Card}
 use Rattle.ledger.specs.Space.{Spot, spot}
 use Rattle.calls.specs.Bays.{Bays, last, more, concatS}
 use Rattle.bay.specs.Bay.{Cell, free, held, items, baySize, baySum}

@@ -1,7 +1,7 @@
 -- The list theorem at one concrete list, and that its premise can be met: the definitions keep their own promises.
 use mathlib.Core.Path.{_≡_, refl}
 use mathlib.Core.Bool.{Bool, true, _&&_}
-use mathlib.Core.List.{List, [], _∷_, map, Permᴰ·refl}
+use mathlib.Core.List.{List, [], _∷_, map}
 use Prim.Native.Nat.{ℕ, zero, suc}
 use native.Mathlib.Omega.{arith}
 use lib.ListN.{take, drop, replicate}
@@ -17,12 +17,12 @@ use Rattle.ledger.specs.Ledger.{run, initial}
 use Rattle.zone.specs.Call.{call, initialize}
 use Rattle.zone.specs.RigSheet.{answersOf, bytesAfter}
 use Rattle.zone.specs.Promise.{Promise}
-use Rattle.zone.specs.Claim.{History, stop, then, AllAlike, Claim}
-use Rattle.zone.specs.ReelB.{calls, numbers, recipe}
+use Rattle.zone.specs.Claim.{History, stop, then, Claim}
+use Rattle.zone.specs.ReelB.{calls, numbers, recipe, listing}
 use Rattle.zone.proofs.Theorem.{the-list}
 
 promise-of : (c : Call) (bs : List ℕ) → Promise c bs ((call c bs) .answer) ((call c bs) .bytes)
-promise-of c bs = record { answer = record { number = refl; value = refl; second = refl; bytes = refl; records = Permᴰ·refl _ }; bytes = refl }
+promise-of c bs = refl
 
 -- any bytes, 104 of them
 abbrev before : List ℕ
@@ -53,13 +53,13 @@ history-of [] bs e = stop
 history-of (c ∷ cs) bs e = then (bytes-of (secondOf (beside c)) (and-left _ _ e)) (promise-of c bs) (history-of cs ((call c bs) .bytes) (and-right (below (secondOf (beside c))) _ e))
 
 reel-b-claim : Claim 104 96 4 fresh
-reel-b-claim = the-list before fresh 96 4 ((initialize 96 4 before) .answer) (record { answer = refl; bytes = refl }) refl
+reel-b-claim = the-list before fresh 96 4 ((initialize 96 4 before) .answer) refl refl
 
 reel-b-history : History fresh calls (answersOf calls fresh) (bytesAfter calls fresh)
 unfolding allBelow below
 reel-b-history = history-of calls fresh refl
 
-pub reel-b : AllAlike (answersOf calls fresh) (run calls (initial 104 96 4))
+pub reel-b : answersOf calls fresh ≡ run calls (initial 104 96 4)
 reel-b = reel-b-claim .answers calls (answersOf calls fresh) (bytesAfter calls fresh) reel-b-history
 
 pub ledger-numbers : map (λ (a : Answer). a .number) (run calls (initial 104 96 4)) ≡ numbers
@@ -68,6 +68,11 @@ ledger-numbers = refl
 -- the eleventh answer: the recipe has slid, and its handle gives its bytes
 pub recipe-stays : map (λ (a : Answer). a .bytes) (take 1 (drop 10 (run calls (initial 104 96 4)))) ≡ recipe ∷ []
 recipe-stays = refl
+
+-- the last answer: the roster
+pub roster-listed : map (λ (a : Answer). a .bytes) (drop 33 (run calls (initial 104 96 4))) ≡ listing ∷ []
+unfolding toBE
+roster-listed = refl
 
 -- in the bytes: the recipe's master before the profile grows, and after
 pub recipe-slides : (masterAt (bytesAfter (take 9 calls) fresh) 24 ≡ 56) × (masterAt (bytesAfter (take 10 calls) fresh) 24 ≡ 64)

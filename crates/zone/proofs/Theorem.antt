@@ -2,7 +2,7 @@
 use mathlib.Core.Path.{_≡_, refl, ap, ap₂, sym, _∙_, subst}
 use mathlib.Core.Bool.{true}
 use mathlib.Core.Option.{Option}
-use mathlib.Core.List.{List, [], _∷_, _++_, List·Permᴰ·trans, Permᴰ·refl}
+use mathlib.Core.List.{List, [], _∷_, _++_}
 use Prim.Native.Nat.{ℕ, zero, suc, _-_, _≤_}
 use native.Mathlib.Omega.{arith}
 use lib.ListN.{length, drop}
@@ -10,13 +10,13 @@ use lib.Dec.{eqb·suc-zero}
 use Rattle.bigendian.specs.BigEndian.{Bytes}
 use Rattle.block_type.specs.Limits.{firstBlock}
 use Rattle.structure.specs.Structure.{encode}
-use Rattle.calls.specs.Calls.{Call, Answer, beside, secondOf, refused}
+use Rattle.calls.specs.Calls.{Call, Answer, beside, secondOf}
 use Rattle.calls.specs.Bays.{Bays}
 use Rattle.calls.specs.State.{Fixed, fsize, Out}
 use Rattle.calls.specs.Table.{refusalOf, first, order, badInitialize}
 use Rattle.calls.proofs.Never.{never-one, told-one}
 use Rattle.ledger.specs.Ledger as Book
-use Rattle.ledger.specs.Ledger.{Ledger, Bay, run, ledgerAfter, initial, stepWith, step}
+use Rattle.ledger.specs.Ledger.{Ledger, Bay, run, ledgerAfter, initial, stepWith, step, byHandle}
 use Rattle.ledger.specs.Space.{Spot, spot, fixedSpots, baySums, Request, relocatable, fixed, resized, callOf}
 use Rattle.ledger.specs.Still.{Has, NotFreed, a-call}
 use Rattle.ledger.proofs.Space.{liveIn, space}
@@ -26,7 +26,7 @@ use Rattle.bay.specs.Counted.{live}
 use Rattle.zone.specs.Work as Work
 use Rattle.zone.specs.Work.{Zone, work, fresh}
 use Rattle.zone.specs.Call.{inLine, Result, call, initializeWith}
-use Rattle.zone.specs.Promise.{Alike, Promise}
+use Rattle.zone.specs.Promise.{Promise}
 use Rattle.bay.proofs.Each.{Each, nothing, just}
 use Rattle.zone.proofs.BaysLaws.{like-last, like-more}
 use Rattle.zone.proofs.Keep.{Whole}
@@ -35,9 +35,10 @@ use Rattle.zone.proofs.Run.{Stored, stored-well, stored-after, call-wor
 use Rattle.zone.proofs.InBuffer.{live-read, fixed-read, length-read}
 use Rattle.zone.proofs.Numbers.{work-number}
 use Rattle.zone.proofs.Initial.{Accepted, accepted, fresh-whole, fresh-stored}
-use Rattle.zone.specs.Claim.{History, stop, then, AllAlike, none-left, one-more, Never, never-nil, never-cons, Where, nowhere, here, Stands, Claim, TheList}
+use Rattle.zone.specs.Claim.{History, stop, then, Never, never-nil, never-cons, Where, nowhere, here, Stands, Claim, TheList}
 use Rattle.zone.proofs.Fits.{same-sum, fresh-fits}
-use Rattle.zone.proofs.Matches.{Paired, Matches, matches, facts-same, handle-same, fixed-same, cards-same, live-same}
+use Rattle.zone.proofs.Matches.{Paired, Matches, matches, facts-same, handle-same, fixed-same, live-same}
+use Rattle.zone.proofs.Rosters.{zone-sorted, roster-same}
 use Rattle.zone.proofs.Works.{work-same}
 use Rattle.zone.proofs.MetBlocks.{spotsS, sumsS, fixed-walk, free-walk, reloc-walk}
 
@@ -56,23 +57,11 @@ module _ {bs : List ℕ} {l : Ledger} (p : Point bs l) where
   number-same : (c : Call) → refusalOf c (Work.facts true (p .zone)) ≡ refusalOf c (Book.facts l)
   number-same c = ap (refusalOf c) (facts-same single (p .one))
 
-alike-trans : {a b c : Answer} → Alike a b → Alike b c → Alike a c
-alike-trans p q = record {
-  number = p .number ∙ q .number;
-  value = p .value ∙ q .value;
-  second = p .second ∙ q .second;
-  bytes = p .bytes ∙ q .bytes;
-  records = List·Permᴰ·trans (p .records) (q .records);
-}
-
-alike-same : (a : Answer) → Alike a a
-alike-same a = record { number = refl; value = refl; second = refl; bytes = refl; records = Permᴰ·refl (a .records) }
-
 -- ---- one call: from point to point
 
 pub record Onward (bs : List ℕ) (r : Result) (o : Out Bay) : Type 0 where
   pub long : length (r .bytes) ≡ length bs
-  pub alike : Alike (r .answer) (o .answer)
+  pub same : r .answer ≡ o .answer
   pub not-one : r .answer .number ≡ 1 → ⊥
   pub point : Point (r .bytes) (o .next)
 
@@ -81,12 +70,12 @@ onward {bs} {l} c y p = subst (λ (n : ℕ). Onward bs (call c bs) (stepWith n c
   where
     go : (n : ℕ) → refusalOf c (Work.facts true (p .zone)) ≡ n → Onward bs (call c bs) (stepWith n c l)
     go zero e =
-        let k = work-same c (single p) e (p .one) in
+        let k = work-same c (p .whole) e (p .one) in
         let u : Stored _ ((work c (p .zone)) .next) =
         stored-after bs (p .zone) ((work c (p .zone)) .next) (p .whole) (work-whole c (p .zone) y (p .whole) e) (work-buffer c (p .zone) y (p .whole) e) (p .stored) in
         rw (call-worked bs (p .zone) (p .whole) (p .stored) c e) (record {
           long = u .buffer ∙ work-buffer c (p .zone) y (p .whole) e ∙ sym (p .stored .buffer);
-          alike = k .answer;
+          same = k .answer;
           not-one = λ q. omega (arith, work-number c (p .zone));
           point = record {
             zone = (work c (p .zone)) .next;
@@ -98,7 +87,7 @@ onward {bs} {l} c y p = subst (λ (n : ℕ). Onward bs (call c bs) (stepWith n c
     go (suc n) e =
         rw (call-refused bs (p .zone) (p .whole) (p .stored) c n e, eqb·suc-zero n) (record {
           long = refl;
-          alike = alike-same (refused c (suc n));
+          same = refl;
           not-one = λ q. never-one c (Work.facts true (p .zone)) refl (e ∙ told-one (suc n) (beside c) q);
           point = p;
         })
@@ -123,7 +112,7 @@ stands {bs} p = go (p .whole) (p .stored) (p .one)
     go : {z : Zone} {k : Ledger} → Whole z → Stored bs z → Matches z k → Stands bs k
     go {z} {k} w s (matches m) = record {
       live = λ h. where-of (rw (← handle-same m (single-live z w) h) (live-read bs z w s h));
-      blocks = rw (reloc-walk bs z w s) (cards-same m);
+      blocks = ap byHandle (reloc-walk bs z w s) ∙ sym (zone-sorted z w) ∙ roster-same w (matches m);
       still = λ q. where-of (rw (← fixed-same q m) (fixed-read bs z w s q));
       places = fixed-walk bs z w s ∙ spots-same m;
       sums = free-walk bs z w s ∙ sums-same m;
@@ -135,23 +124,23 @@ stands {bs} p = go (p .whole) (p .stored) (p .one)
 -- ---- a list of calls
 
 -- the point after a call that kept its promise, and what it was told
-after : {bs mid : List ℕ} {l : Ledger} {c : Call} {a : Answer} → Bytes (secondOf (beside c)) → Promise c bs a mid → Point bs l → Point mid ((step c l) .next)
-after {c = c} y k p = rw (k .bytes) (onward c y p .point)
+after : {bs mid : List ℕ} {l : Ledger} (c : Call) {a : Answer} → Bytes (secondOf (beside c)) → Promise c bs a mid → Point bs l → Point mid ((step c l) .next)
+after {l = l} c y k p = subst (λ (b : List ℕ). Point b ((step c l) .next)) (sym (ap (λ (r : Result). r .bytes) k)) (onward c y p .point)
 
-told-as : {bs mid : List ℕ} {l : Ledger} {c : Call} {a : Answer} → Bytes (secondOf (beside c)) → Promise c bs a mid → Point bs l → Alike a ((step c l) .answer)
-told-as {c = c} y k p = alike-trans (k .answer) (onward c y p .alike)
+told-as : {bs mid : List ℕ} {l : Ledger} (c : Call) {a : Answer} → Bytes (secondOf (beside c)) → Promise c bs a mid → Point bs l → a ≡ (step c l) .answer
+told-as c y k p = ap (λ (r : Result). r .answer) k ∙ onward c y p .same
 
 reached : {bs end : List ℕ} {cs : List Call} {as′ : List Answer} (l : Ledger) → History bs cs as′ end → Point bs l → Point end (ledgerAfter cs l)
 reached l stop p = p
-reached l (then {c = c} y k h) p = reached ((step c l) .next) h (after y k p)
+reached l (then {c = c} y k h) p = reached ((step c l) .next) h (after c y k p)
 
-answered : {bs end : List ℕ} {cs : List Call} {as′ : List Answer} (l : Ledger) → History bs cs as′ end → Point bs l → AllAlike as′ (run cs l)
-answered l stop p = none-left
-answered l (then {c = c} y k h) p = one-more (told-as y k p) (answered ((step c l) .next) h (after y k p))
+answered : {bs end : List ℕ} {cs : List Call} {as′ : List Answer} (l : Ledger) → History bs cs as′ end → Point bs l → as′ ≡ run cs l
+answered l stop p = refl
+answered l (then {c = c} y k h) p = ap₂ _∷_ (told-as c y k p) (answered ((step c l) .next) h (after c y k p))
 
 never : {bs end : List ℕ} {cs : List Call} {as′ : List Answer} (l : Ledger) → History bs cs as′ end → Point bs l → Never 1 as′
 never l stop p = never-nil
-never l (then {c = c} y k h) p = never-cons (λ e. onward c y p .not-one (sym (k .answer .number) ∙ e)) (never ((step c l) .next) h (after y k p))
+never l (then {c = c} y k h) p = never-cons (λ e. onward c y p .not-one (sym (ap (λ (r : Result). r .answer .number) k) ∙ e)) (never ((step c l) .next) h (after c y k p))
 
 kept : {bs end : List ℕ} {cs : List Call} {as′ : List Answer} (l : Ledger) (x : Spot) → History bs cs as′ end → NotFreed x cs
     → Has x (fixedSpots (l .bays)) → Has x (fixedSpots (ledgerAfter cs l .bays))
@@ -182,7 +171,7 @@ claim {b₀} buf n m p =
           subst (Has x) (sym (stands b .places)) (kept (ledgerAfter cs l₀) x k f (subst (Has x) (stands a .places) i));
       space = λ cs u mid end q a h k e.
           let b : Point mid (ledgerAfter cs l₀) = reached l₀ h p in
-          told-as (request-lends q) k b .number ∙ space q (ledgerAfter cs l₀) (once-live b) e;
+          ap (λ (x : Answer). x .number) (told-as (callOf q) (request-lends q) k b) ∙ space q (ledgerAfter cs l₀) (once-live b) e;
     }
 
 -- ---- from initialization on
@@ -196,7 +185,7 @@ first-point bs n m a = record {
 }
 
 pub the-list : TheList
-the-list bs b₀ n m a i d = go (first order (badInitialize (length bs) n m ∷ [])) refl (sym (ap (λ (x : Answer). x .number) (i .answer)) ∙ d) (i .bytes)
+the-list bs b₀ n m a i d = go (first order (badInitialize (length bs) n m ∷ [])) refl (sym (ap (λ (r : Result). r .answer .number) i) ∙ d) (ap (λ (r : Result). r .bytes) i)
   where
     go : (k : ℕ) → first order (badInitialize (length bs) n m ∷ []) ≡ k → (initializeWith k n m bs) .answer .number ≡ 0 → b₀ ≡ (initializeWith k n m bs) .bytes → Claim (length bs) n m b₀
     go zero e d q = claim (length bs) n m (rw q (first-point bs n m (accepted (length bs) n m e)))

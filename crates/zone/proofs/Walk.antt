@@ -24,7 +24,7 @@ use Rattle.bay.specs.Counted.{live}
 use Rattle.zone.specs.Work as Work
 use Rattle.zone.specs.Work.{Zone, facts, work, freePointer, rewrite}
 use Rattle.zone.specs.Search.{lookup, placeLow, placeHigh, joinAt, resizeIn}
-use Rattle.bay.proofs.Each.{Each, nothing, just}
+use Rattle.bay.proofs.Each.{Each, nothing, just, each-some}
 use Rattle.bay.proofs.Sound.{Block}
 use Rattle.zone.proofs.Once.{Named, unnamed, named}
 use Rattle.zone.proofs.Found.{Found, lost, got, low-found, high-found, join-found, resize-found, block-named}
@@ -64,9 +64,6 @@ pub record Closed (P : Zone → Type 0) : Type 0 where
 pub each-got : {A : Type 0} {Q : A → Type 0} {a : A} {t : Bool} {o : Option A} → Found a t o → t ≡ false → Each Q o → Q a
 each-got lost e q = absurd (true≢false e)
 each-got got e (just q) = q
-
-one : {A : Type 0} {Q : A → Type 0} {a : A} → Each Q (some a) → Q a
-one (just q) = q
 
 there : {A : Type 0} (f : A → List ℕ) (o : Option A) → isNone (over length (over f o)) ≡ false → isNone o ≡ false
 there f none e = e
@@ -124,7 +121,7 @@ module _ (P : Zone → Type 0) (k : Closed P) (z : Zone) (g : P z) where
           → Each (λ (e : Item). up4 c ≤ relocLimit → Each (λ (b : Bays (List Cell) Fixed). P (withBays b z)) (resizeIn h (up4 c) e (z .bays))) o
           → P (withBays (Work.resizeIn h (up4 c) (Option·getD (over (λ (e : Item). e .bytes) o) []) (z .bays)) z)
       go none q unnamed e m r = absurd (true≢false e)
-      go (some i) q (named {d = d}) e m r = each-got {Q = λ (b : Bays (List Cell) Fixed). P (withBays b z)} (resize-found h (up4 c) d (z .bays) n q) m (one r lim)
+      go (some i) q (named {d = d}) e m r = each-got {Q = λ (b : Bays (List Cell) Fixed). P (withBays b z)} (resize-found h (up4 c) d (z .bays) n q) m (each-some r lim)
 
   rewritten : (t : Target) (f : List ℕ → List ℕ) → Feeds f → P (withBays (rewrite t f (z .bays)) z)
   rewritten (by-handle h) f y = k .edit z h f y g

@@ -1,16 +1,17 @@
--- A call that nothing refuses does the same work on a zone and on the ledger that is one with it: alike answers, and again one.
+-- A call that nothing refuses does the same work on a zone and on the ledger that is one with it: the same answer, and again one.
 use mathlib.Core.Path.{_≡_, refl, ap, ap₂, _∙_}
 use mathlib.Core.Bool.{Bool, true, false, cond, _&&_, not, true≢false}
 use mathlib.Core.Option.{Option, none, some, Option·getD}
-use mathlib.Core.List.{List, [], _++_, map, Permᴰ·refl, _∷_}
+use mathlib.Core.List.{List, [], _++_, map, _∷_}
 use Prim.Native.Nat.{ℕ, zero, suc, _+_, _-_, _*_, _/_, _%_, _≤_, min}
 use native.Mathlib.Omega.{arith}
 use lib.ListN.{length, take, drop, length-replicate}
 use lib.Seq.{sets, length-sets}
 use lib.Dec.{leb, eqb, eqb·suc-zero}
 use borrow.Author.Tests.{leb-true, eqb-true}
-use Rattle.block_type.specs.Limits.{relocHeader, up4, relocNeed, fixedNeed, recordSize, longestZone}
+use Rattle.block_type.specs.Limits.{relocHeader, up4, relocNeed, fixedNeed, longestZone}
 use Rattle.calls.specs.Calls.{Target, by-handle, by-pointer, Call, allocate-relocatable, allocate-fixed, free-handle, free-pointer, read, write, size, compact, sums, enlarge, shrink, view, roster, check, length-of, resize, Answer, told, toldTwo, shows}
+use Rattle.calls.specs.Roster.{Card, rostered}
 use Rattle.calls.specs.Bays.{Bays, last, more, over, orElse, onLowest, mapS, onLast, findS, findF, lastS, maxS}
 use Rattle.kinds.specs.Kinds.{Item, itemSize, item}
 use Rattle.calls.specs.State.{get, newItem, sized, alter, Fixed, fsize, pointer, newFixed, alterFixed, Out, dataOf, ownSum, top}
@@ -23,7 +24,6 @@ use Rattle.bay.specs.Counted.{count, live, roomFor}
 use Rattle.zone.specs.Search.{own}
 use Rattle.zone.specs.Work as Work
 use Rattle.zone.specs.Work.{Zone, has}
-use Rattle.zone.specs.Promise.{Alike}
 use Rattle.zone.proofs.Walk.{or-parts, shown}
 use Rattle.zone.proofs.BaysLaws.{Both, present, like-last, like-more, onLow-like, onHigh-like, onJoin-like, mapS-like, onFixed-like, onLast-like, lastS-like}
 use Rattle.bay.proofs.Sound.{Block, sum-by4}
@@ -31,8 +31,11 @@ use Rattle.zone.proofs.Places.{alter-fsize}
 use Rattle.bay.proofs.Resize.{length-sized, resized-block}
 use Rattle.zone.proofs.Solid.{new-block, new-sized}
 use Rattle.zone.proofs.Found.{Found, lost, got, low-found, high-found, join-found, block-named}
+use Rattle.zone.proofs.Keep.{Whole}
+use Rattle.zone.proofs.Grouped.{single-live}
+use Rattle.zone.proofs.Rosters.{roster-same}
 use Rattle.zone.proofs.Fits.{Fits, Equal, same-sum, put-fits, release-fits, edit-fits, reshape-fits, absent-fits, high-fits, compact-fits, grow-fits, fresh-fits, join-fits}
-use Rattle.zone.proofs.Matches.{Paired, Matches, matches, largest-same, total-same, count-same, cards-same, content-same, own-sum-same}
+use Rattle.zone.proofs.Matches.{Paired, Matches, matches, largest-same, total-same, count-same, content-same, own-sum-same}
 use Rattle.zone.proofs.ResizeMissing.{max-same}
 use Rattle.zone.proofs.Once.{Named, unnamed, named, often, count-get}
 
@@ -127,22 +130,13 @@ resize-same h a d q {s} {t} l o g m = rw (← own-sum-same l o h) (go (leb (a - 
 -- ---- the calls
 
 pub record Same (o : Out (List Cell)) (p : Out Bay) : Type 0 where
-  pub answer : Alike (o .answer) (p .answer)
+  pub answer : o .answer ≡ p .answer
   pub next : Matches (o .next) (p .next)
-
-pub equal : {a b : Answer} → a ≡ b → Alike a b
-equal e = record {
-  number = ap (λ (x : Answer). x .number) e;
-  value = ap (λ (x : Answer). x .value) e;
-  second = ap (λ (x : Answer). x .second) e;
-  bytes = ap (λ (x : Answer). x .bytes) e;
-  records = rw (← e) (Permᴰ·refl _);
-}
 
 -- the answer is the same, and the bays are paired
 told-same : {a b : Answer} {buf n : ℕ} {hs : List ℕ} {u : Bays (List Cell) Fixed} {v : Bays Bay Fixed} → a ≡ b → Paired u v
     → Same (record { answer = a; next = record { buf = buf; len = n; chain = hs; bays = u } }) (record { answer = b; next = record { buf = buf; len = n; chain = hs; bays = v } })
-told-same e p = record { answer = equal e; next = matches p }
+told-same e p = record { answer = e; next = matches p }
 
 module _ (buf len : ℕ) (chain : List ℕ) {s : Bays (List Cell) Fixed} {t : Bays Bay Fixed} (l : Paired s t) (o : (h : ℕ) → live h s ≤ 1) where
   abbrev z : Zone
@@ -172,7 +166,7 @@ module _ (buf len : ℕ) (chain : List ℕ) {s : Bays (List Cell) Fixed} {t : Ba
       go (some i) g (named {d = d}) e m = resize-same h (up4 c) d (omega arith) l o g m
 
   strip-same : (n : ℕ) → n % 4 ≡ 0 → n ≤ baySum (lastS s) → Same (Work.strip n z) (Book.strip n k)
-  strip-same zero q m = record { answer = equal refl; next = rw (none-off, last-same t) (matches l) }
+  strip-same zero q m = record { answer = refl; next = rw (none-off, last-same t) (matches l) }
     where
       none-off : len - 0 ≡ len
       none-off = omega arith
@@ -187,33 +181,25 @@ abbrev passed : (c : Call) (z : Zone) → refusalOf c (Work.facts true z) ≡ 0 
 passed c z e n m = clear (causes c (Work.facts true z)) n m e
 
 -- EVERY CALL that nothing refuses
-pub work-same : (c : Call) {z : Zone} {k : Ledger} → ((h : ℕ) → live h (z .bays) ≤ 1) → refusalOf c (Work.facts true z) ≡ 0 → Matches z k → Same (Work.work c z) (Book.work c k)
-work-same (allocate-relocatable c) {z} o e (matches {buf = x} {len = y} {chain = w} l) = allocate-same x y w l o c (or-left _ _ (passed (allocate-relocatable c) z e 5 refl))
-work-same (allocate-fixed c) {z} o e (matches {buf = x} {len = y} {chain = w} l) = fixed-same′ x y w l o c (or-left _ _ (passed (allocate-fixed c) z e 5 refl))
-work-same (free-handle h) o e (matches {buf = x} {len = y} {chain = w} l) = told-same refl (release-same l h)
-work-same (free-pointer p) {z} o e (matches {buf = x} {len = y} {chain = w} l) = told-same refl (join-same l p (shown (λ (x : Fixed). x .bytes) (findF (λ (x : Fixed). eqb p (pointer x)) (z .bays)) (or-left _ _ (passed (free-pointer p) z e 7 refl))))
-work-same (resize h c) {z} o e (matches {buf = x} {len = y} {chain = w} l) = resized-same x y w l o h c (or-left _ _ (passed (resize h c) z e 6 refl)) (or-left _ _ (passed (resize h c) z e 5 refl))
-work-same (size t) o e (matches {buf = x} {len = y} {chain = w} l) = told-same (ap (λ (d : List ℕ). told 0 (length d)) (data-same x y w l o t)) l
-work-same (read t i n second) o e (matches {buf = x} {len = y} {chain = w} l) = told-same (ap (λ (d : List ℕ). shows 0 (take n (drop i d) ++ drop n second)) (data-same x y w l o t)) l
-work-same (write t i n second) o e (matches {buf = x} {len = y} {chain = w} l) = told-same refl (rewrite-same l t (λ (w : List ℕ). sets w i (take n second)) (λ w. length-sets w i (take n second)))
-work-same (view t i n) o e (matches {buf = x} {len = y} {chain = w} l) = told-same (ap (λ (d : List ℕ). shows 0 (take n (drop i d))) (data-same x y w l o t)) l
-work-same compact o e (matches {buf = x} {len = y} {chain = w} l) = told-same (ap (told 0) (largest-same l)) (compacted l)
-work-same sums o e (matches {buf = x} {len = y} {chain = w} l) = told-same (ap₂ (toldTwo 0) (total-same l) (largest-same l)) l
-work-same check o e (matches {buf = x} {len = y} {chain = w} l) = told-same (ap (toldTwo 0 1) (count-same l)) l
-work-same length-of o e (matches {buf = x} {len = y} {chain = w} l) = told-same refl l
-work-same (enlarge k) {z} o e (matches {buf = x} {len = y} {chain = w} l) =
+pub work-same : (c : Call) {z : Zone} {k : Ledger} → Whole z → refusalOf c (Work.facts true z) ≡ 0 → Matches z k → Same (Work.work c z) (Book.work c k)
+work-same (allocate-relocatable c) {z} i e (matches {buf = x} {len = y} {chain = w} l) = allocate-same x y w l (single-live _ i) c (or-left _ _ (passed (allocate-relocatable c) z e 5 refl))
+work-same (allocate-fixed c) {z} i e (matches {buf = x} {len = y} {chain = w} l) = fixed-same′ x y w l (single-live _ i) c (or-left _ _ (passed (allocate-fixed c) z e 5 refl))
+work-same (free-handle h) i e (matches {buf = x} {len = y} {chain = w} l) = told-same refl (release-same l h)
+work-same (free-pointer p) {z} i e (matches {buf = x} {len = y} {chain = w} l) = told-same refl (join-same l p (shown (λ (x : Fixed). x .bytes) (findF (λ (x : Fixed). eqb p (pointer x)) (z .bays)) (or-left _ _ (passed (free-pointer p) z e 7 refl))))
+work-same (resize h c) {z} i e (matches {buf = x} {len = y} {chain = w} l) = resized-same x y w l (single-live _ i) h c (or-left _ _ (passed (resize h c) z e 6 refl)) (or-left _ _ (passed (resize h c) z e 5 refl))
+work-same (size t) i e (matches {buf = x} {len = y} {chain = w} l) = told-same (ap (λ (d : List ℕ). told 0 (length d)) (data-same x y w l (single-live _ i) t)) l
+work-same (read t j n second) i e (matches {buf = x} {len = y} {chain = w} l) = told-same (ap (λ (d : List ℕ). shows 0 (take n (drop j d) ++ drop n second)) (data-same x y w l (single-live _ i) t)) l
+work-same (write t j n second) i e (matches {buf = x} {len = y} {chain = w} l) = told-same refl (rewrite-same l t (λ (w : List ℕ). sets w j (take n second)) (λ w. length-sets w j (take n second)))
+work-same (view t j n) i e (matches {buf = x} {len = y} {chain = w} l) = told-same (ap (λ (d : List ℕ). shows 0 (take n (drop j d))) (data-same x y w l (single-live _ i) t)) l
+work-same compact i e (matches {buf = x} {len = y} {chain = w} l) = told-same (ap (told 0) (largest-same l)) (compacted l)
+work-same sums i e (matches {buf = x} {len = y} {chain = w} l) = told-same (ap₂ (toldTwo 0) (total-same l) (largest-same l)) l
+work-same check i e (matches {buf = x} {len = y} {chain = w} l) = told-same (ap (toldTwo 0 1) (count-same l)) l
+work-same length-of i e (matches {buf = x} {len = y} {chain = w} l) = told-same refl l
+work-same (enlarge k) {z} i e (matches {buf = x} {len = y} {chain = w} l) =
     let q = or-parts (eqb (k % 4) 0) (leb (z .len + k) (z .buf)) (leb (z .len + k) longestZone) (or-left _ _ (passed (enlarge k) z e 9 refl)) in
     told-same refl (onLast-like Fits Equal _ _ l (grow-fits (lastS-like Fits Equal l) k (eqb-true (k % 4) 0 (q .0))))
-work-same (shrink j) o e (matches {buf = x} {len = y} {chain = w} {s = s} l) =
+work-same (shrink j) i e (matches {buf = x} {len = y} {chain = w} {s = s} l) =
     let r = lastS-like Fits Equal l in
-    rw (← same-sum r) (strip-same x y w l o (min (j / 4 * 4) (baySum (lastS s))) (omega (arith, sum-by4 (r .sound))) (omega arith))
-work-same (roster second) o e (matches {buf = x} {len = y} {chain = w} l) = record {
-  answer = record {
-    number = refl;
-    value = count-same l;
-    second = refl;
-    bytes = ap (λ (n : ℕ). drop (recordSize * n) second) (count-same l);
-    records = cards-same l;
-  };
-  next = matches l;
-}
+    rw (← same-sum r) (strip-same x y w l (single-live _ i) (min (j / 4 * 4) (baySum (lastS s))) (omega (arith, sum-by4 (r .sound))) (omega arith))
+work-same (roster second) i e (matches {buf = x} {len = y} {chain = v} {s = s} {t = t} l) =
+    told-same (ap (λ (cs : List Card). rostered cs second) (roster-same i (matches {buf = x} {len = y} {chain = v} {s = s} {t = t} l))) l

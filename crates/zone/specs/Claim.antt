@@ -2,7 +2,7 @@
 -- ledger does, and the zone holds what the ledger holds.
 use mathlib.Core.Path.{_≡_}
 use mathlib.Core.Bool.{true, cond}
-use mathlib.Core.List.{List, [], _∷_, List·Permᴰ}
+use mathlib.Core.List.{List, [], _∷_}
 use mathlib.Core.Option.{Option, none, some}
 use Prim.Native.Nat.{ℕ, _+_, _-_}
 use lib.ListN.{length, drop}
@@ -10,14 +10,15 @@ use lib.Dec.{eqb}
 use Rattle.bigendian.specs.BigEndian.{Bytes, slice}
 use Rattle.block_type.specs.Limits.{freeCode, fixedCode, relocCode, relocHeader}
 use Rattle.format.specs.WellFormed.{lengthField, firstField, typeOf, sizeOf, handleOf, splitBlocks, masterAt, zoneOf, wellFormed}
-use Rattle.calls.specs.Calls.{Call, Card, Answer, beside, secondOf}
+use Rattle.calls.specs.Calls.{Call, Answer, beside, secondOf}
+use Rattle.calls.specs.Roster.{Card}
 use Rattle.calls.specs.Bays.{findS, findF}
 use Rattle.kinds.specs.Kinds.{Item}
 use Rattle.calls.specs.State.{get, Fixed, pointer}
-use Rattle.ledger.specs.Ledger.{Ledger, Bay, cards, run, ledgerAfter, initial}
+use Rattle.ledger.specs.Ledger.{Ledger, Bay, byHandle, cards, run, ledgerAfter, initial}
 use Rattle.ledger.specs.Still.{Has, NotFreed}
 use Rattle.ledger.specs.Space.{Spot, spot, fixedSpots, baySums, Request, callOf, earlier, fits}
-use Rattle.zone.specs.Promise.{Alike, Promise, InitPromise}
+use Rattle.zone.specs.Promise.{Promise, InitPromise}
 
 -- ---- the list
 
@@ -30,10 +31,6 @@ pub data History : List ℕ → List Call → List Answer → List ℕ → Type 
       → Bytes (secondOf (beside c)) → Promise c bs a mid → History mid cs as′ end → History bs (c ∷ cs) (a ∷ as′) end
 
 -- ---- the answers
-
-pub data AllAlike : List Answer → List Answer → Type 0 where
-  none-left : AllAlike [] []
-  one-more : {a b : Answer} {u v : List Answer} → Alike a b → AllAlike u v → AllAlike (a ∷ u) (b ∷ v)
 
 -- no answer has the refusal number n
 pub data Never (n : ℕ) : List Answer → Type 0 where
@@ -82,8 +79,8 @@ pub data Where {A : Type 0} (P : A → Type 0) : Option A → Type 0 where
 pub record Stands (bs : List ℕ) (l : Ledger) : Type 0 where
   -- "each live handle's from the offset in its master"
   pub live : (h : ℕ) → Where (λ (e : Item). slice bs (masterAt bs h) (length (e .bytes)) ≡ e .bytes) (findS (λ (b : Bay). get h (b .entries)) (l .bays))
-  -- a walk meets the ledger's live handles with their data sizes, each once, and no other relocatable block
-  pub blocks : List·Permᴰ (relocIn bs) (cards l)
+  -- a walk meets the ledger's live handles with their data sizes, each once, and no other relocatable block (both by rising handle)
+  pub blocks : byHandle (relocIn bs) ≡ cards l
   -- "each fixed block's from its pointer"
   pub still : (p : ℕ) → Where (λ (x : Fixed). slice bs p (length (x .bytes)) ≡ x .bytes) (findF (λ (x : Fixed). eqb p (pointer x)) (l .bays))
   -- it meets a fixed block of the ledger's size at each place where the ledger has one, and no other fixed block
@@ -98,8 +95,8 @@ pub record Stands (bs : List ℕ) (l : Ledger) : Type 0 where
 
 -- of a buffer of length buf, initialized with (n, m) to b₀: for every list p of calls from there, with its answers u, to the buffer mid
 pub record Claim (buf n m : ℕ) (b₀ : List ℕ) : Type 0 where
-  -- "every answer is that of document 01's ledger"
-  pub answers : (p : List Call) (u : List Answer) (mid : List ℕ) → History b₀ p u mid → AllAlike u (run p (initial buf n m))
+  -- "every answer is that of document 01's ledger"; "The ledger's comparison of rosters becomes one of lists, byte by byte" (document 02, U1)
+  pub answers : (p : List Call) (u : List Answer) (mid : List ℕ) → History b₀ p u mid → u ≡ run p (initial buf n m)
   -- "1 never comes"
   pub never-1 : (p : List Call) (u : List Answer) (mid : List ℕ) → History b₀ p u mid → Never 1 u
   -- "After the list the ledger's bytes stand in the zone"

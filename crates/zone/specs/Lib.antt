@@ -2,10 +2,10 @@ pub mod Work
 pub mod Group
 pub mod Call
 pub mod View
-pub mod Roster
 pub mod Census
 pub mod Walker
 pub mod Promise
+pub mod RosterSays
 pub mod Hardware
 pub mod Claim
 pub mod RigSheet

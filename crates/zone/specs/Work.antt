@@ -1,16 +1,18 @@
 -- Document 01, 'Bays and the calls': the work of each call that nothing refuses. (A refused call does nothing: `call` says so. What these
 -- functions give of it is a value that nobody asks for.)
 use mathlib.Core.Bool.{Bool, cond, not}
+use mathlib.Core.Option.{Option, none, some}
 use mathlib.Core.List.{List, [], _∷_, _++_}
 use Prim.Native.Nat.{ℕ, _+_, _-_, _*_, _/_, min}
 use lib.ListN.{length, take, drop}
 use lib.Seq.{sets}
 use lib.Dec.{leb, eqb}
-use Rattle.block_type.specs.Limits.{up4, fixedNeed, zoneHeader, firstBlock, recordSize}
-use Rattle.calls.specs.Calls.{Target, by-handle, by-pointer, Call, allocate-relocatable, allocate-fixed, free-handle, free-pointer, resize, size, read, write, view, compact, sums, check, length-of, enlarge, shrink, roster, Card, toldTwo, shows, lists}
-use Rattle.calls.specs.Bays.{Bays, last, onLowest, mapS, onFixed, onLast, concatS, sumS, maxS, lastS}
+use Rattle.block_type.specs.Limits.{up4, fixedNeed, zoneHeader, firstBlock}
+use Rattle.calls.specs.Calls.{Target, by-handle, by-pointer, Call, allocate-relocatable, allocate-fixed, free-handle, free-pointer, resize, size, read, write, view, compact, sums, check, length-of, enlarge, shrink, roster, toldTwo, shows}
+use Rattle.calls.specs.Roster.{Card, rostered}
+use Rattle.calls.specs.Bays.{Bays, last, onLowest, mapS, onFixed, onLast, findS, sumS, maxS, lastS}
 use Rattle.kinds.specs.Kinds.{Item, item, itemSize}
-use Rattle.calls.specs.State.{get, newItem, sized, listed, handlesFrom, Fixed, pointer, alterFixed, State, Out, says, done, withBays, cutHigh, joinAt, dataOf, ownSum, liveCount, top, rest}
+use Rattle.calls.specs.State.{get, newItem, sized, card, handlesFrom, Fixed, pointer, alterFixed, State, Out, says, done, withBays, cutHigh, joinAt, dataOf, ownSum, liveCount, top, rest}
 use Rattle.calls.specs.Table.{Facts, factsOf, isNone}
 use Rattle.bay.specs.Bay.{Cell, baySum, items, gap, joinBays, compactBay, put, takeHigh, release, edit, reshape}
 
@@ -21,9 +23,6 @@ Zone = State (List Cell)
 -- what the table asks of it
 abbrev pub facts : Bool → Zone → Facts
 facts well z = factsOf items baySum well z
-
-abbrev pub cards : Zone → List Card
-cards z = concatS (λ (b : List Cell). listed (items b)) (z .bays)
 
 -- ---- allocate, free, resize
 
@@ -80,6 +79,25 @@ strip n z =
     (done 0 z)
     (done n (record { buf = z .buf; len = z .len - n; chain = z .chain; bays = onLast (takeHigh n) (z .bays) }))
 
+-- ---- roster: "Each once"; "Roster records come by rising handle" (document 02, U1): through the masters, a record for each that has a block
+
+-- m: "relocatable blocks plus chain length"
+abbrev pub masterCount : Zone → ℕ
+masterCount z = liveCount items z + length (z .chain)
+
+-- the record of the handle h, where it has a block
+abbrev pub cardIf : ℕ → Option Item → List Card
+cardIf h none = []
+cardIf h (some e) = card e h ∷ []
+
+-- of each of the handles; f finds a handle's block
+abbrev pub cardsOf : (ℕ → Option Item) → List ℕ → List Card
+cardsOf f [] = []
+cardsOf f (h ∷ hs) = cardIf h (f h) ++ cardsOf f hs
+
+abbrev pub cards : Zone → List Card
+cards z = cardsOf (λ h. findS (λ (b : List Cell). get h (items b)) (z .bays)) (handlesFrom zoneHeader (masterCount z))
+
 -- ---- THE WORK OF EACH CALL
 
 abbrev pub work : Call → Zone → Out (List Cell)
@@ -107,8 +125,7 @@ work length-of z = done (z .len) z
 work (enlarge k) z = enlargeBy k z
 -- "strips s, the lesser of k rounded down to a multiple of 4 and the last bay's sum"
 work (shrink k) z = strip (min (k / 4 * 4) (baySum (lastS (z .bays)))) z
--- "8 bytes a live handle", "answers how many", "Later bytes stay"
-work (roster second) z = says (lists (liveCount items z) (cards z) (drop (recordSize * liveCount items z) second)) z
+work (roster second) z = says (rostered (cards z) second) z
 
 -- initialize: "chain ascending; one free block, or none"
 abbrev pub fresh : ℕ → ℕ → ℕ → Zone

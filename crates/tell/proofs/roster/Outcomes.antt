@@ -1,83 +1,133 @@
--- What a roster says: each live handle is in it once; and its promise in the terms of every call.
-use mathlib.Core.Path.{_≡_, refl, ap, ap₂, sym, _∙_}
-use mathlib.Core.Bool.{Bool, true, false}
-use mathlib.Core.List.{List, [], _∷_, List·Permᴰ, List·Permᴰ·nil, List·Permᴰ·cons, List·Permᴰ·swap, List·Permᴰ·trans}
-use Prim.Native.Nat.{ℕ, _+_, _*_, _≤_}
+-- A roster says what its definition in its own terms says.
+use mathlib.Core.Path.{_≡_, refl, ap, sym, _∙_, subst}
+use mathlib.Core.Bool.{Bool, true, false, cond}
+use mathlib.Core.Option.{Option, none, some}
+use mathlib.Core.List.{List, [], _∷_, _++_}
+use Prim.Native.Nat.{ℕ, zero, suc, _+_, _*_, _≤_}
 use native.Mathlib.Omega.{arith}
-use lib.Dec.{leb}
-use lib.ListN.{length}
-use Rattle.format.specs.Occurs.{occurs}
+use lib.ListN.{length, drop}
+use lib.Seq.{drop-at}
+use lib.Dec.{eqb, leb}
+use borrow.Author.Tests.{eqb-true, leb-true, leb-false}
 use Rattle.bigendian.specs.BigEndian.{Bytes}
-use Rattle.block_type.specs.Limits.{recordSize, zoneHeader}
-use Rattle.format.specs.WellFormed.{wellFormed}
-use Rattle.format.proofs.Count.{one}
-use Rattle.kinds.specs.Kinds.{masterOf}
-use Rattle.structure.specs.Structure.{Block, fixed, start, count, decode, cell, handlesOf}
-use Rattle.bay.specs.Bay.{free, held}
-use Rattle.structure.proofs.Sound.{valid}
-use Rattle.structure.proofs.Round.{offset-le}
-use Rattle.calls.specs.Calls.{Card, roster}
-use Rattle.zone.specs.Call.{call}
-use Rattle.zone.specs.Group.{group}
-use Rattle.zone.specs.Roster.{cardsIn}
-use Rattle.zone.specs.Promise.{Promise}
-use Rattle.zone.proofs.MetBlocks.{cardsB}
-use Rattle.tell.proofs.Outcomes.{unchanged}
-use Rattle.tell.proofs.CheckLaws.{liveS}
-use Rattle.tell.specs.roster.Listed.{Rostered, rosterAnswer}
-use Rattle.tell.proofs.roster.Order.{cards-are}
+use Rattle.block_type.specs.Limits.{masterSize, zoneHeader, argumentRange, recordSize}
+use Rattle.format.specs.WellFormed.{wellFormed, zoneOf, countOf, mastersField, offsets}
+use Rattle.kinds.specs.Kinds.{Item, item}
+use Rattle.structure.specs.IsZone.{IsZone}
+use Rattle.structure.proofs.IsZone.{whole-of}
+use Rattle.access.specs.Edit.{placeIn, dataIn}
+use Rattle.calls.specs.Calls.{by-handle, Answer, size, roster, told, toldWith}
+use Rattle.calls.specs.Roster.{Card, cardBytes, cardsIn}
+use Rattle.calls.proofs.Roster.{length-bytes, Small, cards-back}
+use Rattle.calls.specs.State.{handlesFrom}
+use Rattle.zone.specs.Work.{cardIf, cardsOf, cards, masterCount}
+use Rattle.zone.specs.Call.{Result, call, zoneIn}
+use Rattle.zone.specs.RosterSays.{Rising, rise-none, rise-more, In, in-here, in-there, Lists, RosterSays}
+use Rattle.zone.proofs.Once.{blockOf}
+use Rattle.bay.proofs.Each.{Each, each-some}
+use Rattle.zone.proofs.Handles.{occurs, Found, found}
+use Rattle.zone.proofs.Keep.{Whole}
+use Rattle.zone.proofs.Run.{well-whole}
+use Rattle.zone.proofs.Rosters.{masters-are}
+use Rattle.tell.specs.roster.Listed as Listed
+use Rattle.tell.specs.roster.Listed.{blockIn, allCards}
+use Rattle.tell.proofs.roster.Entries.{data-small}
+use Rattle.tell.proofs.roster.Order.{zone-is, all-cards}
+use Rattle.tell.proofs.roster.Laws.{accepted, too-short}
 
--- how often a handle is in some records
-unfoldable pub entries : ℕ → List Card → ℕ
-entries h [] = 0
-entries h (c ∷ cs) = one h (c .handle) + entries h cs
+-- ---- through the masters
 
-entries-perm : (h : ℕ) {a b : List Card} → List·Permᴰ a b → entries h a ≡ entries h b
-unfolding entries
-entries-perm h List·Permᴰ·nil = refl
-entries-perm h (List·Permᴰ·cons e p) = ap₂ _+_ (ap (λ (c : Card). one h (c .handle)) e) (entries-perm h p)
-entries-perm h (List·Permᴰ·swap e f) = omega (arith, ap (λ (c : Card). one h (c .handle)) e, ap (λ (c : Card). one h (c .handle)) f)
-entries-perm h (List·Permᴰ·trans p q) = entries-perm h p ∙ entries-perm h q
-
-entries-blocks : (h : ℕ) (bs : List Block) → entries h (cardsB bs) ≡ occurs h (handlesOf bs)
-unfolding entries occurs handlesOf
-entries-blocks h [] = refl
-entries-blocks h (cell (free n) ∷ bs) = entries-blocks h bs
-entries-blocks h (fixed d ∷ bs) = entries-blocks h bs
-entries-blocks h (cell (held it) ∷ bs) = ap (one h (masterOf it) +_) (entries-blocks h bs)
-
--- whether the second buffer has room for the records
-abbrev hasRoom : List ℕ → List ℕ → Bool
-hasRoom zone entry = leb (recordSize * liveS (group (start (decode zone)) (decode zone .blocks))) (length entry)
-
--- the definition's records are those of the blocks
-records-are : (zone entry : List ℕ) → wellFormed zone ≡ true → 0 ≡ (call (roster entry) zone) .answer .number
-    → (call (roster entry) zone) .answer .records ≡ cardsB (decode zone .blocks)
-records-are zone entry w z = go (hasRoom zone entry) refl
+cards-rise : (f : ℕ → Option Item) (j k n : ℕ) → j ≤ k → Rising j (cardsOf f (handlesFrom k n))
+cards-rise f j k zero l = rise-none
+cards-rise f j k (suc n) l = go (f k) (cards-rise f j (k + masterSize) n (omega arith)) (cards-rise f (suc k) (k + masterSize) n (omega arith))
   where
-    go : (t : Bool) → hasRoom zone entry ≡ t → (call (roster entry) zone) .answer .records ≡ cardsB (decode zone .blocks)
-    go true e = rw (w, e) (sym (cards-are (start (decode zone)) (decode zone .blocks)))
-    go false e = let x : ⊥ = omega (arith, rw (w, e) at z) in absurd x
+    go : (o : Option Item) → Rising j (cardsOf f (handlesFrom (k + masterSize) n)) → Rising (suc k) (cardsOf f (handlesFrom (k + masterSize) n))
+        → Rising j (cardIf k o ++ cardsOf f (handlesFrom (k + masterSize) n))
+    go none r t = r
+    go (some e) r t = rise-more l t
 
--- a handle is in the roster once where it is a block's, and else not at all
-pub entries-are : (zone entry exit : List ℕ) (v : ℕ) → Bytes zone → wellFormed zone ≡ true → Rostered zone entry 0 v exit
-    → (h : ℕ) → (entries h (cardsIn v exit) ≡ occurs h (handlesOf (decode zone .blocks))) × (entries h (cardsIn v exit) ≤ 1)
-entries-are zone entry exit v y w r h =
-    let e = entries-perm h (r .records) ∙ ap (entries h) (records-are zone entry w (r .number)) ∙ entries-blocks h (decode zone .blocks) in
-    (e, omega (arith, e, valid zone y w .owned h, offset-le h zoneHeader (count (decode zone))))
-
--- ---- the promise of a call
-
-no-second : (zone entry : List ℕ) → _≡_ {A = ℕ} 0 ((call (roster entry) zone) .answer .second)
-no-second zone entry = go (wellFormed zone) refl (hasRoom zone entry) refl
+cards-live : (f : ℕ → Option Item) (h : ℕ) (e : Item) → f h ≡ some e → (hs : List ℕ) → 1 ≤ occurs h hs → In h (length (e .bytes)) (cardsOf f hs)
+cards-live f h e q [] o = absurd (omega arith)
+cards-live f h e q (k ∷ hs) o = go (eqb h k) refl o (λ p. cards-live f h e q hs p)
   where
-    go : (t : Bool) → wellFormed zone ≡ t → (u : Bool) → hasRoom zone entry ≡ u → _≡_ {A = ℕ} 0 ((call (roster entry) zone) .answer .second)
-    go true w true e = rw (w, e)
-    go true w false e = rw (w, e)
-    go false w u e = rw w
+    later : (x : Option Item) → In h (length (e .bytes)) (cardsOf f hs) → In h (length (e .bytes)) (cardIf k x ++ cardsOf f hs)
+    later none i = i
+    later (some d) i = in-there i
 
-pub roster-promise : (zone entry exit : List ℕ) (n v : ℕ) → Bytes zone → Rostered zone entry n v exit → Promise (roster entry) zone (rosterAnswer n v exit) zone
-roster-promise zone entry exit n v y r = record {
-  answer = record { number = r .number; value = r .value; second = no-second zone entry; bytes = r .later; records = r .records };
-  bytes = sym (unchanged (roster entry) zone y refl);
-}
+    go : (t : Bool) → eqb h k ≡ t → 1 ≤ cond t (suc (occurs h hs)) (occurs h hs) → (1 ≤ occurs h hs → In h (length (e .bytes)) (cardsOf f hs))
+        → In h (length (e .bytes)) (cardIf k (f k) ++ cardsOf f hs)
+    go true p o r = let x : f k ≡ some e = ap f (sym (eqb-true h k p)) ∙ q in rw x (in-here (sym (eqb-true h k p)) refl)
+    go false p o r = later (f k) (r o)
+
+cards-only : (f : ℕ → Option Item) (h n : ℕ) (hs : List ℕ) → In h n (cardsOf f hs) → (e : Item) × (f h ≡ some e) × (length (e .bytes) ≡ n)
+cards-only f h n (k ∷ hs) i = go (f k) refl i (λ j. cards-only f h n hs j)
+  where
+    go : (o : Option Item) → f k ≡ o → In h n (cardIf k o ++ cardsOf f hs) → (In h n (cardsOf f hs) → (e : Item) × (f h ≡ some e) × (length (e .bytes) ≡ n))
+        → (e : Item) × (f h ≡ some e) × (length (e .bytes) ≡ n)
+    go none q j r = r j
+    go (some e) q (in-here p a) r = (e, ap f (sym p) ∙ q, a)
+    go (some e) q (in-there j) r = r j
+
+cards-small : (z : List ℕ) → IsZone z → (k n : ℕ) → k + masterSize * n ≤ argumentRange → Small (cardsOf (blockIn z) (offsets k n))
+unfolding offsets
+cards-small z i k zero l = tt
+cards-small z i k (suc n) l = go (eqb (placeIn z k) 0) (cards-small z i (k + masterSize) n (omega arith))
+  where
+    go : (t : Bool) → Small (cardsOf (blockIn z) (offsets (k + masterSize) n)) → Small (cardIf k (cond t none (some (item k (dataIn z k)))) ++ cardsOf (blockIn z) (offsets (k + masterSize) n))
+    go true m = m
+    go false m = (omega arith, data-small z k i, m)
+
+-- ---- of a zone
+
+module _ (s : List ℕ) (y : Bytes s) (w : wellFormed s ≡ true) where
+  abbrev find : ℕ → Option Item
+  find h = blockOf h (zoneIn s .bays)
+
+  small : Small (cards (zoneIn s))
+  unfolding allCards Listed.liveCards
+  small =
+      let i = zone-is s y w in
+      subst Small (all-cards s y w) (cards-small (zoneOf s) i zoneHeader (mastersField (zoneOf s)) (omega (arith, whole-of (zoneOf s) i .few)))
+
+  size-found : (h : ℕ) (e : Item) → find h ≡ some e → (call (size (by-handle h)) s) .answer ≡ told 0 (length (e .bytes))
+  size-found h e q = rw (w, q)
+
+  -- what is found has a master
+  mastered : (h : ℕ) (e : Item) → find h ≡ some e → 1 ≤ occurs h (handlesFrom zoneHeader (masterCount (zoneIn s)))
+  mastered h e q =
+      let z = zoneIn s in
+      let k : Whole z = well-whole s y w in
+      rw (masters-are z k) (omega (arith, each-some (subst (Each (Found (k .m) h z)) q (found (k .m) h z)) .once-live, k .owned .owns h))
+
+  lists : Lists s (cards (zoneIn s))
+  lists = record {
+    rising = cards-rise find 0 zoneHeader (masterCount (zoneIn s)) (omega arith);
+    live = λ h n a. there h n a (find h) refl;
+    only = λ h n i. let f = cards-only find h n (handlesFrom zoneHeader (masterCount (zoneIn s))) i in size-found h (f .0) (f .1) ∙ ap (told 0) (f .2);
+  }
+    where
+      there : (h n : ℕ) → (call (size (by-handle h)) s) .answer ≡ told 0 n → (o : Option Item) → find h ≡ o → In h n (cards (zoneIn s))
+      there h n a none q = absurd (omega (arith, ap (λ (x : Answer). x .number) (rw (w, q) at a)))
+      there h n a (some e) q =
+          subst (λ (k : ℕ). In h k (cards (zoneIn s))) (ap (λ (x : Answer). x .value) (sym (size-found h e q) ∙ a))
+          (cards-live find h e q (handlesFrom zoneHeader (masterCount (zoneIn s))) (mastered h e q))
+
+pub roster-says : RosterSays
+roster-says zone entry exit v y p = go (wellFormed zone) refl (leb (recordSize * countOf zone) (length entry)) refl
+  where
+    q : toldWith 0 v exit ≡ (call (roster entry) zone) .answer
+    q = ap (λ (r : Result). r .answer) p
+
+    go : (u : Bool) → wellFormed zone ≡ u → (t : Bool) → leb (recordSize * countOf zone) (length entry) ≡ t
+        → Lists zone (cardsIn v exit) × (drop (recordSize * v) exit ≡ drop (recordSize * v) entry)
+    go true w true l =
+        let cs : List Card = cards (zoneIn zone) in
+        let a = q ∙ accepted zone y w entry (leb-true _ _ l) in
+        let vs : v ≡ length cs = ap (λ (x : Answer). x .value) a in
+        let bs : exit ≡ cardBytes cs ++ drop (recordSize * length cs) entry = ap (λ (x : Answer). x .bytes) a in
+        rw (vs, bs) (
+          subst (Lists zone) (sym (cards-back cs (drop (recordSize * length cs) entry) (small zone y w))) (lists zone y w),
+          drop-at (cardBytes cs) (drop (recordSize * length cs) entry) (recordSize * length cs) (length-bytes cs),
+        )
+    go true w false l = absurd (omega (arith, ap (λ (x : Answer). x .number) (q ∙ too-short zone y w entry (leb-false _ _ l))))
+    go false w t l = absurd (omega (arith, ap (λ (x : Answer). x .number) (rw w at q)))

@@ -6,14 +6,14 @@ use lib.ListN.{length}
 use Rattle.block_type.specs.Limits.{masterSize, firstBlock, mostMasters, recordSize}
 use Rattle.bigendian.specs.BigEndian.{overwrite}
 use Rattle.format.specs.WellFormed.{offsets}
-use Rattle.zone.specs.Roster.{cardBytes}
-use Rattle.tell.specs.roster.Listed.{cardsOf, allCards}
+use Rattle.calls.specs.Roster.{cardBytes}
+use Rattle.tell.specs.roster.Listed.{liveCards, allCards}
 use Rattle.tell.proofs.roster.fill.Statement.{statement}
 use Rattle.tell.proofs.roster.fill.Tie as tie
 use Rattle.tell.proofs.roster.Entries.{fill-first, fill-room, fill-step, fill-done, start-bytes, start-room, start-masters, get-masters}
 
 abbrev Inv-loop : tie.InvT-loop
-Inv-loop z out₀ left₀ h₀ at₀ out left h at = (h + masterSize * left ≤ firstBlock mostMasters) × (length out ≡ length out₀) × (at + recordSize * length (cardsOf z (offsets h left)) ≤ length out) × (overwrite out at (cardBytes (cardsOf z (offsets h left))) ≡ overwrite out₀ 0 (cardBytes (allCards z)))
+Inv-loop z out₀ left₀ h₀ at₀ out left h at = (h + masterSize * left ≤ firstBlock mostMasters) × (length out ≡ length out₀) × (at + recordSize * length (liveCards z (offsets h left)) ≤ length out) × (overwrite out at (cardBytes (liveCards z (offsets h left))) ≡ overwrite out₀ 0 (cardBytes (allCards z)))
 
 abbrev μ-loop : tie.MeasureT-loop
 μ-loop z out₀ left₀ h₀ at₀ out left h at = left

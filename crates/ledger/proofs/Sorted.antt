@@ -1,0 +1,50 @@
+-- A roster's records sorted by handle: they do not fall, and they are the same records.
+use mathlib.Core.Path.{_≡_, refl, ap, _∙_}
+use mathlib.Core.Bool.{Bool, true, false, cond}
+use mathlib.Core.List.{List, [], _∷_, List·Permᴰ, List·Permᴰ·nil, List·Permᴰ·cons, List·Permᴰ·swap, List·Permᴰ·trans, Permᴰ·refl}
+use Prim.Native.Nat.{ℕ, suc, _≤_}
+use native.Mathlib.Omega.{arith}
+use lib.ListN.{length}
+use lib.Dec.{leb}
+use borrow.Author.Tests.{leb-true, leb-false}
+use Rattle.calls.specs.Roster.{Card}
+use Rattle.ledger.specs.Ledger.{insert, byHandle}
+
+-- handles from k on that do not fall
+pub data Rises : ℕ → List Card → Type 0 where
+  rises-none : {k : ℕ} → Rises k []
+  rises-more : {k : ℕ} {c : Card} {cs : List Card} → k ≤ c .handle → Rises (c .handle) cs → Rises k (c ∷ cs)
+
+insert-rises : (c : Card) {k : ℕ} {cs : List Card} → k ≤ c .handle → Rises k cs → Rises k (insert c cs)
+insert-rises c l rises-none = rises-more l rises-none
+insert-rises c {k} l (rises-more {c = d} {cs = cs} m r) = go (leb (c .handle) (d .handle)) refl (λ q. insert-rises c q r)
+  where
+    go : (t : Bool) → leb (c .handle) (d .handle) ≡ t → (d .handle ≤ c .handle → Rises (d .handle) (insert c cs)) → Rises k (cond t (c ∷ (d ∷ cs)) (d ∷ insert c cs))
+    go true q i = rises-more l (rises-more (leb-true _ _ q) r)
+    go false q i = rises-more m (i (let x = leb-false (c .handle) (d .handle) q in omega arith))
+
+pub sorted-rises : (cs : List Card) → Rises 0 (byHandle cs)
+sorted-rises [] = rises-none
+sorted-rises (c ∷ cs) = insert-rises c (omega arith) (sorted-rises cs)
+
+insert-same : (c : Card) (cs : List Card) → List·Permᴰ (insert c cs) (c ∷ cs)
+insert-same c [] = Permᴰ·refl (c ∷ [])
+insert-same c (d ∷ ds) = go (leb (c .handle) (d .handle)) (insert-same c ds)
+  where
+    go : (t : Bool) → List·Permᴰ (insert c ds) (c ∷ ds) → List·Permᴰ (cond t (c ∷ (d ∷ ds)) (d ∷ insert c ds)) (c ∷ (d ∷ ds))
+    go true p = Permᴰ·refl (c ∷ (d ∷ ds))
+    go false p = List·Permᴰ·trans (List·Permᴰ·cons refl p) (List·Permᴰ·swap refl refl)
+
+pub sorted-same : (cs : List Card) → List·Permᴰ (byHandle cs) cs
+sorted-same [] = List·Permᴰ·nil
+sorted-same (c ∷ cs) = List·Permᴰ·trans (insert-same c (byHandle cs)) (List·Permᴰ·cons refl (sorted-same cs))
+
+-- as many as before
+perm-length : {a b : List Card} → List·Permᴰ a b → length a ≡ length b
+perm-length List·Permᴰ·nil = refl
+perm-length (List·Permᴰ·cons e p) = ap suc (perm-length p)
+perm-length (List·Permᴰ·swap e q) = refl
+perm-length (List·Permᴰ·trans p q) = perm-length p ∙ perm-length q
+
+pub sorted-long : (cs : List Card) → length (byHandle cs) ≡ length cs
+sorted-long cs = perm-length (sorted-same cs)
