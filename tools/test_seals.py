@@ -34,7 +34,7 @@ class Seals(Trial):
         return len(have)
 
     def test_relation_that_holds_of_anything(self):
-        # `AllAlike`, `Never`, `Where` and each other `data` get a case more
+        # `History`, `Never`, `Where` and each other `data` get a case more
         self.assertGreater(self.each(sources.believed(self.root), r"^(pub data .* where)$", "pub data X where\n  anything : X"), 2)
 
     def test_record_that_says_less(self):

@@ -38,6 +38,7 @@ pub record Answer : Type 0 where
   pub number : ℕ
   -- the values: "A call for which no answer is named answers 0", "A call with several answers gives 0 for each when refused"
   pub value : ℕ
+  -- the second value
   pub second : ℕ
   -- the second buffer after the call, all of it, or what a view shows
   pub bytes : List ℕ

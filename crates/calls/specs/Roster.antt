@@ -16,7 +16,7 @@ abbrev pub cardBytes : List Card → List ℕ
 cardBytes [] = []
 cardBytes (c ∷ cs) = lentNumber (c .handle) ++ (lentNumber (c .amount) ++ cardBytes cs)
 
--- the n records that bytes begin with
+-- the n records that bytes begin with, as their reader has them (for `RosterSays`; no other definition needs it)
 abbrev pub cardsIn : ℕ → List ℕ → List Card
 cardsIn zero bs = []
 cardsIn (suc n) bs = record { handle = fromBE (slice bs 0 4); amount = fromBE (slice bs amountAt 4) } ∷ cardsIn n (drop recordSize bs)

@@ -11,21 +11,21 @@ use Rattle.calls.specs.Roster.{Card}
 use Rattle.ledger.specs.Ledger.{insert, byHandle}
 
 -- handles from k on that do not fall
-pub data Rises : ℕ → List Card → Type 0 where
-  rises-none : {k : ℕ} → Rises k []
-  rises-more : {k : ℕ} {c : Card} {cs : List Card} → k ≤ c .handle → Rises (c .handle) cs → Rises k (c ∷ cs)
+pub data NotFalling : ℕ → List Card → Type 0 where
+  no-record : {k : ℕ} → NotFalling k []
+  one-more : {k : ℕ} {c : Card} {cs : List Card} → k ≤ c .handle → NotFalling (c .handle) cs → NotFalling k (c ∷ cs)
 
-insert-rises : (c : Card) {k : ℕ} {cs : List Card} → k ≤ c .handle → Rises k cs → Rises k (insert c cs)
-insert-rises c l rises-none = rises-more l rises-none
-insert-rises c {k} l (rises-more {c = d} {cs = cs} m r) = go (leb (c .handle) (d .handle)) refl (λ q. insert-rises c q r)
+insert-order : (c : Card) {k : ℕ} {cs : List Card} → k ≤ c .handle → NotFalling k cs → NotFalling k (insert c cs)
+insert-order c l no-record = one-more l no-record
+insert-order c {k} l (one-more {c = d} {cs = cs} m r) = go (leb (c .handle) (d .handle)) refl (λ q. insert-order c q r)
   where
-    go : (t : Bool) → leb (c .handle) (d .handle) ≡ t → (d .handle ≤ c .handle → Rises (d .handle) (insert c cs)) → Rises k (cond t (c ∷ (d ∷ cs)) (d ∷ insert c cs))
-    go true q i = rises-more l (rises-more (leb-true _ _ q) r)
-    go false q i = rises-more m (i (let x = leb-false (c .handle) (d .handle) q in omega arith))
+    go : (t : Bool) → leb (c .handle) (d .handle) ≡ t → (d .handle ≤ c .handle → NotFalling (d .handle) (insert c cs)) → NotFalling k (cond t (c ∷ (d ∷ cs)) (d ∷ insert c cs))
+    go true q i = one-more l (one-more (leb-true _ _ q) r)
+    go false q i = one-more m (i (let x = leb-false (c .handle) (d .handle) q in omega arith))
 
-pub sorted-rises : (cs : List Card) → Rises 0 (byHandle cs)
-sorted-rises [] = rises-none
-sorted-rises (c ∷ cs) = insert-rises c (omega arith) (sorted-rises cs)
+pub sorted-order : (cs : List Card) → NotFalling 0 (byHandle cs)
+sorted-order [] = no-record
+sorted-order (c ∷ cs) = insert-order c (omega arith) (sorted-order cs)
 
 insert-same : (c : Card) (cs : List Card) → List·Permᴰ (insert c cs) (c ∷ cs)
 insert-same c [] = Permᴰ·refl (c ∷ [])

@@ -343,7 +343,7 @@ pub extern "C" fn nafelode_shrink(zone: &mut [u8], k: u32) -> Told
     }
 }
 
-// Writes 8 bytes for each live handle to the start of out, by rising handle: the handle and its data size, 4 bytes each; later bytes
+// Writes 8 bytes for each live handle to the start of out, by rising handle: the handle and its data size, 4 bytes each, high byte first; later bytes
 // of out stay.
 // Value: how many live handles there are.
 // Refused: 1 zone not well-formed, 10 out too short.

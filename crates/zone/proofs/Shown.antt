@@ -70,7 +70,7 @@ pub recipe-stays : map (λ (a : Answer). a .bytes) (take 1 (drop 10 (run calls (
 recipe-stays = refl
 
 -- the last answer: the roster
-pub roster-listed : map (λ (a : Answer). a .bytes) (drop 33 (run calls (initial 104 96 4))) ≡ listing ∷ []
+pub roster-listed : map (λ (a : Answer). a .bytes) (drop 34 (run calls (initial 104 96 4))) ≡ listing ∷ []
 unfolding toBE
 roster-listed = refl
 

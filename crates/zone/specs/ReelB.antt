@@ -41,18 +41,19 @@ calls =
     ∷ enlarge 4
     ∷ free-pointer 86
     ∷ roster (replicate 31 9)  -- refused: 10
+    ∷ roster (replicate 32 9)  -- just long enough
     ∷ roster (replicate 34 9)  -- handle 16 was given out last, and comes first
     ∷ []
 
 -- what the ledger says of them: the refusal numbers, and the bytes that the handle gives after the slide
 abbrev pub numbers : List ℕ
 numbers =
-    0 ∷ 0 ∷ 0 ∷ 0 ∷ 0 ∷ 0 ∷ 0 ∷ 0 ∷ 6 ∷ 0 ∷ 0 ∷ 0 ∷ 5 ∷ 5 ∷ 0 ∷ 0 ∷ 4 ∷ 3 ∷ 6 ∷ 7 ∷ 8 ∷ 10 ∷ 0 ∷ 0 ∷ 0 ∷ 0 ∷ 0 ∷ 0 ∷ 0 ∷ 9 ∷ 0 ∷ 0 ∷ 10 ∷ 0 ∷ []
+    0 ∷ 0 ∷ 0 ∷ 0 ∷ 0 ∷ 0 ∷ 0 ∷ 0 ∷ 6 ∷ 0 ∷ 0 ∷ 0 ∷ 5 ∷ 5 ∷ 0 ∷ 0 ∷ 4 ∷ 3 ∷ 6 ∷ 7 ∷ 8 ∷ 10 ∷ 0 ∷ 0 ∷ 0 ∷ 0 ∷ 0 ∷ 0 ∷ 0 ∷ 9 ∷ 0 ∷ 0 ∷ 10 ∷ 0 ∷ 0 ∷ []
 
 abbrev pub recipe : List ℕ
 recipe = 1 ∷ 2 ∷ 3 ∷ 4 ∷ 9 ∷ 9 ∷ []
 
--- and what the roster leaves in its second buffer: four records by rising handle, and the later bytes
+-- and what the last roster leaves in its second buffer: four records by rising handle, and the later bytes
 abbrev pub listing : List ℕ
 listing =
     0 ∷ 0 ∷ 0 ∷ 16 ∷ 0 ∷ 0 ∷ 0 ∷ 4

@@ -1,8 +1,8 @@
--- What a roster says, in its own terms: the handles rise strictly, each live handle is among them, and the sizes are theirs.
+-- What a roster says, in its own terms: the handles rise strictly, each live handle is among them and no other, and the sizes are theirs.
 use mathlib.Core.Path.{_≡_}
 use mathlib.Core.List.{List, [], _∷_}
 use Prim.Native.Nat.{ℕ, suc, _*_, _≤_}
-use lib.ListN.{drop}
+use lib.ListN.{length, drop}
 use Rattle.bigendian.specs.BigEndian.{Bytes}
 use Rattle.block_type.specs.Limits.{recordSize}
 use Rattle.calls.specs.Calls.{by-handle, size, roster, told, toldWith}
@@ -20,7 +20,7 @@ pub data In (h n : ℕ) : List Card → Type 0 where
   in-here : {c : Card} {cs : List Card} → c .handle ≡ h → c .amount ≡ n → In h n (c ∷ cs)
   in-there : {c : Card} {cs : List Card} → In h n cs → In h n (c ∷ cs)
 
--- of the records cs of a zone
+-- the records cs are those of the zone's live handles
 pub record Lists (zone : List ℕ) (cs : List Card) : Type 0 where
   pub rising : Rising 0 cs
   -- each live handle, with the size that `size` answers
@@ -28,7 +28,14 @@ pub record Lists (zone : List ℕ) (cs : List Card) : Type 0 where
   -- and no other
   pub only : (h n : ℕ) → In h n cs → (call (size (by-handle h)) zone) .answer ≡ told 0 n
 
--- a roster that is done: the v records at the start of the second buffer, and "Later bytes stay"
+-- a roster that is done, of a second buffer that was `lent` and is `left`: the zone is as it was; the second buffer is as long as it was and has
+-- room for v records, which stand at its start; "Later bytes stay"
+pub record Says (zone after lent left : List ℕ) (v : ℕ) : Type 0 where
+  pub still : after ≡ zone
+  pub long : length left ≡ length lent
+  pub room : recordSize * v ≤ length lent
+  pub lists : Lists zone (cardsIn v left)
+  pub later : drop (recordSize * v) left ≡ drop (recordSize * v) lent
+
 abbrev pub RosterSays : Type 0
-RosterSays = (zone entry exit : List ℕ) (v : ℕ) → Bytes zone → Promise (roster entry) zone (toldWith 0 v exit) zone
-    → Lists zone (cardsIn v exit) × (drop (recordSize * v) exit ≡ drop (recordSize * v) entry)
+RosterSays = (zone after lent left : List ℕ) (v : ℕ) → Bytes zone → Promise (roster lent) zone (toldWith 0 v left) after → Says zone after lent left v

@@ -5,7 +5,7 @@ use mathlib.Core.Option.{Option, none, some}
 use mathlib.Core.List.{List, [], _∷_, _++_}
 use Prim.Native.Nat.{ℕ, zero, suc, _+_, _*_, _≤_}
 use native.Mathlib.Omega.{arith}
-use lib.ListN.{length, drop}
+use lib.ListN.{length, drop, length-append, length-drop}
 use lib.Seq.{drop-at}
 use lib.Dec.{eqb, leb}
 use borrow.Author.Tests.{eqb-true, leb-true, leb-false}
@@ -22,7 +22,7 @@ use Rattle.calls.proofs.Roster.{length-bytes, Small, cards-back}
 use Rattle.calls.specs.State.{handlesFrom}
 use Rattle.zone.specs.Work.{cardIf, cardsOf, cards, masterCount}
 use Rattle.zone.specs.Call.{Result, call, zoneIn}
-use Rattle.zone.specs.RosterSays.{Rising, rise-none, rise-more, In, in-here, in-there, Lists, RosterSays}
+use Rattle.zone.specs.RosterSays.{Rising, rise-none, rise-more, In, in-here, in-there, Lists, Says, RosterSays}
 use Rattle.zone.proofs.Once.{blockOf}
 use Rattle.bay.proofs.Each.{Each, each-some}
 use Rattle.zone.proofs.Handles.{occurs, Found, found}
@@ -32,7 +32,8 @@ use Rattle.zone.proofs.Rosters.{masters-are}
 use Rattle.tell.specs.roster.Listed as Listed
 use Rattle.tell.specs.roster.Listed.{blockIn, allCards}
 use Rattle.tell.proofs.roster.Entries.{data-small}
-use Rattle.tell.proofs.roster.Order.{zone-is, all-cards}
+use Rattle.tell.proofs.roster.Order.{zone-is, all-cards, how-many}
+use Rattle.tell.proofs.Outcomes.{unchanged}
 use Rattle.tell.proofs.roster.Laws.{accepted, too-short}
 
 -- ---- through the masters
@@ -113,21 +114,24 @@ module _ (s : List ℕ) (y : Bytes s) (w : wellFormed s ≡ true) where
           (cards-live find h e q (handlesFrom zoneHeader (masterCount (zoneIn s))) (mastered h e q))
 
 pub roster-says : RosterSays
-roster-says zone entry exit v y p = go (wellFormed zone) refl (leb (recordSize * countOf zone) (length entry)) refl
+roster-says zone after lent left v y p = go (wellFormed zone) refl (leb (recordSize * countOf zone) (length lent)) refl
   where
-    q : toldWith 0 v exit ≡ (call (roster entry) zone) .answer
+    q : toldWith 0 v left ≡ (call (roster lent) zone) .answer
     q = ap (λ (r : Result). r .answer) p
 
-    go : (u : Bool) → wellFormed zone ≡ u → (t : Bool) → leb (recordSize * countOf zone) (length entry) ≡ t
-        → Lists zone (cardsIn v exit) × (drop (recordSize * v) exit ≡ drop (recordSize * v) entry)
+    go : (u : Bool) → wellFormed zone ≡ u → (t : Bool) → leb (recordSize * countOf zone) (length lent) ≡ t → Says zone after lent left v
     go true w true l =
         let cs : List Card = cards (zoneIn zone) in
-        let a = q ∙ accepted zone y w entry (leb-true _ _ l) in
+        let a = q ∙ accepted zone y w lent (leb-true _ _ l) in
         let vs : v ≡ length cs = ap (λ (x : Answer). x .value) a in
-        let bs : exit ≡ cardBytes cs ++ drop (recordSize * length cs) entry = ap (λ (x : Answer). x .bytes) a in
-        rw (vs, bs) (
-          subst (Lists zone) (sym (cards-back cs (drop (recordSize * length cs) entry) (small zone y w))) (lists zone y w),
-          drop-at (cardBytes cs) (drop (recordSize * length cs) entry) (recordSize * length cs) (length-bytes cs),
-        )
-    go true w false l = absurd (omega (arith, ap (λ (x : Answer). x .number) (q ∙ too-short zone y w entry (leb-false _ _ l))))
+        let bs : left ≡ cardBytes cs ++ drop (recordSize * length cs) lent = ap (λ (x : Answer). x .bytes) a in
+        let fit : recordSize * length cs ≤ length lent = omega (arith, leb-true (recordSize * countOf zone) (length lent) l, how-many zone y w) in
+        record {
+          still = ap (λ (r : Result). r .bytes) p ∙ unchanged (roster lent) zone y refl;
+          long = ap length bs ∙ omega (arith, fit, length-append (cardBytes cs) (drop (recordSize * length cs) lent), length-bytes cs, length-drop (recordSize * length cs) lent);
+          room = omega (arith, fit, vs);
+          lists = rw (vs, bs) (subst (Lists zone) (sym (cards-back cs (drop (recordSize * length cs) lent) (small zone y w))) (lists zone y w));
+          later = rw (vs, bs) (drop-at (cardBytes cs) (drop (recordSize * length cs) lent) (recordSize * length cs) (length-bytes cs));
+        }
+    go true w false l = absurd (omega (arith, ap (λ (x : Answer). x .number) (q ∙ too-short zone y w lent (leb-false _ _ l))))
     go false w t l = absurd (omega (arith, ap (λ (x : Answer). x .number) (rw w at q)))
