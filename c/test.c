@@ -159,6 +159,32 @@ static void roster_order(void) {
     for (int i = sizeof records; i < SECOND; i++) IS(second[i], 0x5A);
 }
 
+/* Of the holes that are big enough the smallest is taken, the lowest of equals: by an allocation, and by a resize to another bay. */
+static void tightest_hole(void) {
+    TOLD(nafelode_initialize(Z, 80, 5), 0, 0);
+    TOLD(nafelode_allocate_fixed(Z, 0), 0, 78);
+    TOLD(nafelode_allocate_fixed(Z, 0), 0, 74);
+    TOLD(nafelode_free_pointer(Z, 78), 0, 0);
+    TOLD(nafelode_allocate_relocatable(Z, 12), 0, 16);
+    TOLD(nafelode_allocate_relocatable(Z, 0), 0, 20);
+    TOLD(nafelode_allocate_relocatable(Z, 4), 0, 24);
+    TOLD(nafelode_allocate_relocatable(Z, 4), 0, 28);
+    TOLD(nafelode_allocate_relocatable(Z, 0), 0, 32); /* in the upper bay: the lower one is full */
+    TOLD(nafelode_free_handle(Z, 16), 0, 0);
+    TOLD(nafelode_free_handle(Z, 24), 0, 0);
+    IS(at(zone + 36), 8), IS(at(zone + 56), 4); /* holes of 16 and 8 bytes, in words */
+    TOLD(nafelode_allocate_relocatable(Z, 4), 0, 24);
+    IS(at(zone + 24), 60);
+    TOLD(nafelode_free_handle(Z, 24), 0, 0);
+    TOLD(nafelode_resize(Z, 32, 4), 0, 0);
+    IS(at(zone + 32), 60);
+    TOLD(nafelode_allocate_relocatable(Z, 4), 0, 24);
+    TOLD(nafelode_free_handle(Z, 32), 0, 0);
+    IS(at(zone + 44), 4), IS(at(zone + 56), 4); /* two of 8 bytes */
+    TOLD(nafelode_allocate_relocatable(Z, 4), 0, 32);
+    IS(at(zone + 32), 48);
+}
+
 static void refused_1(void) {
     uint32_t walker = 32;
     FRESH();
@@ -252,7 +278,7 @@ int main(void) {
         memset(zone_page, 0xA5, PAGE), memset(second_page, 0xA5, PAGE);
         zone = low ? zone_page : zone_page + PAGE - LENGTH;
         second = low ? second_page : second_page + PAGE - SECOND;
-        rig_sheet(), bytes(), roster_order(), refused_1(), refused_2_to_10(), empty();
+        rig_sheet(), bytes(), roster_order(), tightest_hole(), refused_1(), refused_2_to_10(), empty();
     }
     largest();
     printf("%u tests, %u wrong\n", tests, wrong);

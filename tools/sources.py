@@ -3,8 +3,8 @@ import functools
 import re
 from typing import NamedTuple
 
-# the rig sheet's table and the concrete list: nobody has to believe them, but emptied they would show nothing
-EXAMPLES = ("RigSheet.antt", "ReelB.antt", "WhichBay.antt", "Choice.antt", "RosterSays.antt")
+# examples, and laws in their own terms: nobody has to believe them, but emptied they would show nothing
+EXAMPLES = ("RigSheet.antt", "ReelB.antt", "WhichBay.antt", "Choice.antt", "OneChoice.antt", "RosterSays.antt")
 EXPORTED = ("nafelode", "nafelode_c", "records", "zone_run")
 
 ROW = re.compile(r"^\| \d+ \| (crates/\S+) \| (\d+) \|", re.M)

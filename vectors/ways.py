@@ -1,4 +1,4 @@
-"""Which ways a call goes, told from the zone before it as document 01 has it.
+"""Which ways a call goes, told from the zone before it as documents 01 and 02 have it.
 
 The check uses it to see that the lists of ways.calls and refusals.calls do
 what their names say, and that no way is left out.
@@ -11,7 +11,8 @@ from nafelode import Bay, Block, BlockType, Zone
 WAYS = (
     "initialize_free initialize_no_free initialize_no_master "
     "relocatable_exact relocatable_rest relocatable_compacted "
-    "relocatable_later_hole relocatable_higher_bay "
+    "relocatable_later_hole relocatable_tightest_hole relocatable_equal_holes "
+    "relocatable_higher_bay "
     "fixed_exact fixed_rest fixed_compacted fixed_lower_bay "
     "free_handle_alone free_handle_left free_handle_right free_handle_both "
     "free_pointer_alone free_pointer_left free_pointer_right free_pointer_both "
@@ -19,6 +20,7 @@ WAYS = (
     "resize_grow_exact resize_grow_rest resize_layout "
     "resize_move_up resize_move_up_compacted "
     "resize_move_down resize_move_down_compacted resize_move_lowest "
+    "resize_move_tightest_hole resize_move_equal_holes "
     "resize_old_alone resize_old_left resize_old_right resize_old_both "
     "compact_nothing compact_slides compact_bays "
     "enlarge_none enlarge_free_last enlarge_used_last enlarge_no_block "
@@ -56,15 +58,22 @@ def free(block: Optional[Block]) -> bool:
     return block is not None and block.type is BlockType.FREE
 
 
-def place(bay: Bay, need: int) -> str:
-    """How an allocation finds its place in a bay whose sum reaches the need."""
-    holes = [block for block in bay.blocks if free(block)]
-    fit = next((block for block in holes if block.size >= need), None)
-    if fit is None:
-        return "compacted"
-    if fit is not holes[0]:
-        return "later_hole"
-    return "exact" if fit.size == need else "rest"
+def place(bay: Bay, need: int) -> Set[str]:
+    """How a block finds its place in a bay whose sum reaches the need: "the smallest
+    free block that is big enough, the lowest of equals" (document 02, U2)."""
+    holes = [block.size for block in bay.blocks if free(block)]
+    fitting = [hole for hole in holes if hole >= need]
+    if not fitting:
+        return {"compacted"}
+    tightest = min(fitting)
+    found = {"exact" if tightest == need else "rest"}
+    if holes[0] < need:
+        found.add("later_hole")
+    if fitting[0] > tightest:
+        found.add("tightest_hole")
+    if fitting.count(tightest) > 1:
+        found.add("equal_holes")
+    return found
 
 
 def merges(zone: Zone, block: Block) -> str:
@@ -78,7 +87,7 @@ def merges(zone: Zone, block: Block) -> str:
 def _relocatable(zone: Zone, c: int) -> Set[str]:
     need = up4(4 + c)
     bay = next(bay for bay in zone.bays if bay.sum >= need)
-    found = {"relocatable_" + place(bay, need)}
+    found = {"relocatable_" + way for way in place(bay, need)}
     if bay is not zone.bays[0]:
         found.add("relocatable_higher_bay")
     if list(zone.chain) != sorted(zone.chain):
@@ -114,9 +123,11 @@ def _resize(zone: Zone, handle: int, c: int) -> Set[str]:
         return {"resize_layout"}
     others = [bay for bay in zone.bays if bay.sum >= 4 + a]
     move = "resize_move_" + ("up" if others[0].start > own.start else "down")
-    if place(others[0], 4 + a) == "compacted":
+    taken = place(others[0], 4 + a)
+    if "compacted" in taken:
         move += "_compacted"
     found = {move, "resize_old_" + merges(zone, block)}
+    found |= {"resize_move_" + way for way in taken & {"tightest_hole", "equal_holes"}}
     return found | {"resize_move_lowest"} if len(others) > 1 else found
 
 

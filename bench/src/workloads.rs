@@ -40,7 +40,7 @@ pub fn zone_of(plan: &Plan, random: &mut Random) -> Vec<u8> {
             items.push(Item::Free(4 * random.below(plan.most_data / 4) as usize + 4));
         }
     }
-    let used: usize = items.iter().map(size_of).sum();
+    let used: usize = items.iter().map(Item::size).sum();
     let rest = plan.length.checked_sub(16 + 4 * plan.masters + used).expect("the blocks fit");
     match items.last_mut() {
         Some(Item::Free(size)) => *size += rest,
@@ -51,14 +51,6 @@ pub fn zone_of(plan: &Plan, random: &mut Random) -> Vec<u8> {
     let zone = picture.encode();
     assert_eq!(zone::check(&zone), (true, plan.relocatable as u32));
     zone
-}
-
-fn size_of(item: &Item) -> usize {
-    match item {
-        Item::Free(size) => *size,
-        Item::Fixed(data) => 2 + data.len(),
-        Item::Relocatable(_, data) => 4 + data.len(),
-    }
 }
 
 /// Live handles with their data sizes, pointers, starts of blocks.
@@ -79,9 +71,34 @@ pub fn known(zone: &[u8]) -> Known {
             Item::Fixed(_) => known.pointers.push(at as u32 + 2),
             Item::Relocatable(handle, data) => known.handles.push((*handle, data.len() as u32)),
         }
-        at += size_of(item);
+        at += item.size();
     }
     known
+}
+
+/// Live handles, each with the least data size that its own bay has no room
+/// for, where another bay has.
+fn movers(zone: &[u8]) -> Vec<(u32, u32)> {
+    let items = Picture::decode(zone).items;
+    let bays: Vec<&[Item]> = items.split(|item| matches!(item, Item::Fixed(_))).collect();
+    let most = bays.iter().map(|bay| free_bytes(bay)).max().unwrap_or(0);
+    let mut movers = Vec::new();
+    for bay in bays {
+        let more = free_bytes(bay) + 4;
+        for item in bay {
+            if let Item::Relocatable(handle, data) = item {
+                let size = data.len() + more;
+                if 4 + size <= most && size <= 32_760 {
+                    movers.push((*handle, size as u32));
+                }
+            }
+        }
+    }
+    movers
+}
+
+fn free_bytes(bay: &[Item]) -> usize {
+    bay.iter().filter(|item| matches!(item, Item::Free(_))).map(Item::size).sum()
 }
 
 /// A realistic list: mostly reads and writes, blocks come and go and change
@@ -178,6 +195,13 @@ pub fn alone(
     add("walker step", &mut |random| Call::WalkerStep(random.pick(&known.starts)));
     if room > 0 {
         add("enlarge", &mut |_| Call::Enlarge(room));
+    }
+    let movers = movers(zone);
+    if !movers.is_empty() {
+        add("resize to another bay", &mut |random| {
+            let (handle, size) = random.pick(&movers);
+            Call::Resize(handle, size)
+        });
     }
     if !known.pointers.is_empty() {
         let pointer = |random: &mut Random| random.pick(&known.pointers);

@@ -22,6 +22,10 @@ pub const WEIGHTS: [[u32; CALLS]; 5] = [
 pub const STRETCHES: [u32; CALLS] =
     [12, 8, 3, 2, 8, 4, 20, 20, 16, 1, 1, 1, 1, 1, 1, 2, 1, 1, 2, 0];
 
+/// Allocations of relocatable blocks and resizes.
+#[allow(dead_code)]
+pub const PLACING: [u32; CALLS] = [1, 0, 0, 0, 1, 0, 0, 0, 0, 0, 0, 0, 0, 0, 0, 0, 0, 0, 0, 0];
+
 const EDGES: [u32; 26] = [
     0,
     1,

@@ -109,6 +109,9 @@ fn main() {
     time("compact, 4,094 blocks and as many holes", &scattered, rounds, |zone| {
         black_box(zone::compact(zone)).unwrap();
     });
+    time("allocate relocatable 100 among them", &scattered, rounds, |zone| {
+        black_box(zone::allocate_relocatable(zone, 100)).unwrap();
+    });
     time("resize the first of them to 300 (laid out anew)", &scattered, rounds, |zone| {
         black_box(zone::resize(zone, 16, 300)).unwrap();
     });

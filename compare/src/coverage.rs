@@ -1,6 +1,7 @@
 //! What a set of lists reaches, so that agreement on them says something.
 
-use crate::records::BUFFER;
+use crate::holes;
+use crate::records::{BUFFER, RECORD};
 
 /// Refusals that each code can be given; 10 cannot come, for zone-run's second
 /// buffer has the one byte that is asked for.
@@ -18,8 +19,9 @@ const POSSIBLE: [&[usize]; 11] = [
     &[0, 1],
 ];
 
-/// Masters that are watched for slides: enough to see them, few to look at.
-const WATCHED: usize = 64;
+/// The end of the masters that are watched for slides: enough of them to see
+/// one, few to look at.
+const WATCHED: usize = 16 + 4 * 64;
 
 #[derive(Default)]
 pub struct Coverage {
@@ -34,6 +36,7 @@ pub struct Coverage {
     nearly_full: u64,
     many_fixed: u64,
     slides: u64,
+    holes: holes::Counts,
 }
 
 fn word(zone: &[u8], at: usize) -> usize {
@@ -60,18 +63,25 @@ fn free_and_fixed(zone: &[u8]) -> (usize, usize) {
 impl Coverage {
     /// The part of a zone to remember before a record is carried out.
     pub fn watched(zone: &[u8]) -> Vec<u8> {
-        zone[..16 + 4 * WATCHED].to_vec()
+        zone[..word(zone, 0).max(WATCHED)].to_vec()
     }
 
     /// Notes a record's answer, and the zone after it.
-    pub fn note(&mut self, code: u8, answer: Option<(u32, u32)>, before: &[u8], zone: &[u8]) {
+    pub fn note(
+        &mut self,
+        record: &[u8; RECORD],
+        answer: Option<(u32, u32)>,
+        before: &[u8],
+        zone: &[u8],
+    ) {
         let Some((refusal, _)) = answer else {
             self.skips += 1;
             return;
         };
-        self.answers[usize::from(code)][refusal as usize] += 1;
+        self.answers[usize::from(record[0])][refusal as usize] += 1;
         if refusal == 0 {
-            self.accepted(code, before, zone);
+            self.accepted(record[0], before, zone);
+            holes::add(&mut self.holes, &holes_of(record, before));
         }
     }
 
@@ -85,6 +95,11 @@ impl Coverage {
     /// Accepted initializations.
     pub fn initializations(&self) -> u64 {
         self.answers[0][0]
+    }
+
+    /// Calls that meet holes between which the choice decides.
+    pub fn holes(&self) -> holes::Counts {
+        self.holes
     }
 
     /// Answers by refusal number, 0 for those done, over all codes.
@@ -121,6 +136,7 @@ impl Coverage {
         self.nearly_full += other.nearly_full;
         self.many_fixed += other.many_fixed;
         self.slides += other.slides;
+        holes::add(&mut self.holes, &other.holes);
     }
 
     /// What was never reached.
@@ -139,8 +155,8 @@ impl Coverage {
         missing
     }
 
-    fn features(&self) -> [(&'static str, u64); 8] {
-        [
+    fn features(&self) -> Vec<(&'static str, u64)> {
+        let mut features = vec![
             ("initialized again in mid-list", self.initialized_again),
             ("zones of 16 bytes", self.least_zones),
             ("zones of 65,536 bytes", self.largest_zones),
@@ -149,7 +165,9 @@ impl Coverage {
             ("calls that slide a block", self.slides),
             ("records skipped", self.skips),
             ("lists with a short last record", self.short_last),
-        ]
+        ];
+        features.extend(holes::WAYS.into_iter().zip(self.holes));
+        features
     }
 
     pub fn print(&self) {
@@ -166,10 +184,20 @@ impl Coverage {
     }
 }
 
+/// The holes that an accepted record meets.
+fn holes_of(record: &[u8; RECORD], before: &[u8]) -> holes::Counts {
+    let (a, b) = (word(record, 4) as u32, word(record, 8) as u32);
+    match record[0] {
+        1 => holes::of_allocation(before, a),
+        5 => holes::of_resize(before, a, b),
+        _ => holes::Counts::default(),
+    }
+}
+
 /// Whether a watched live master points elsewhere than before.
 fn slid(before: &[u8], zone: &[u8]) -> bool {
     let first = word(zone, 4);
-    (16..first.min(before.len())).step_by(4).any(|master| {
+    (16..first.min(WATCHED)).step_by(4).any(|master| {
         let (old, new) = (word(before, master), word(zone, master));
         old >= first && new >= first && old != new
     })

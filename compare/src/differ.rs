@@ -3,6 +3,7 @@
 use crate::arena::{Arena, Place};
 use crate::calls::{ask_zone, Call, Reply};
 use crate::foreign::{ask_archive, without_number};
+use crate::holes;
 use crate::model::Picture;
 use crate::random::Random;
 use crate::verdict::{difference, Left};
@@ -73,6 +74,7 @@ pub struct Tally {
     pub long_by_pointer: u64,
     /// rosters of zones whose blocks do not stand by rising handle
     pub rosters_apart: u64,
+    pub holes: holes::Counts,
 }
 
 impl Tally {
@@ -80,6 +82,9 @@ impl Tally {
         self.answers[which(call)][refusal as usize] += 1;
         if let (Call::Roster, 0) = (call, refusal) {
             self.rosters_apart += u64::from(!Picture::decode(zone).handles().is_sorted());
+        }
+        if refusal == 0 {
+            holes::add(&mut self.holes, &holes_of(zone, call));
         }
         if let (Call::Read(stretch) | Call::Write(stretch), 0) = (call, refusal) {
             let long = u64::from(stretch.count >= LONG);
@@ -96,6 +101,16 @@ impl Tally {
         self.long_by_handle += other.long_by_handle;
         self.long_by_pointer += other.long_by_pointer;
         self.rosters_apart += other.rosters_apart;
+        holes::add(&mut self.holes, &other.holes);
+    }
+}
+
+/// The holes that an accepted call meets.
+fn holes_of(zone: &[u8], call: &Call) -> holes::Counts {
+    match *call {
+        Call::Relocatable(c) => holes::of_allocation(zone, c),
+        Call::Resize(handle, c) => holes::of_resize(zone, handle, c),
+        _ => holes::Counts::default(),
     }
 }
 

@@ -1,9 +1,12 @@
 //! Writes a list of zone-run records: `gen SEED COUNT [--counts]`. With
-//! `--counts` the answers' refusal numbers are counted on standard error.
+//! `--counts` the answers' refusal numbers, the records skipped and the ways of
+//! `holes` are counted on standard error.
 
 #[allow(dead_code)]
 mod coverage;
 mod generator;
+#[allow(dead_code)]
+mod holes;
 mod random;
 mod records;
 #[allow(dead_code)]
@@ -11,6 +14,10 @@ mod zone;
 
 use std::io::{self, Write};
 use std::process::ExitCode;
+
+fn words(counts: &[u64]) -> String {
+    counts.iter().map(u64::to_string).collect::<Vec<String>>().join(" ")
+}
 
 fn main() -> ExitCode {
     let arguments: Vec<String> = std::env::args().skip(1).collect();
@@ -24,8 +31,8 @@ fn main() -> ExitCode {
         return ExitCode::FAILURE;
     }
     if arguments.iter().any(|text| text == "--counts") {
-        let counts: Vec<String> = coverage.refusals().iter().map(u64::to_string).collect();
-        eprintln!("{} skip {}", counts.join(" "), coverage.skips);
+        let (refusals, holes) = (words(&coverage.refusals()), words(&coverage.holes()));
+        eprintln!("{refusals} skip {} holes {holes}", coverage.skips);
     }
     ExitCode::SUCCESS
 }

@@ -73,7 +73,7 @@ impl Generator {
         self.output.extend_from_slice(&record);
         let before = Coverage::watched(&self.zone);
         let answer = carry_out(&mut self.zone, &record);
-        self.coverage.note(record[0], answer, &before, &self.zone);
+        self.coverage.note(&record, answer, &before, &self.zone);
         answer
     }
 
@@ -252,6 +252,45 @@ impl Generator {
         }
     }
 
+    /// A lower bay full of holes, some of them equal, and one block in the bay
+    /// above it; then allocations below, and a resize that the upper bay has no
+    /// room for: where they go, document 02's choice decides.
+    fn holes_in_two_bays(&mut self) {
+        let step = 4 * self.random.between(1, 6);
+        let count = self.random.between(3, 9);
+        let sizes: Vec<u32> = (0..count).map(|_| 12 + step * self.random.below(3)).collect();
+        let lower: u32 = sizes.iter().map(|size| 4 + size + 4).sum();
+        let m = 2 * count + 1;
+        self.call(0, &[16 + 4 * m + lower + 4 + 12, m]);
+        let above = self.call(2, &[10]).unwrap_or(0);
+        self.call(2, &[2]);
+        self.call(4, &[above]);
+        let below = sizes.iter().filter_map(|&size| self.block_and_keeper(size));
+        let below: Vec<u32> = below.collect();
+        let upper = self.call(1, &[8]).unwrap_or(0);
+        self.mark(upper);
+        for handle in below {
+            self.call(3, &[handle]);
+        }
+        for _ in 0..self.random.below(3) {
+            let c = self.random.pick(&sizes) - self.random.below(12);
+            if let Some(handle) = self.call(1, &[c]) {
+                self.mark(handle);
+            }
+        }
+        let c = self.random.pick(&sizes) - self.random.below(4);
+        self.call(5, &[upper, c]);
+        self.look();
+    }
+
+    /// A block that is to be freed, and one of no data byte that keeps the hole
+    /// apart from the next.
+    fn block_and_keeper(&mut self, size: u32) -> Option<u32> {
+        let block = self.call(1, &[size]);
+        self.call(1, &[0]);
+        block
+    }
+
     /// Calls of every code that come before an accepted initialize: "1 0".
     fn before_the_first(&mut self) {
         for _ in 0..self.random.below(14) {
@@ -397,6 +436,9 @@ impl Generator {
     fn whole_list(&mut self) {
         self.before_the_first();
         while self.left > 0 {
+            if self.random.once_in(4) {
+                self.holes_in_two_bays();
+            }
             let mut era = self.begin_era();
             while era.left > 0 && self.left > 0 {
                 era.left -= 1;

@@ -9,6 +9,7 @@ mod c_interface;
 mod calls;
 mod differ;
 mod foreign;
+mod holes;
 #[allow(dead_code)]
 mod model;
 mod random;
@@ -18,7 +19,7 @@ mod verdict;
 mod zone;
 mod zones;
 
-use arguments::{a_call, every_call, STRETCHES, WEIGHTS};
+use arguments::{a_call, every_call, PLACING, STRETCHES, WEIGHTS};
 use calls::Call;
 use differ::{Differ, Tally, LONG, NAMES};
 use std::process::ExitCode;
@@ -77,6 +78,16 @@ fn zones_at_random(differ: &mut Differ, count: u32) -> Outcome {
         let mut broken = zone;
         zones::break_a_rule(&mut differ.random, &mut broken);
         each_call(differ, &broken)?;
+    }
+    Ok(())
+}
+
+/// A block goes into a bay with many holes, by an allocation or a resize.
+fn pitted_zones(differ: &mut Differ, count: u32) -> Outcome {
+    for _ in 0..count {
+        let mut zone = zones::a_pitted_zone(&mut differ.random);
+        let (call, second) = a_call(&mut differ.random, &zone, &PLACING);
+        differ.compare(&mut zone, &call, &second)?;
     }
     Ok(())
 }
@@ -148,6 +159,7 @@ fn everything(differ: &mut Differ) -> Outcome {
     // the longest zones, in buffers that go on behind them
     lists(differ, 4, 40, 262_140, 262_144)?;
     zones_at_random(differ, 15_000)?;
+    pitted_zones(differ, 15_000)?;
     walks(differ, 3_000)?;
     long_stretches(differ, 40)?;
     reached_zones(differ, 120, 12, 1_000)?;
@@ -169,6 +181,19 @@ fn print(tally: &Tally) {
         tally.long_by_handle, tally.long_by_pointer
     );
     println!("  rosters of blocks that do not stand by rising handle: {}", tally.rosters_apart);
+    for (way, count) in holes::WAYS.iter().zip(tally.holes) {
+        println!("  {way}: {count}");
+    }
+}
+
+/// Without them the roster's order, or the choice between holes, would not have
+/// been compared.
+fn never_met(tally: &Tally) -> Vec<&'static str> {
+    let mut never = holes::never_met(&tally.holes);
+    if tally.rosters_apart == 0 {
+        never.push("rosters of blocks that do not stand by rising handle");
+    }
+    never
 }
 
 /// All of it from one seed.
@@ -206,9 +231,9 @@ fn main() -> ExitCode {
     }
     if status == ExitCode::SUCCESS {
         print(&tally);
-        // without one the roster's order would not have been compared
-        if tally.rosters_apart == 0 {
-            println!("no such roster");
+        let never = never_met(&tally);
+        if !never.is_empty() {
+            println!("never met: {}", never.join("; "));
             return ExitCode::FAILURE;
         }
         println!("the archive and the Rust implementation agree");

@@ -8,6 +8,8 @@ mod cut;
 mod failure;
 mod generator;
 #[allow(dead_code)]
+mod holes;
+#[allow(dead_code)]
 mod lines;
 mod program;
 mod random;

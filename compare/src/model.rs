@@ -14,7 +14,7 @@ pub enum Item {
 }
 
 impl Item {
-    fn size(&self) -> usize {
+    pub fn size(&self) -> usize {
         match self {
             Item::Free(size) => *size,
             Item::Fixed(data) => 2 + data.len(),
@@ -56,6 +56,13 @@ fn bytes_of(value: usize, width: usize) -> Vec<u8> {
 /// The data size of a block for c bytes: what up4 leaves beside the header.
 fn padded(c: usize, header: usize) -> usize {
     (header + c).div_ceil(4) * 4 - header
+}
+
+/// The smallest free item that is big enough, the first of equals (document 02,
+/// U2).
+fn tightest(items: &[Item], need: usize) -> Option<usize> {
+    let fitting = (0..items.len()).filter(|&i| items[i].free_size() >= need);
+    fitting.min_by_key(|&i| items[i].free_size())
 }
 
 impl Picture {
@@ -166,17 +173,18 @@ impl Picture {
         items
     }
 
-    /// Puts a new block into the lowest bay whose sum reaches its size.
+    /// Puts a new block into the lowest bay whose sum reaches its size, there
+    /// into the tightest free item.
     fn place_low(&mut self, block: Item) -> bool {
         let need = block.size();
         let Some(bay) = self.bays().into_iter().find(|bay| self.sum_of(bay) >= need) else {
             return false;
         };
         let mut items = self.items[bay.clone()].to_vec();
-        if !items.iter().any(|item| item.free_size() >= need) {
+        if tightest(&items, need).is_none() {
             items = self.compacted(&bay);
         }
-        let at = items.iter().position(|item| item.free_size() >= need).unwrap();
+        let at = tightest(&items, need).unwrap();
         let left = items[at].free_size() - need;
         items.splice(at..at + 1, [block, Item::Free(left)]);
         self.items.splice(bay, items);

@@ -1,12 +1,14 @@
-//! Tests of the zone: the rig sheet to the byte, zone-run's example, every
-//! state that small zones reach, long random lists, zones built at random and
-//! broken buffers. Two models answer beside it: the structured one (`model`)
-//! for every byte, and the ledger (`ledger`) for every answer of a list.
+//! Tests of the zone: the rig sheet to the byte, zone-run's example, the choice
+//! between holes, every state that small zones reach, long random lists, zones
+//! built at random and broken buffers. Two models answer beside it: the
+//! structured one (`model`) for every byte, and the ledger (`ledger`) for every
+//! answer of a list.
 
 #![allow(dead_code)]
 
 mod arguments;
 mod calls;
+mod holes;
 mod ledger;
 mod lines;
 mod model;
@@ -17,7 +19,7 @@ mod verdict;
 mod zone;
 mod zones;
 
-use arguments::{a_call, every_call, CALLS, WEIGHTS};
+use arguments::{a_call, every_call, CALLS, PLACING, WEIGHTS};
 use calls::{ask_zone, Call, Reply};
 use ledger::Ledger;
 use model::{ask_model, Item, Picture};
@@ -25,7 +27,7 @@ use random::Random;
 use std::collections::HashSet;
 use verdict::{difference, Left};
 use zone::{Name, Stretch};
-use zones::{a_zone, break_a_rule, damage, noise};
+use zones::{a_pitted_zone, a_zone, break_a_rule, damage, noise};
 
 // ---------------------------------------------------------------- rig sheet
 
@@ -343,6 +345,116 @@ fn a_walker_goes_round_the_blocks() {
     assert_eq!(walker.offset, 64);
 }
 
+// ---------------------------------------------------------- tightest hole
+
+/// Size of the blocks that keep holes apart.
+const KEEPER: usize = 8;
+
+fn keeper(handle: u32) -> Item {
+    Item::Relocatable(handle, vec![0xBB; KEEPER - 4])
+}
+
+/// A zone with holes of these sizes in its lower bay, a keeper after each of
+/// them: handles 16, 20 and so on. The bay above is full: it has one block of 8
+/// data bytes, whose handle is answered. One more master is free.
+fn pitted(holes: &[usize]) -> (Vec<u8>, u32) {
+    let keepers = (0..holes.len() as u32).map(|i| keeper(16 + 4 * i));
+    let mut items: Vec<Item> =
+        holes.iter().zip(keepers).flat_map(|(&hole, keeper)| [Item::Free(hole), keeper]).collect();
+    let (upper, m) = (16 + 4 * holes.len() as u32, holes.len() + 2);
+    items.extend([Item::Fixed(vec![0xFF; 2]), Item::Relocatable(upper, vec![0xAA; 8])]);
+    let length = 16 + 4 * m + items.iter().map(Item::size).sum::<usize>();
+    (Picture { length, m, chain: vec![upper + 4], items }.encode(), upper)
+}
+
+/// The offset of a hole's first byte.
+fn hole_at(holes: &[usize], which: usize) -> usize {
+    16 + 4 * (holes.len() + 2) + holes[..which].iter().map(|hole| hole + KEEPER).sum::<usize>()
+}
+
+/// Holes, bytes wanted, and the hole that is taken.
+const CHOICES: [(&[usize], u32, usize); 12] = [
+    // a lower one is big enough but larger
+    (&[32, 16], 12, 1),
+    (&[32, 24, 16, 20], 12, 2),
+    (&[32, 24, 16, 20], 16, 3),
+    (&[32, 24, 16, 20], 20, 1),
+    (&[32, 24, 16, 20], 24, 0),
+    // one that is too small is passed by, below and above
+    (&[12, 32, 16, 12], 12, 2),
+    (&[12, 16, 12, 32], 9, 1),
+    (&[20, 4, 16], 16, 0),
+    // the lowest of equals
+    (&[16, 16, 16], 12, 0),
+    (&[32, 16, 24, 16], 12, 1),
+    (&[20, 24, 20], 13, 0),
+    (&[24, 20, 8, 20, 24], 16, 1),
+];
+
+#[test]
+fn an_allocation_takes_the_tightest_hole() {
+    for (holes, c, which) in CHOICES {
+        let (mut zone, upper) = pitted(holes);
+        let before = zone.clone();
+        compare(&mut zone, &Call::Relocatable(c), &[], None);
+        let data = hole_at(holes, which) + 4;
+        assert_eq!(master(&zone, upper as usize + 4) as usize, data, "{c} bytes, {holes:?}");
+        assert_no_slide(&before, &zone, holes.len());
+    }
+}
+
+#[test]
+fn a_resize_to_another_bay_takes_the_tightest_hole() {
+    for (holes, c, which) in CHOICES {
+        let (mut zone, upper) = pitted(holes);
+        let before = zone.clone();
+        compare(&mut zone, &Call::Resize(upper, c), &[], None);
+        let data = hole_at(holes, which) + 4;
+        assert_eq!(master(&zone, upper as usize) as usize, data, "{c} bytes, {holes:?}");
+        assert_eq!(zone[data..data + 12], [[0xAA; 8].as_slice(), &[0; 4]].concat());
+        assert_no_slide(&before, &zone, holes.len());
+    }
+}
+
+/// A hole was big enough, so the blocks beside it stay where they are.
+fn assert_no_slide(before: &[u8], zone: &[u8], keepers: usize) {
+    assert_eq!(before[16..16 + 4 * keepers], zone[16..16 + 4 * keepers], "the keepers' masters");
+}
+
+/// The bay is chosen as document 01 has it: a tighter hole in a higher bay is
+/// passed by, and where no hole is big enough the lowest bay is compacted.
+#[test]
+fn the_bay_is_the_lowest_whose_sum_reaches_the_need() {
+    let bay = |one, handle, other| {
+        [Item::Free(one), keeper(handle), Item::Free(other), Item::Fixed(vec![0xFF; 2])]
+    };
+    let items = [bay(12, 16, 32), bay(16, 20, 12)].concat();
+    let length = 28 + items.iter().map(Item::size).sum::<usize>();
+    let picture = Picture { length, m: 3, chain: vec![24], items };
+    // 12 data bytes: the hole of 32 below, not the one of 16 above
+    let mut zone = picture.encode();
+    compare(&mut zone, &Call::Relocatable(12), &[], None);
+    assert_eq!(master(&zone, 24), 28 + 12 + 8 + 4);
+    // 36 data bytes: 12 and 32 bytes lie free, 40 are needed
+    let mut zone = picture.encode();
+    compare(&mut zone, &Call::Relocatable(36), &[], None);
+    assert_eq!((master(&zone, 16), master(&zone, 24)), (28 + 4, 28 + 8 + 4));
+}
+
+/// A fixed block takes the high end of the last hole, and a block grows into
+/// the hole right after it, though tighter ones stand below.
+#[test]
+fn fixed_blocks_and_growth_do_not_look_for_the_tightest_hole() {
+    let items = vec![Item::Free(8), keeper(16), Item::Free(32)];
+    let zone = Picture { length: 24 + 48, m: 2, chain: vec![20], items }.encode();
+    let mut one = zone.clone();
+    let reply = compare(&mut one, &Call::Fixed(6), &[], None);
+    assert_eq!(reply, Reply::new(0, &[24 + 48 - 6]));
+    let mut other = zone;
+    compare(&mut other, &Call::Resize(16, 8), &[], None);
+    assert_eq!(master(&other, 16), 24 + 8 + 4);
+}
+
 // --------------------------------------------- comparing with the two models
 
 /// A zone and its ledger after calls that leave handles 24 and 20 in the first
@@ -449,12 +561,29 @@ fn assert_refused_values(call: &Call, reply: &Reply) {
     }
 }
 
-/// Counts of accepted calls (0) and of each refusal.
-type Tally = [u64; 11];
+/// Counts of accepted calls (0) and of each refusal; of choices between holes.
+#[derive(Default)]
+struct Tally {
+    answers: [u64; 11],
+    holes: holes::Counts,
+}
 
-fn count(tally: &mut Tally, reply: &Reply) {
-    if let Some(refusal) = reply.refusal {
-        tally[refusal as usize] += 1;
+impl Tally {
+    fn count(&mut self, before: &[u8], call: &Call, reply: &Reply) {
+        let Some(refusal) = reply.refusal else { return };
+        self.answers[refusal as usize] += 1;
+        let met = match *call {
+            _ if refusal != 0 => return,
+            Call::Relocatable(c) => holes::of_allocation(before, c),
+            Call::Resize(handle, c) => holes::of_resize(before, handle, c),
+            _ => return,
+        };
+        holes::add(&mut self.holes, &met);
+    }
+
+    fn tell(&self, name: &str) {
+        let Tally { answers, holes } = self;
+        println!("{name}; done and refused 1 to 10: {answers:?}; choices between holes: {holes:?}");
     }
 }
 
@@ -477,8 +606,9 @@ fn one_list(random: &mut Random, words: u32, steps: u32, tally: &mut Tally) {
     for _ in 0..steps {
         let (call, second) = a_call(random, &buffer, &weights);
         let beside = Ledger::knows(&call).then_some(&mut ledger);
+        let before = buffer.clone();
         let reply = compare(&mut buffer, &call, &second, beside);
-        count(tally, &reply);
+        tally.count(&before, &call, &reply);
     }
 }
 
@@ -489,9 +619,9 @@ fn many_lists(name: &str, seed: u64, lists: u32, steps: u32, words: impl Fn(&mut
         let words = words(&mut random);
         one_list(&mut random, words, steps, &mut tally);
     }
-    println!("{name}: {lists} lists of {steps} calls; done and refused 1 to 10: {tally:?}");
+    tally.tell(&format!("{name}: {lists} lists of {steps} calls"));
     if lists > 100 {
-        assert!(tally[3..].iter().all(|&times| times > 0), "a refusal was never reached");
+        assert!(tally.answers[3..].iter().all(|&times| times > 0), "a refusal was never reached");
     }
 }
 
@@ -526,10 +656,26 @@ fn one_call_on_zones_at_random() {
         assert_eq!(rules::broken_rule(&buffer), None);
         let weights = random.pick(&WEIGHTS);
         let (call, second) = a_call(&mut random, &buffer, &weights);
+        let before = buffer.clone();
         let reply = compare(&mut buffer, &call, &second, None);
-        count(&mut tally, &reply);
+        tally.count(&before, &call, &reply);
     }
-    println!("zones at random: done and refused 1 to 10: {tally:?}");
+    tally.tell("zones at random");
+}
+
+#[test]
+fn one_placing_on_pitted_zones() {
+    let mut random = Random::new(9);
+    let mut tally = Tally::default();
+    for _ in 0..60_000 {
+        let mut buffer = a_pitted_zone(&mut random);
+        let before = buffer.clone();
+        let (call, second) = a_call(&mut random, &buffer, &PLACING);
+        let reply = compare(&mut buffer, &call, &second, None);
+        tally.count(&before, &call, &reply);
+    }
+    tally.tell("pitted zones");
+    assert_eq!(holes::never_met(&tally.holes), [""; 0], "never met");
 }
 
 #[test]
@@ -543,10 +689,10 @@ fn initialize_over_anything() {
         weights[CALLS - 1] = 1;
         let (call, second) = a_call(&mut random, &buffer, &weights);
         let reply = compare(&mut buffer, &call, &second, None);
-        count(&mut tally, &reply);
+        tally.count(&[], &call, &reply);
     }
-    println!("initialize: done and refused 1 to 10: {tally:?}");
-    assert!(tally[0] > 0 && tally[2] > 0);
+    tally.tell("initialize");
+    assert!(tally.answers[0] > 0 && tally.answers[2] > 0);
 }
 
 // ----------------------------------------------------------- broken buffers
@@ -642,18 +788,10 @@ fn paint(buffer: &mut [u8]) {
         for (i, byte) in data.iter_mut().enumerate() {
             *byte = (7 * seed + i + 1) as u8;
         }
-        at += item_size(item);
+        at += item.size();
     }
     let bytes = picture.encode();
     buffer[..bytes.len()].copy_from_slice(&bytes);
-}
-
-fn item_size(item: &Item) -> usize {
-    match item {
-        Item::Free(size) => *size,
-        Item::Fixed(data) => 2 + data.len(),
-        Item::Relocatable(_, data) => 4 + data.len(),
-    }
 }
 
 fn every_state_of(zones: &[(u32, u32, u32)]) {

@@ -7,7 +7,8 @@
 //! byte is written, so a refused call changes no byte. Each call takes time
 //! linear in the zone's length L.
 //!
-//! Text in quotation marks is document 01's.
+//! Text in quotation marks is document 01's, or document 02's where that is
+//! said.
 
 #![forbid(unsafe_code)]
 
@@ -395,10 +396,10 @@ struct Bays<'z> {
     done: bool,
 }
 
-impl Iterator for Bays<'_> {
-    type Item = Bay;
-
-    fn next(&mut self) -> Option<Bay> {
+impl Bays<'_> {
+    /// The next bay; its free blocks are shown in address order.
+    #[inline]
+    fn next_showing(&mut self, mut show: impl FnMut(Block)) -> Option<Bay> {
         if self.done {
             return None;
         }
@@ -408,6 +409,7 @@ impl Iterator for Bays<'_> {
                 Kind::Free => {
                     bay.sum += block.size;
                     bay.last_free = block.size;
+                    show(block);
                 }
                 Kind::Relocatable => bay.last_free = 0,
                 Kind::Fixed => {
@@ -419,6 +421,14 @@ impl Iterator for Bays<'_> {
         }
         self.done = true;
         Some(bay)
+    }
+}
+
+impl Iterator for Bays<'_> {
+    type Item = Bay;
+
+    fn next(&mut self) -> Option<Bay> {
+        self.next_showing(|_| ())
     }
 }
 
@@ -452,16 +462,44 @@ fn compact_bay(zone: &mut [u8], bay: &Bay) -> Block {
     Block { kind: Kind::Free, at: to, size: bay.end - to }
 }
 
-/// "In it the lowest free block that is big enough, from its low end; if none
-/// is, the bay is compacted first." The bay's sum reaches the need. Answers
-/// where the block goes: its data are zero, and its 4-byte header, which the
-/// caller writes, covers the old free size.
-fn take_low(zone: &mut [u8], bay: &Bay, need: usize) -> usize {
-    let fit = blocks(zone, bay.start..bay.end)
-        .find(|block| block.kind == Kind::Free && block.size >= need);
-    let free = match fit {
-        Some(block) => block,
-        None => compact_bay(zone, bay),
+/// A bay whose sum reaches a need, and its tightest hole if one is big enough.
+struct Room {
+    bay: Bay,
+    tightest: Option<Block>,
+}
+
+/// "the lowest whose sum reaches the need", with its tightest hole.
+fn lowest_room(zone: &[u8], layout: &Layout, need: usize) -> Answer<Room> {
+    let mut bays = bays(zone, layout);
+    loop {
+        let mut tightest = None;
+        let bay = bays
+            .next_showing(|free| tightest = tighter(tightest, free, need))
+            .ok_or(Refusal::NoSpace)?;
+        if bay.sum >= need {
+            return Ok(Room { bay, tightest });
+        }
+    }
+}
+
+/// "the smallest free block that is big enough, the lowest of equals" (document
+/// 02, U2), of the tightest so far and a free block above it.
+#[inline]
+fn tighter(so_far: Option<Block>, free: Block, need: usize) -> Option<Block> {
+    if free.size >= need && so_far.is_none_or(|hole| free.size < hole.size) {
+        Some(free)
+    } else {
+        so_far
+    }
+}
+
+/// The tightest hole that is big enough, "from its low end; if none is, the
+/// bay is compacted first." Answers where the block goes: its data are zero, and its 4-byte
+/// header, which the caller writes, covers the old free size.
+fn take_low(zone: &mut [u8], room: &Room, need: usize) -> usize {
+    let free = match room.tightest {
+        Some(hole) => hole,
+        None => compact_bay(zone, &room.bay),
     };
     put_free(zone, free.at + need, free.size - need);
     free.at
@@ -527,17 +565,12 @@ pub fn allocate_relocatable(zone: &mut [u8], c: u32) -> Answer<u32> {
         return Err(Refusal::NoFreeMaster);
     }
     let need = up4(Block::RELOCATABLE_HEADER + c as usize);
-    let bay = lowest_bay(zone, &layout, need)?;
-    let at = take_low(zone, &bay, need);
+    let room = lowest_room(zone, &layout, need)?;
+    let at = take_low(zone, &room, need);
     let next = get32(zone, handle);
     put16(zone, AT_CHAIN, next);
     put_relocatable(zone, at, need, handle);
     Ok(handle as u32)
-}
-
-/// "the lowest whose sum reaches the need".
-fn lowest_bay(zone: &[u8], layout: &Layout, need: usize) -> Answer<Bay> {
-    bays(zone, layout).find(|bay| bay.sum >= need).ok_or(Refusal::NoSpace)
 }
 
 /// "Allocate fixed (c): the highest bay whose sum reaches the need. If its
@@ -622,8 +655,8 @@ pub fn resize(zone: &mut [u8], handle: u32, c: u32) -> Answer<()> {
     if own.sum >= size - block.size {
         grow(zone, &own, &block, size, handle);
     } else {
-        let bay = lowest_bay(zone, &layout, size)?;
-        move_to(zone, &layout, &bay, &block, size, handle);
+        let room = lowest_room(zone, &layout, size)?;
+        move_to(zone, &layout, &room, &block, size, handle);
     }
     Ok(())
 }
@@ -674,10 +707,18 @@ fn slide_up(zone: &mut [u8], run: Range<usize>, by: usize) {
 }
 
 /// "it moves to the lowest bay whose sum reaches 4 + a, as an allocation does,
-/// and the old place is freed": no compaction of that bay moves the old block,
-/// for a fixed block stands between.
-fn move_to(zone: &mut [u8], layout: &Layout, bay: &Bay, block: &Block, size: usize, handle: usize) {
-    let at = take_low(zone, bay, size);
+/// and the old place is freed"; "Resize into another bay does the same"
+/// (document 02, U2). No compaction of that bay moves the old block, for a
+/// fixed block stands between.
+fn move_to(
+    zone: &mut [u8],
+    layout: &Layout,
+    room: &Room,
+    block: &Block,
+    size: usize,
+    handle: usize,
+) {
+    let at = take_low(zone, room, size);
     zone.copy_within(block.data()..block.end(), at + Block::RELOCATABLE_HEADER);
     put_relocatable(zone, at, size, handle);
     give_up_block(zone, layout, *block);

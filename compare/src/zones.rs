@@ -7,10 +7,7 @@ use crate::random::Random;
 /// chain, and any data bytes.
 pub fn a_zone(random: &mut Random, most: u32) -> Vec<u8> {
     let m = random.pick(&[0, 1, 2, 3, 5, 8, 20]);
-    let mut handles: Vec<u32> = (0..m).map(|i| 16 + 4 * i).collect();
-    for i in (1..handles.len()).rev() {
-        handles.swap(i, random.below(i as u32 + 1) as usize);
-    }
+    let mut handles = shuffled_handles(random, m);
     let longest = random.pick(&[1, 3, 8]);
     let mut items: Vec<Item> = Vec::new();
     for _ in 0..random.below(most + 1) {
@@ -29,15 +26,49 @@ pub fn a_zone(random: &mut Random, most: u32) -> Vec<u8> {
             }
         }
     }
-    let sizes = items.iter().map(|item| match item {
-        Item::Free(size) => *size,
-        Item::Fixed(data) => 2 + data.len(),
-        Item::Relocatable(_, data) => 4 + data.len(),
-    });
-    let length = 16 + 4 * m as usize + sizes.sum::<usize>();
-    let mut buffer = Picture { length, m: m as usize, chain: handles, items }.encode();
+    let mut buffer = encoded(items, m, handles);
     buffer.extend((0..random.below(2) * random.below(30)).map(|_| random.any() as u8));
     buffer
+}
+
+/// The handles of m masters in any order.
+fn shuffled_handles(random: &mut Random, m: u32) -> Vec<u32> {
+    let mut handles: Vec<u32> = (0..m).map(|i| 16 + 4 * i).collect();
+    for i in (1..handles.len()).rev() {
+        handles.swap(i, random.below(i as u32 + 1) as usize);
+    }
+    handles
+}
+
+/// The zone of these blocks, without a byte to spare.
+fn encoded(items: Vec<Item>, m: u32, chain: Vec<u32>) -> Vec<u8> {
+    let length = 16 + 4 * m as usize + items.iter().map(Item::size).sum::<usize>();
+    Picture { length, m: m as usize, chain, items }.encode()
+}
+
+/// A well-formed zone of full bays and of bays with many holes, some of them
+/// equal: where a block goes in one of those is a choice (document 02, U2).
+pub fn a_pitted_zone(random: &mut Random) -> Vec<u8> {
+    const MOST_BAYS: u32 = 4;
+    const MOST_BLOCKS: u32 = 6;
+    let m = MOST_BAYS * MOST_BLOCKS + 1;
+    let mut handles = shuffled_handles(random, m);
+    let (least, step) = (random.between(1, 5), random.between(1, 4));
+    let mut items = Vec::new();
+    for bay in 0..random.between(1, MOST_BAYS) {
+        if bay > 0 {
+            items.push(Item::Fixed(vec![0xA5, 0x5A]));
+        }
+        let full = random.once_in(2);
+        for handle in handles.split_off(handles.len() - random.between(1, MOST_BLOCKS) as usize) {
+            if !full {
+                items.push(Item::Free(4 * (least + step * random.below(3)) as usize));
+            }
+            let data = (0..4 * random.below(4)).map(|_| random.any() as u8).collect();
+            items.push(Item::Relocatable(handle, data));
+        }
+    }
+    encoded(items, m, handles)
 }
 
 /// Changes a few bytes or numbers; the zone may or may not stay well-formed.

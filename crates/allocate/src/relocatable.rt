@@ -13,7 +13,7 @@ ghost use Rattle.room.specs.place.Fit.{blank, Fit};
 ghost use Rattle.calls.specs.Calls.{told, allocate-relocatable};
 ghost use Rattle.zone.specs.Call.{result, call};
 ghost use Rattle.call_laws.specs.Frame.{PlannedIn, Planned};
-ghost use Rattle.allocate.specs.relocatable.Ready.{allocated, BayIn, Going, Ready};
+ghost use Rattle.allocate.specs.relocatable.Ready.{allocated, RoomIn, Going, Ready};
 use block_type::BlockType;
 use calls::Told;
 ghost use Rattle.structure.specs.IsZone.{IsZone};
@@ -71,16 +71,17 @@ fn no_plan(number: u32) -> Plan
     }
 }
 
-// The plan in a well-formed zone, in a bay that has been found.
-fn plan_bay(z: &[u8], need: usize, h: usize, start: usize, end: usize, sum: usize) -> Plan
-    requires { ⌜ BayIn (now z) need h start end sum ⌝ }
-    ensures { λ r. ⌜ (r .number ≡ 0) × (r .need ≡ need) × Going (now (z .entry)) r ⌝ }
+// The plan in a well-formed zone, in the room that has been found.
+fn plan_room(z: &[u8], need: usize, h: usize, r: place::Site) -> Plan
+    requires { ⌜ RoomIn (now z) need h (r .start) (r .end) (r .at) (r .size) (r .tidy) ⌝ }
+    ensures { λ p. ⌜ (p .number ≡ 0) × (p .need ≡ need) × Going (now (z .entry)) p ⌝ }
 {
     let next = bigendian::get4(z, h);
-    let s = place::find_room(z, need, start, end, sum);
-    let at = s.at;
-    let size = s.size;
-    let tidy = s.tidy;
+    let start = r.start;
+    let end = r.end;
+    let at = r.at;
+    let size = r.size;
+    let tidy = r.tidy;
     Plan {
         number: 0,
         len: 0,
@@ -109,13 +110,10 @@ fn plan_in(z: &[u8], c: u32) -> Plan
     }
     let need = (BlockType::RELOCATABLE_HEADER + c as usize + 3) / 4 * 4;
     let first = bigendian::get4(z, block_type::FIRST_AT) as usize;
-    let b = bays::find_low(z, first, need);
-    let found = b.found;
-    let start = b.start;
-    let end = b.end;
-    let sum = b.sum;
+    let r = place::find_room(z, first, need);
+    let found = r.found;
     if found {
-        return plan_bay(z, need, h, start, end, sum);
+        return plan_room(z, need, h, r);
     }
     no_plan(5)
 }

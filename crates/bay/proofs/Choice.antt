@@ -1,22 +1,23 @@
 -- Which hole is taken, when a block grows where it stands, when a bay is compacted: the laws of `specs/Choice` hold.
-use mathlib.Core.Path.{_≡_, refl, sym, ap, ap₂, _∙_}
+use mathlib.Core.Path.{_≡_, refl, sym, ap, ap₂, _∙_, subst}
 use mathlib.Core.Bool.{Bool, true, false, cond, false≢true}
 use mathlib.Core.Option.{Option, none, some, Option·getD}
 use mathlib.Core.List.{List, [], _∷_, _++_, map, append-nil}
 use Prim.Native.Nat.{ℕ, _+_, _-_, _≤_, _<_}
 use native.Mathlib.Nat.{add-zero}
+use native.Mathlib.Omega.{arith}
 use lib.ListN.{length}
 use lib.Dec.{leb}
-use borrow.Author.Tests.{le-leb, lt-leb}
+use borrow.Author.Tests.{le-leb, lt-leb, leb-true, leb-false}
 use Rattle.calls.specs.Bays.{over}
 use Rattle.kinds.specs.Kinds.{Item, itemSize, is}
 use Rattle.calls.specs.State.{get}
 use Rattle.calls.specs.Table.{isNone}
-use Rattle.bay.specs.Bay.{Cell, free, held, baySum, items, gap, packed, Hole, behind, holes, choose, fill, trim, takeHigh, resized, inPlace, growHere}
-use Rattle.bay.proofs.Each.{cond-ap}
-use Rattle.bay.proofs.Holes.{All, a-nil, a-cons, all-map}
+use Rattle.bay.specs.Bay.{Cell, free, held, baySum, items, gap, packed, Hole, behind, holes, asTight, tighter, choose, fill, trim, takeHigh, resized, inPlace, growHere}
+use Rattle.bay.proofs.Each.{Each, nothing, just, each-weaken, cond-ap}
+use Rattle.bay.proofs.Holes.{All, a-nil, a-cons, all-map, choose-all}
 use Rattle.bay.proofs.Laws.{items-append, bsum-append}
-use Rattle.bay.specs.Choice.{EachFree, Smaller, no-cell, a-hole, a-block, inOrder, WhichHole, GrowsInPlace, TakesTheEnd, FreeAtTheEnd}
+use Rattle.bay.specs.Choice.{EachFree, no-cell, a-hole, a-block, inOrder, Tightest, IsChoice, some-fits, none-fits, FreeBefore, WhichHole, GrowsInPlace, TakesTheEnd, FreeAtTheEnd}
 
 pub packed-is : (es : List Item) (t : List Cell) → packed es t ≡ map held es ++ t
 packed-is [] t = refl
@@ -32,12 +33,64 @@ over-cons c before (some cs) = refl
 
 -- ---- which hole
 
+tighter-behind : (c : Cell) (x : Hole) (o : Option Hole) → behind c (tighter x o) ≡ tighter (behind c x) (over (behind c) o)
+tighter-behind c x none = refl
+tighter-behind c x (some y) = cond-ap (behind c) (asTight x y) refl refl
+
 pub choose-behind : (n : ℕ) (c : Cell) (xs : List Hole) → choose n (map (behind c) xs) ≡ over (behind c) (choose n xs)
 choose-behind n c [] = refl
-choose-behind n c (x ∷ xs) = sym (cond-ap (over (behind c)) (leb n (x .size)) refl (sym (choose-behind n c xs)))
+choose-behind n c (x ∷ xs) =
+    let ih = choose-behind n c xs in
+    sym (cond-ap (over (behind c)) (leb n (x .size)) (ap some (tighter-behind c x (choose n xs) ∙ ap (tighter (behind c x)) (sym ih))) (sym ih))
 
 abbrev hole : List Cell → ℕ → List Cell → Hole
 hole a n b = record { before = a; size = n; after = b }
+
+each-free : {P Q : ℕ → Type 0} → ((k : ℕ) → P k → Q k) → {cs : List Cell} → EachFree P cs → EachFree Q cs
+each-free f no-cell = no-cell
+each-free f (a-hole {k = k} p s) = a-hole (f k p) (each-free f s)
+each-free f (a-block s) = a-block (each-free f s)
+
+-- one block more before it, which is not as small
+tight-behind : {n : ℕ} {cs : List Cell} {x : Hole} {c : Cell} → EachFree (λ (k : ℕ). n ≤ k → x .size < k) (c ∷ []) → Tightest n cs x → Tightest n (c ∷ cs) (behind c x)
+tight-behind (a-hole {k = k} f no-cell) t = record {
+  of-the-bay = ap (free k ∷_) (t .of-the-bay);
+  enough = t .enough;
+  none-smaller = a-hole {k = k} (λ m. omega (arith, f m)) (t .none-smaller);
+  none-lower = a-hole f (t .none-lower);
+}
+tight-behind (a-block {e = e} no-cell) t = record {
+  of-the-bay = ap (held e ∷_) (t .of-the-bay);
+  enough = t .enough;
+  none-smaller = a-block (t .none-smaller);
+  none-lower = a-block (t .none-lower);
+}
+
+-- the first block, where none behind it is smaller
+tight-first : {n k : ℕ} {cs : List Cell} → n ≤ k → EachFree (λ (j : ℕ). n ≤ j → k ≤ j) cs → Tightest n (free k ∷ cs) (hole [] k cs)
+tight-first {k = k} l s = record { of-the-bay = refl; enough = l; none-smaller = a-hole {k = k} (λ m. omega arith) s; none-lower = no-cell }
+
+chosen-free : (n k : ℕ) (t : Bool) → leb n k ≡ t → {cs : List Cell} {o : Option Hole} → IsChoice n cs o
+    → IsChoice n (free k ∷ cs) (cond t (some (tighter (hole [] k cs) (over (behind (free k)) o))) (over (behind (free k)) o))
+chosen-free n k false e (none-fits s) = none-fits (a-hole (leb-false n k e) s)
+chosen-free n k false e (some-fits t) = some-fits (tight-behind (a-hole (λ m. omega (arith, leb-false n k e)) no-cell) t)
+chosen-free n k true e (none-fits s) = some-fits (tight-first (leb-true n k e) (each-free (λ j l m. omega arith) s))
+chosen-free n k true e {cs = cs} (some-fits {x = x} t) = go (leb k (x .size)) refl
+  where
+    go : (u : Bool) → leb k (x .size) ≡ u → IsChoice n (free k ∷ cs) (some (cond u (hole [] k cs) (behind (free k) x)))
+    go true q = some-fits (tight-first (leb-true n k e) (each-free (λ j f m. omega (arith, leb-true k (x .size) q, f m)) (t .none-smaller)))
+    go false q = some-fits (tight-behind (a-hole (λ m. leb-false k (x .size) q) no-cell) t)
+
+chosen-held : {n : ℕ} {cs : List Cell} (e : Item) {o : Option Hole} → IsChoice n cs o → IsChoice n (held e ∷ cs) (over (behind (held e)) o)
+chosen-held e (none-fits s) = none-fits (a-block s)
+chosen-held e (some-fits t) = some-fits (tight-behind (a-block no-cell) t)
+
+chosen-is : (n : ℕ) (cs : List Cell) → IsChoice n cs (choose n (holes cs))
+chosen-is n [] = none-fits no-cell
+chosen-is n (free k ∷ cs) = rw (choose-behind n (free k) (holes cs)) (chosen-free n k (leb n k) refl (chosen-is n cs))
+chosen-is n (held e ∷ cs) = rw (choose-behind n (held e) (holes cs)) (chosen-held e (chosen-is n cs))
+
+-- ---- there is no other
 
 -- each hole has a free block's size
 holes-sizes : {P : ℕ → Type 0} {cs : List Cell} → EachFree P cs → All (λ (x : Hole). P (x .size)) (holes cs)
@@ -45,23 +98,49 @@ holes-sizes no-cell = a-nil
 holes-sizes (a-hole {k = k} p s) = a-cons p (all-map (behind (free k)) (λ x q. q) (holes-sizes s))
 holes-sizes (a-block {e = e} s) = all-map (behind (held e)) (λ x q. q) (holes-sizes s)
 
--- smaller holes do not count
-choose-after : (n : ℕ) {before : List Cell} (k : ℕ) (after : List Cell) → Smaller n before → n ≤ k → choose n (holes (before ++ (free k ∷ after))) ≡ some (hole before k after)
-choose-after n {before = []} k after no-cell l = rw (le-leb n k l)
-choose-after n {before = free j ∷ before} k after (a-hole m s) l =
-    rw (lt-leb n j m) (choose-behind n (free j) (holes (before ++ (free k ∷ after))) ∙ ap (over (behind (free j))) (choose-after n k after s l))
-choose-after n {before = held d ∷ before} k after (a-block s) l =
-    choose-behind n (held d) (holes (before ++ (free k ∷ after))) ∙ ap (over (behind (held d))) (choose-after n k after s l)
+each-after : {P : ℕ → Type 0} (before : List Cell) (k : ℕ) (after : List Cell) → EachFree P (before ++ (free k ∷ after)) → EachFree P after
+each-after [] k after (a-hole p s) = s
+each-after (free j ∷ before) k after (a-hole p s) = each-after before k after s
+each-after (held e ∷ before) k after (a-block s) = each-after before k after s
+
+tighter-first : (x : Hole) {o : Option Hole} → Each (λ (y : Hole). x .size ≤ y .size) o → tighter x o ≡ x
+tighter-first x nothing = refl
+tighter-first x (just {a = y} l) = rw (le-leb (x .size) (y .size) l)
+
+-- a free block before it that is not as small
+skip-free : (n j : ℕ) (cs : List Cell) {o : Option Hole} (x : Hole) → (n ≤ j → x .size < j) → o ≡ some x → (t : Bool) → leb n j ≡ t → cond t (some (tighter (hole [] j cs) o)) o ≡ some x
+skip-free n j cs x m q true e = ap (λ (o : Option Hole). some (tighter (hole [] j cs) o)) q ∙ (rw (lt-leb j (x .size) (m (leb-true n j e))))
+skip-free n j cs x m q false e = q
+
+choose-after : (n : ℕ) {before : List Cell} (k : ℕ) (after : List Cell) → n ≤ k → EachFree (λ (j : ℕ). n ≤ j → k < j) before → EachFree (λ (j : ℕ). n ≤ j → k ≤ j) after
+    → choose n (holes (before ++ (free k ∷ after))) ≡ some (hole before k after)
+choose-after n {before = []} k after l no-cell r =
+    let w = choose-all n (all-map {Q = λ (x : Hole). n ≤ x .size → k ≤ x .size} (behind (free k)) (λ x q. q) (holes-sizes r)) in
+    rw (le-leb n k l) (ap some (tighter-first (hole [] k after) (each-weaken (λ x p. p .0 (p .1)) w)))
+choose-after n {before = free j ∷ before} k after l (a-hole m s) r =
+    let cs = before ++ (free k ∷ after) in
+    skip-free n j cs (hole (free j ∷ before) k after) m (choose-behind n (free j) (holes cs) ∙ ap (over (behind (free j))) (choose-after n k after l s r)) (leb n j) refl
+choose-after n {before = held d ∷ before} k after l (a-block s) r =
+    choose-behind n (held d) (holes (before ++ (free k ∷ after))) ∙ ap (over (behind (held d))) (choose-after n k after l s r)
 
 choose-none : (n : ℕ) {xs : List Hole} → All (λ (x : Hole). x .size < n) xs → choose n xs ≡ none
 choose-none n a-nil = refl
 choose-none n (a-cons {a = x} l q) = rw (lt-leb n (x .size) l) (choose-none n q)
 
+tightest-is : (n : ℕ) {cs : List Cell} {x : Hole} → Tightest n cs x → choose n (holes cs) ≡ some x
+tightest-is n {x = x} t =
+    ap (λ (cs : List Cell). choose n (holes cs)) (t .of-the-bay)
+    ∙ choose-after n (x .size) (x .after) (t .enough) (t .none-lower) (each-after (x .before) (x .size) (x .after) (subst (EachFree (λ (k : ℕ). n ≤ k → x .size ≤ k)) (t .of-the-bay) (t .none-smaller)))
+
+pub free-before : FreeBefore
+free-before = record { none-left = λ cs. refl; last-block = λ n. refl; before-block = λ n e cs. refl; merged = λ n k cs. refl }
+
 pub which-hole : WhichHole
 which-hole = record {
-  lowest = λ e before after k s l.
-      ap (λ (o : Option Hole). Option·getD (over (fill e) o) (packed (items (before ++ (free k ∷ after))) (held e ∷ gap (baySum (before ++ (free k ∷ after)) - itemSize e) [])))
-      (choose-after (itemSize e) k after s l);
+  chosen = chosen-is;
+  no-other = λ n cs x t. tightest-is n t;
+  tightest = λ e cs x t.
+      ap (λ (o : Option Hole). Option·getD (over (fill e) o) (packed (items cs) (held e ∷ gap (baySum cs - itemSize e) []))) (tightest-is (itemSize e) t);
   compacted = λ e cs s.
       ap (λ (o : Option Hole). Option·getD (over (fill e) o) (packed (items cs) (held e ∷ gap (baySum cs - itemSize e) []))) (choose-none (itemSize e) (holes-sizes s))
       ∙ packed-is (items cs) (held e ∷ gap (baySum cs - itemSize e) []);

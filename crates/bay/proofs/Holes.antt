@@ -1,6 +1,7 @@
 -- The hole that is chosen is a free block of the bay that is big enough; what a bay is with a new block in it.
 use mathlib.Core.Path.{_≡_, refl, ap}
-use mathlib.Core.Option.{Option, Option·getD}
+use mathlib.Core.Bool.{Bool, true, false, cond}
+use mathlib.Core.Option.{Option, some, Option·getD}
 use mathlib.Core.List.{List, [], _∷_, _++_, map, append-nil, Permᴰ·middle}
 use Prim.Native.Nat.{ℕ, _-_, _≤_}
 use native.Mathlib.Omega.{arith}
@@ -8,7 +9,7 @@ use lib.Dec.{leb}
 use borrow.Author.Tests.{leb-true}
 use Rattle.calls.specs.Bays.{over}
 use Rattle.kinds.specs.Kinds.{Item, itemSize}
-use Rattle.bay.specs.Bay.{Cell, free, held, baySize, baySum, items, gap, packed, Hole, behind, holes, choose, fill, put}
+use Rattle.bay.specs.Bay.{Cell, free, held, baySize, baySum, items, gap, packed, Hole, behind, holes, asTight, tighter, choose, fill, put}
 use Rattle.bay.proofs.Each.{Each, nothing, just, each-cond}
 use Rattle.bay.proofs.Laws.{bsize-split, bsize-gap, bsize-packed, items-gap, items-packed, bsize-append, items-append, Keeps}
 
@@ -33,9 +34,17 @@ holes-are (held e ∷ cs) = all-map (behind (held e)) (λ x p. ap (held e ∷_) 
 
 -- ---- the chosen one is one of them, and big enough
 
+each-tighter : {Q : Hole → Type 0} (x : Hole) → Q x → {o : Option Hole} → Each Q o → Each Q (some (tighter x o))
+each-tighter x q nothing = just q
+each-tighter {Q = Q} x q (just {a = y} r) = just (go (asTight x y))
+  where
+    go : (t : Bool) → Q (cond t x y)
+    go true = q
+    go false = r
+
 pub choose-all : {P : Hole → Type 0} (n : ℕ) {xs : List Hole} → All P xs → Each (λ (x : Hole). P x × (n ≤ x .size)) (choose n xs)
 choose-all n a-nil = nothing
-choose-all n (a-cons {a = x} p q) = each-cond (leb n (x .size)) (λ h. just (p, leb-true n (x .size) h)) (choose-all n q)
+choose-all n (a-cons {a = x} p q) = each-cond (leb n (x .size)) (λ h. each-tighter x (p, leb-true n (x .size) h) (choose-all n q)) (choose-all n q)
 
 -- ---- a bay with a new block
 

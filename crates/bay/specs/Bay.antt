@@ -1,5 +1,5 @@
 -- One bay of a zone: its blocks in address order, and what each call does to it.
-use mathlib.Core.Bool.{cond}
+use mathlib.Core.Bool.{Bool, cond}
 use mathlib.Core.Option.{Option, none, some, Option·getD}
 use mathlib.Core.List.{List, [], _∷_, _++_, map}
 use Prim.Native.Nat.{ℕ, zero, suc, _+_, _-_}
@@ -85,10 +85,19 @@ holes [] = []
 holes (free n ∷ cs) = record { before = []; size = n; after = cs } ∷ map (behind (free n)) (holes cs)
 holes (held e ∷ cs) = map (behind (held e)) (holes cs)
 
--- "the lowest free block that is big enough"
+-- x is at least as tight as y
+abbrev pub asTight : Hole → Hole → Bool
+asTight x y = leb (x .size) (y .size)
+
+-- the smaller of two, the first of equals
+abbrev pub tighter : Hole → Option Hole → Hole
+tighter x none = x
+tighter x (some y) = cond (asTight x y) x y
+
+-- "the smallest free block that is big enough, the lowest of equals" (document 02, U2)
 abbrev pub choose : ℕ → List Hole → Option Hole
 choose n [] = none
-choose n (x ∷ xs) = cond (leb n (x .size)) (some x) (choose n xs)
+choose n (x ∷ xs) = cond (leb n (x .size)) (some (tighter x (choose n xs))) (choose n xs)
 
 -- "from its low end"
 abbrev pub fill : Item → Hole → List Cell

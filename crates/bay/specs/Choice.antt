@@ -1,14 +1,14 @@
--- Laws of one bay that are said of blocks in their places, and not by the functions that compute them: which hole is taken, when a block
--- grows where it stands, and when a bay is compacted. (They are theorems about the definitions of `Bay`: nobody has to believe them.)
+-- Laws of one bay, said of blocks in their places: which hole is chosen and taken, when a block grows where it stands, and when a bay is
+-- compacted. (They are theorems about the definitions of `Bay`: nobody has to believe them.)
 use mathlib.Core.Path.{_≡_}
 use mathlib.Core.Bool.{true}
-use mathlib.Core.Option.{none}
+use mathlib.Core.Option.{Option, none, some}
 use mathlib.Core.List.{List, [], _∷_, _++_, map}
-use Prim.Native.Nat.{ℕ, _+_, _-_, _≤_, _<_}
+use Prim.Native.Nat.{ℕ, suc, _+_, _-_, _≤_, _<_}
 use lib.ListN.{length}
 use Rattle.kinds.specs.Kinds.{Item, is, itemSize}
 use Rattle.calls.specs.State.{get}
-use Rattle.bay.specs.Bay.{Cell, free, held, baySum, items, gap, compactBay, put, takeHigh, resized, reshape}
+use Rattle.bay.specs.Bay.{Cell, free, held, baySum, items, gap, compactBay, Hole, holes, choose, put, takeHigh, resized, reshape}
 
 -- P holds of every free block's size
 pub data EachFree (P : ℕ → Type 0) : List Cell → Type 0 where
@@ -24,11 +24,31 @@ Smaller n cs = EachFree (λ (k : ℕ). k < n) cs
 abbrev pub inOrder : List Item → ℕ → List Cell
 inOrder es n = map held es ++ gap n []
 
--- "the lowest free block that is big enough, from its low end; if none is, the bay is compacted first": every other block stays where
--- it is, unless no free block is big enough
+-- x is the smallest free block of the bay cs that has at least n bytes, the lowest of equals (document 02, U2)
+pub record Tightest (n : ℕ) (cs : List Cell) (x : Hole) : Type 0 where
+  pub of-the-bay : cs ≡ x .before ++ (free (x .size) ∷ x .after)
+  pub enough : n ≤ x .size
+  pub none-smaller : EachFree (λ (k : ℕ). n ≤ k → x .size ≤ k) cs
+  pub none-lower : EachFree (λ (k : ℕ). n ≤ k → x .size < k) (x .before)
+
+-- what is chosen for n bytes: a free block that is so, and none where each is smaller
+pub data IsChoice (n : ℕ) (cs : List Cell) : Option Hole → Type 0 where
+  some-fits : {x : Hole} → Tightest n cs x → IsChoice n cs (some x)
+  none-fits : Smaller n cs → IsChoice n cs none
+
+-- n free bytes before the cells cs: nothing for 0, else a free block, merged with one that follows; all other blocks stay
+pub record FreeBefore : Type 0 where
+  pub none-left : (cs : List Cell) → gap 0 cs ≡ cs
+  pub last-block : (n : ℕ) → gap (suc n) [] ≡ free (suc n) ∷ []
+  pub before-block : (n : ℕ) (e : Item) (cs : List Cell) → gap (suc n) (held e ∷ cs) ≡ free (suc n) ∷ (held e ∷ cs)
+  pub merged : (n k : ℕ) (cs : List Cell) → gap (suc n) (free k ∷ cs) ≡ free (suc n + k) ∷ cs
+
+-- "takes the smallest free block that is big enough, the lowest of equals" (document 02, U2), "from its low end; if none is, the bay is compacted
+-- first": there is no other choice, and every other block stays where it is, unless no free block is big enough
 pub record WhichHole : Type 0 where
-  pub lowest : (e : Item) (before after : List Cell) (k : ℕ) → Smaller (itemSize e) before → itemSize e ≤ k
-      → put e (before ++ (free k ∷ after)) ≡ before ++ (held e ∷ gap (k - itemSize e) after)
+  pub chosen : (n : ℕ) (cs : List Cell) → IsChoice n cs (choose n (holes cs))
+  pub no-other : (n : ℕ) (cs : List Cell) (x : Hole) → Tightest n cs x → choose n (holes cs) ≡ some x
+  pub tightest : (e : Item) (cs : List Cell) (x : Hole) → Tightest (itemSize e) cs x → put e cs ≡ x .before ++ (held e ∷ gap (x .size - itemSize e) (x .after))
   pub compacted : (e : Item) (cs : List Cell) → Smaller (itemSize e) cs → put e cs ≡ map held (items cs) ++ (held e ∷ gap (baySum cs - itemSize e) [])
 
 -- "For a ≤ b the tail is freed and merged. Else .. into the free block right after it if that has at least a − b bytes": no other block moves

@@ -65,11 +65,6 @@ tiled-long (tile-more e t) = omega (arith, tiled-long t)
 -- ---- where the bay lies
 
 module _ {f : List Cell → List Cell} (end : ℕ) where
-  pub at-within : {s s′ : Bays (List Cell) Fixed} {pre : List Block} {b : List Cell} {post : List Block} → At f s s′ pre b post → (p : ℕ) → Tiled p s end → p + sizes pre + baySize b ≤ end
-  at-within (at-last {b = b}) p t = omega (arith, tiled-last t, no-sizes)
-  at-within (at-here {b = b}) p t = omega (arith, tiled-place t, tiled-long (tiled-rest t), no-sizes)
-  at-within (at-later {c = c} {x = x} {pre = pre} {b = b} a) p t = omega (arith, tiled-place t, later-sizes c x pre, at-within a (x .place + fsize x) (tiled-rest t))
-
   -- the bay of the block at offset t
   pub own-bay : (t : ℕ) {s s′ : Bays (List Cell) Fixed} {pre : List Block} {b : List Cell} {post : List Block} → At f s s′ pre b post
       → (p : ℕ) → Tiled p s end → p + sizes pre ≤ t → t < p + sizes pre + baySize b → ownBay t p s ≡ bayAt (p + sizes pre) b

@@ -19,9 +19,15 @@ use Rattle.bays.specs.Places.{BayN, bayN, noBay, bayAt, fitAt, orBay, hi
 use Rattle.bays.specs.At.{at-last, at-later}
 use Rattle.bays.specs.Found.{FoundHigh, FoundLast}
 use Rattle.bays.proofs.At.{flat-later, tiled-place, tiled-rest, tiled-last, tiled-long, numbers-first, numbers-later}
-use Rattle.bays.proofs.Low.{fit-is}
 
 -- ---- whether there is one
+
+fit-is : (need p : ℕ) (b : List Cell) → (fitAt need p b) .found ≡ leb need (baySum b)
+fit-is need p b = go (leb need (baySum b))
+  where
+    go : (t : Bool) → (cond t (bayAt p b) noBay) .found ≡ t
+    go true = refl
+    go false = refl
 
 or-is : (u v : BayN) → (orBay u v) .found ≡ u .found || v .found
 or-is u v = go (u .found) refl

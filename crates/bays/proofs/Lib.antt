@@ -1,6 +1,6 @@
 pub mod At
 pub mod High
-pub mod Low
 pub mod Searches
+pub mod Slots
 pub mod Walk
 pub mod Zone

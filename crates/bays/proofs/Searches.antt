@@ -10,42 +10,34 @@ use lib.ListN.{length}
 use Rattle.calls.specs.Bays.{Bays, last, more}
 use Rattle.calls.specs.State.{Fixed, fsize}
 use Rattle.bay.specs.Bay.{Cell, baySize, baySum}
-use Rattle.bays.specs.Places.{baysAt, BayN, bayN, noBay, bayAt, fitAt, orBay, lowBay, highBay, betterBay, ownBay}
+use Rattle.bays.specs.Places.{baysAt, BayN, bayN, noBay, bayAt, fitAt, orBay, highBay, betterBay, ownBay}
 use Rattle.bays.specs.Read.{Cut, at-end, at-fixed, Read}
 
--- what f answers of the bays from `at` on, none beyond the bytes
-abbrev pub from : (ℕ → Bays (List Cell) Fixed → BayN) → List ℕ → ℕ → BayN
-from f z at = cond (leb at (length z)) (f at (baysAt z at)) noBay
+-- what f answers of the bays from `at` on, and `none` beyond the bytes
+abbrev pub from : {A : Type 0} → A → (ℕ → Bays (List Cell) Fixed → A) → List ℕ → ℕ → A
+from none f z at = cond (leb at (length z)) (f at (baysAt z at)) none
 
-from-in : (f : ℕ → Bays (List Cell) Fixed → BayN) (z : List ℕ) (at : ℕ) → at ≤ length z → from f z at ≡ f at (baysAt z at)
-from-in f z at l = rw (le-leb at (length z) l)
+module _ {A : Type 0} (none : A) (f : ℕ → Bays (List Cell) Fixed → A) (z : List ℕ) (at : ℕ) where
+  pub from-in : at ≤ length z → from none f z at ≡ f at (baysAt z at)
+  from-in l = rw (le-leb at (length z) l)
 
-from-out : (f : ℕ → Bays (List Cell) Fixed → BayN) (z : List ℕ) (at : ℕ) → length z < at → from f z at ≡ noBay
-from-out f z at l = rw (lt-leb at (length z) l)
+  pub from-out : length z < at → from none f z at ≡ none
+  from-out l = rw (lt-leb at (length z) l)
 
 -- ---- the bay that has been read, by its numbers
 
 module _ {z : List ℕ} {p end sum tail next : ℕ} (r : Read z p end sum tail next) where
   bay-is : bayAt p (r .bay) ≡ bayN true p end sum tail
-  bay-is = rw (← r .end-is, ← r .sum-is, ← r .tail-is)
-
--- ---- the lowest bay
-
-cut-low : (need : ℕ) (z : List ℕ) (p next : ℕ) (b : List Cell) → Cut z p next b → lowBay need p (baysAt z p) ≡ cond (leb need (baySum b)) (bayAt p b) (from (lowBay need) z next)
-cut-low need z p next b (at-end e d n) = ap (lowBay need p) e ∙ ap (cond (leb need (baySum b)) (bayAt p b)) (sym (from-out (lowBay need) z next (omega arith)))
-cut-low need z p next b (at-fixed x e q n l) =
-    ap (lowBay need p) e
-    ∙ ap (λ (o : ℕ). cond (leb need (baySum b)) (bayAt p b) (lowBay need o (baysAt z next))) (sym n)
-    ∙ ap (cond (leb need (baySum b)) (bayAt p b)) (sym (from-in (lowBay need) z next l))
+  bay-is = rw (← r .between .end-is, ← r .sum-is, ← r .tail-is)
 
 -- ---- the highest bay
 
-cut-high : (need : ℕ) (z : List ℕ) (p next : ℕ) (b : List Cell) → Cut z p next b → highBay need p (baysAt z p) ≡ orBay (from (highBay need) z next) (fitAt need p b)
-cut-high need z p next b (at-end e d n) = ap (highBay need p) e ∙ ap (λ (w : BayN). orBay w (fitAt need p b)) (sym (from-out (highBay need) z next (omega arith)))
+cut-high : (need : ℕ) (z : List ℕ) (p next : ℕ) (b : List Cell) → Cut z p next b → highBay need p (baysAt z p) ≡ orBay (from noBay (highBay need) z next) (fitAt need p b)
+cut-high need z p next b (at-end e d n) = ap (highBay need p) e ∙ ap (λ (w : BayN). orBay w (fitAt need p b)) (sym (from-out noBay (highBay need) z next (omega arith)))
 cut-high need z p next b (at-fixed x e q n l) =
     ap (highBay need p) e
     ∙ ap (λ (o : ℕ). orBay (highBay need o (baysAt z next)) (fitAt need p b)) (sym n)
-    ∙ ap (λ (w : BayN). orBay w (fitAt need p b)) (sym (from-in (highBay need) z next l))
+    ∙ ap (λ (w : BayN). orBay w (fitAt need p b)) (sym (from-in noBay (highBay need) z next l))
 
 or-or : (a b c : BayN) → orBay (orBay a b) c ≡ orBay a (orBay b c)
 or-or a b c = go (a .found) refl
@@ -73,56 +65,38 @@ better-yes need w start end sum tail m = rw (le-leb need sum m)
 pub better-no : (need : ℕ) (w : BayN) (start end sum tail : ℕ) → sum < need → w ≡ betterBay need w start end sum tail
 better-no need w start end sum tail m = rw (lt-leb need sum m)
 
-pub start-low : (need : ℕ) (z : List ℕ) (p : ℕ) → p ≤ length z → from (lowBay need) z p ≡ lowBay need p (baysAt z p)
-start-low need z p l = from-in (lowBay need) z p l
-
-pub start-high : (need : ℕ) (z : List ℕ) (p : ℕ) → p ≤ length z → orBay (from (highBay need) z p) noBay ≡ highBay need p (baysAt z p)
-start-high need z p l = ap (λ (w : BayN). orBay w noBay) (from-in (highBay need) z p l) ∙ or-none need p (baysAt z p)
+pub start-high : (need : ℕ) (z : List ℕ) (p : ℕ) → p ≤ length z → orBay (from noBay (highBay need) z p) noBay ≡ highBay need p (baysAt z p)
+start-high need z p l = ap (λ (w : BayN). orBay w noBay) (from-in noBay (highBay need) z p l) ∙ or-none need p (baysAt z p)
 
 module _ (z : List ℕ) (p end sum tail next : ℕ) (r : Read z p end sum tail next) (need : ℕ) where
-  module _ (w : BayN) (l : p ≤ length z) (inv : from (lowBay need) z p ≡ w) where
-    here : cond (leb need sum) (bayN true p end sum tail) (from (lowBay need) z next) ≡ w
-    here =
-        ap₂ (λ (s : ℕ) (b : BayN). cond (leb need s) b (from (lowBay need) z next)) (r .sum-is) (sym (bay-is r))
-        ∙ sym (cut-low need z p next (r .bay) (r .cut)) ∙ sym (from-in (lowBay need) z p l) ∙ inv
-
-    pub low-hit : need ≤ sum → bayN true p end sum tail ≡ w
-    low-hit m = rw (le-leb need sum m) at here
-
-    pub low-next : sum < need → from (lowBay need) z next ≡ w
-    low-next m = rw (lt-leb need sum m) at here
-
-  pub high-next : (best best′ w : BayN) → p ≤ length z → orBay (from (highBay need) z p) best ≡ w → best′ ≡ betterBay need best p end sum tail → orBay (from (highBay need) z next) best′ ≡ w
+  pub high-next : (best best′ w : BayN) → p ≤ length z → orBay (from noBay (highBay need) z p) best ≡ w → best′ ≡ betterBay need best p end sum tail → orBay (from noBay (highBay need) z next) best′ ≡ w
   high-next best best′ w l inv eb =
-      let e : from (highBay need) z p ≡ orBay (from (highBay need) z next) (fitAt need p (r .bay)) = from-in (highBay need) z p l ∙ cut-high need z p next (r .bay) (r .cut) in
+      let e : from noBay (highBay need) z p ≡ orBay (from noBay (highBay need) z next) (fitAt need p (r .bay)) = from-in noBay (highBay need) z p l ∙ cut-high need z p next (r .bay) (r .between .cut) in
       let f : orBay (fitAt need p (r .bay)) best ≡ betterBay need best p end sum tail = fit-or need p (r .bay) best ∙ ap₂ (λ (s : ℕ) (b : BayN). cond (leb need s) b best) (sym (r .sum-is)) (bay-is r) in
-      ap (orBay (from (highBay need) z next)) (eb ∙ sym f) ∙ sym (or-or (from (highBay need) z next) (fitAt need p (r .bay)) best) ∙ ap (λ (b : BayN). orBay b best) (sym e) ∙ inv
+      ap (orBay (from noBay (highBay need) z next)) (eb ∙ sym f) ∙ sym (or-or (from noBay (highBay need) z next) (fitAt need p (r .bay)) best) ∙ ap (λ (b : BayN). orBay b best) (sym e) ∙ inv
 
-pub low-none : (need : ℕ) (z : List ℕ) (at : ℕ) (w : BayN) → length z < at → from (lowBay need) z at ≡ w → noBay ≡ w
-low-none need z at w l inv = sym (from-out (lowBay need) z at l) ∙ inv
-
-pub high-done : (need : ℕ) (z : List ℕ) (at : ℕ) (best w : BayN) → length z < at → orBay (from (highBay need) z at) best ≡ w → best ≡ w
-high-done need z at best w l inv = sym (ap (λ (b : BayN). orBay b best) (from-out (highBay need) z at l)) ∙ inv
+pub high-done : (need : ℕ) (z : List ℕ) (at : ℕ) (best w : BayN) → length z < at → orBay (from noBay (highBay need) z at) best ≡ w → best ≡ w
+high-done need z at best w l inv = sym (ap (λ (b : BayN). orBay b best) (from-out noBay (highBay need) z at l)) ∙ inv
 
 -- ---- the bay of a block
 
 module _ (z : List ℕ) (p end sum tail next : ℕ) (r : Read z p end sum tail next) (t : ℕ) (w : BayN) (inv : ownBay t p (baysAt z p) ≡ w) where
   pub own-hit : t < end → bayN true p end sum tail ≡ w
-  own-hit m = go (r .bay) (r .cut) (r .end-is) (bay-is r)
+  own-hit m = go (r .bay) (r .between .cut) (r .between .end-is) (bay-is r)
     where
       go : (b : List Cell) → Cut z p next b → end ≡ p + baySize b → bayAt p b ≡ bayN true p end sum tail → bayN true p end sum tail ≡ w
       go b (at-end e d n) q i = sym i ∙ ap (ownBay t p) (sym e) ∙ inv
       go b (at-fixed x e q n l) q′ i = sym i ∙ sym (rw (e, lt-ltb t (x .place) (omega arith)) at (sym inv))
 
   pub own-last : length z < next → bayN true p end sum tail ≡ w
-  own-last m = go (r .bay) (r .cut) (bay-is r)
+  own-last m = go (r .bay) (r .between .cut) (bay-is r)
     where
       go : (b : List Cell) → Cut z p next b → bayAt p b ≡ bayN true p end sum tail → bayN true p end sum tail ≡ w
       go b (at-end e d n) i = sym i ∙ ap (ownBay t p) (sym e) ∙ inv
       go b (at-fixed x e q n l) i = let v : ⊥ = omega arith in absurd v
 
   pub own-next : next ≤ length z → end ≤ t → ownBay t next (baysAt z next) ≡ w
-  own-next m k = go (r .bay) (r .cut) (r .end-is)
+  own-next m k = go (r .bay) (r .between .cut) (r .between .end-is)
     where
       go : (b : List Cell) → Cut z p next b → end ≡ p + baySize b → ownBay t next (baysAt z next) ≡ w
       go b (at-end e d n) q = let v : ⊥ = omega arith in absurd v

@@ -1,11 +1,9 @@
 -- The bays of a well-formed zone are those of its structure and tiled, and its bytes are what a search asks for.
 use mathlib.Core.Path.{_≡_, sym, ap, ap₂, _∙_}
-use mathlib.Core.Bool.{Bool}
 use mathlib.Core.List.{List}
 use Prim.Native.Nat.{ℕ, _≤_}
 use native.Mathlib.Omega.{arith}
 use lib.ListN.{length, drop}
-use lib.Dec.{leb}
 use Rattle.block_type.specs.Limits.{longestZone}
 use Rattle.format.specs.WellFormed.{firstField}
 use Rattle.structure.specs.Structure.{Block, Structure, count, start, len, decodeZone}
@@ -14,16 +12,12 @@ use Rattle.structure.proofs.Table.{Whole, start-is, len-is}
 use Rattle.structure.proofs.Sound.{valid-zone}
 use Rattle.access.specs.row.Row.{Row}
 use Rattle.access.proofs.row.Zone.{blocks-are, zone-row, zone-start, zone-short}
-use Rattle.calls.specs.Bays.{Bays, maxS}
-use Rattle.calls.specs.State.{Fixed}
-use Rattle.bay.specs.Bay.{Cell, baySum}
 use Rattle.zone.specs.Group.{group}
 use Rattle.zone.proofs.Places.{Tiled}
 use Rattle.zone.specs.Call.{inBays}
 use Rattle.zone.proofs.Grouped.{line-bays, whole-bays}
 use Rattle.zone.proofs.Keep.{count-line}
-use Rattle.bays.specs.Places.{baysOf, baysAt, BayN, bayN, lowBay}
-use Rattle.bays.proofs.Low.{low-is}
+use Rattle.bays.specs.Places.{baysOf, baysAt}
 use Rattle.structure.specs.IsZone.{IsZone}
 use Rattle.structure.proofs.IsZone.{whole-of}
 
@@ -69,8 +63,3 @@ module _ (z : List ℕ) (i : IsZone z) (first : ℕ) (ef : first ≡ firstField 
     bays = bays-are;
     tiled = tiled-is;
   }
-
-  -- whether the sum of a bay reaches the need, as the search for the lowest tells
-  pub zone-reach : (need : ℕ) (f : Bool) (a e sum tail : ℕ) → bayN f a e sum tail ≡ lowBay need first (baysAt z first) → leb need (maxS baySum (baysOf (decodeZone z))) ≡ f
-  zone-reach need f a e sum tail q =
-      ap (λ (b : Bays (List Cell) Fixed). leb need (maxS baySum b)) (sym bays-are) ∙ sym (low-is need first (baysAt z first)) ∙ ap (λ (b : BayN). b .found) (sym q)

@@ -17,17 +17,7 @@ pub record Numbers (p : ℕ) (before : List Block) (bay : List Cell) (a e sum ta
   pub sum-is : sum ≡ baySum bay
   pub tail-is : tail ≡ endFree bay
 
--- a bay whose sum reaches need, and which f changes
-pub record Found (need p end : ℕ) (f : List Cell → List Cell) (s s′ : Bays (List Cell) Fixed) (a e sum tail : ℕ) : Type 0 where
-  pub before : List Block
-  pub bay : List Cell
-  pub after : List Block
-  pub at : At f s s′ before bay after
-  pub numbers : Numbers p before bay a e sum tail
-  pub within : e ≤ end
-  pub enough : need ≤ baySum bay
-
--- the same with a new fixed block of need bytes at the changed bay's end: r is that block, and the bays with it
+-- a bay whose sum reaches need, changed by f, with a new fixed block of need bytes at its end: r is that block, and the bays with it
 pub record FoundHigh (need p end : ℕ) (f : List Cell → List Cell) (s : Bays (List Cell) Fixed) (r : Fixed × Bays (List Cell) Fixed) (a e sum tail : ℕ) : Type 0 where
   pub before : List Block
   pub bay : List Cell

@@ -46,12 +46,7 @@ fitAt need p b = cond (leb need (baySum b)) (bayAt p b) noBay
 abbrev pub orBay : BayN → BayN → BayN
 orBay a b = cond (a .found) a b
 
--- the lowest bay whose sum reaches need, the first bay beginning at p
-abbrev pub lowBay : ℕ → ℕ → Bays (List Cell) Fixed → BayN
-lowBay need p (last b) = fitAt need p b
-lowBay need p (more b x s) = cond (leb need (baySum b)) (bayAt p b) (lowBay need (x .place + fsize x) s)
-
--- the highest such bay
+-- the highest bay whose sum reaches need, the first bay beginning at p
 abbrev pub highBay : ℕ → ℕ → Bays (List Cell) Fixed → BayN
 highBay need p (last b) = fitAt need p b
 highBay need p (more b x s) = orBay (highBay need (x .place + fsize x) s) (fitAt need p b)

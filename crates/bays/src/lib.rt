@@ -9,7 +9,7 @@ ghost use lib.ListN.{length, drop};
 ghost use lib.Dec.{eqb};
 ghost use Rattle.block_type.specs.Limits.{freeCode, longestZone};
 ghost use Rattle.access.specs.row.Row.{Row};
-ghost use Rattle.bays.specs.Places.{baysAt, bayN, lowBay, highBay, ownBay, betterBay};
+ghost use Rattle.bays.specs.Places.{baysAt, bayN, highBay, ownBay, betterBay};
 ghost use Rattle.bays.specs.Read.{Read};
 
 // A bay by its first offset, its end, its sum, and the free bytes at its end.
@@ -22,7 +22,7 @@ pub struct Bay {
 }
 
 // What a block of type k and n bytes adds to its bay's sum.
-fn free_part(k: u8, n: usize) -> usize
+pub fn free_part(k: u8, n: usize) -> usize
     ensures { λ r. ⌜ (r ≡ cond (eqb k freeCode) n 0) × (r ≤ n) ⌝ }
 {
     if k == BlockType::FREE_CODE {
@@ -67,34 +67,6 @@ pub fn read_bay(z: &[u8], p: usize) -> BayRead
         sum,
         tail,
         next: at + 1,
-    }
-}
-
-// The lowest bay whose sum reaches need.
-pub fn find_low(z: &[u8], first: usize, need: usize) -> Bay
-    requires { ⌜ Row (drop first (now z)) × (first ≤ length (now z)) × (length (now z) ≤ longestZone) ⌝ }
-    ensures { λ r. ⌜ bayN (r .found) (r .start) (r .end) (r .sum) (r .tail) ≡ lowBay need first (baysAt (now (z .entry)) first) ⌝ }
-{
-    let mut at = first;
-    while at <= z.len() {
-        let b = read_bay(z, at);
-        if need <= b.sum {
-            return Bay {
-                found: true,
-                start: at,
-                end: b.end,
-                sum: b.sum,
-                tail: b.tail,
-            };
-        }
-        at = b.next;
-    }
-    Bay {
-        found: false,
-        start: 0,
-        end: 0,
-        sum: 0,
-        tail: 0,
     }
 }
 

@@ -117,12 +117,12 @@ module _ (s₀ : Structure) (z : List ℕ) (at best : ℕ) (g : Going s₀ z at 
   b = r .bay
 
   pub going-bay : ZoneBay z at end
-  going-bay = go g (r .cut)
+  going-bay = go g (r .between .cut)
     where
       go : Going s₀ z at best → Cut z at next b → ZoneBay z at end
       go (through k p m) c = absurd (omega arith)
-      go (under-way s pre u x c p m) (at-end q long n) = rw (r .end-is) (its-bay s (x .valid) z (x .image) at pre [] b (at-last x b (sym (stands-bays x) ∙ q)) (x .place))
-      go (under-way s pre u x c p m) (at-fixed f q place n lim) = rw (r .end-is) (its-bay s (x .valid) z (x .image) at pre _ b (at-more x b f _ (sym (stands-bays x) ∙ q)) (x .place))
+      go (under-way s pre u x c p m) (at-end q long n) = rw (r .between .end-is) (its-bay s (x .valid) z (x .image) at pre [] b (at-last x b (sym (stands-bays x) ∙ q)) (x .place))
+      go (under-way s pre u x c p m) (at-fixed f q place n lim) = rw (r .between .end-is) (its-bay s (x .valid) z (x .image) at pre _ b (at-more x b f _ (sym (stands-bays x) ∙ q)) (x .place))
 
   module _ (z′ : List ℕ) (best′ : ℕ) (eb : best′ ≡ max best sum) where
     -- z′ has the bay compacted, whatever it took
@@ -130,7 +130,7 @@ module _ (s₀ : Structure) (z : List ℕ) (at best : ℕ) (g : Going s₀ z at 
     Packs = (s : Structure) (pre post : List Block) → Valid s → z ≡ encode s → s .blocks ≡ pre ++ (map cell b ++ post) → at ≡ start s + sizes pre → z′ ≡ encode (record { chain = s .chain; blocks = pre ++ (map cell (compactBay b) ++ post) })
 
     turn : Packs → Going s₀ z′ next best′
-    turn pk = go g (r .cut)
+    turn pk = go g (r .between .cut)
       where
         go : Going s₀ z at best → Cut z at next b → Going s₀ z′ next best′
         go (through k p m) c = absurd (omega arith)
@@ -165,7 +165,7 @@ module _ (s₀ : Structure) (z : List ℕ) (at best : ℕ) (g : Going s₀ z at 
       where
         go : (t : Bool) → eqb sum tail ≡ t → z′ ≡ cond t z (settled z at (compactBay (bayCells z at end))) → Going s₀ z′ next best′
         go true q y = turn (λ s pre post v e parts place. y ∙ stays s v z e at pre post b parts place (sym (r .sum-is) ∙ eqb-true sum tail q ∙ r .tail-is))
-        go false q y = turn (λ s pre post v e parts place. packs s v z e at pre post b parts place z′ (rw (r .end-is) at y))
+        go false q y = turn (λ s pre post v e parts place. packs s v z e at pre post b parts place z′ (rw (r .between .end-is) at y))
 
 -- ---- the code's own test
 

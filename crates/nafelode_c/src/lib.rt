@@ -88,6 +88,7 @@ pub extern "C" fn nafelode_initialize(zone: &mut [u8], length: u32, masters: u32
 }
 
 // Allocates a relocatable block for c data bytes, which are zero. The block may slide; its handle stays.
+// Takes the smallest free block of its bay that is big enough, the lowest of equals; this call slides blocks only where none is.
 // Value: the handle.
 // Refused: 1 zone not well-formed, 3 c above 32760, 4 no free handle, 5 no space.
 #[no_mangle]
@@ -144,6 +145,7 @@ pub extern "C" fn nafelode_free_pointer(zone: &mut [u8], pointer: u32) -> Told
 }
 
 // Gives the block of a handle room for c data bytes. The handle and the common first bytes stay, added bytes are zero.
+// Where it moves to another bay, it takes its place there as a new block does.
 // Value: 0.
 // Refused: 1 zone not well-formed, 6 handle not live, 3 c above 32760, 5 no space.
 #[no_mangle]

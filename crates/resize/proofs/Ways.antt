@@ -78,4 +78,4 @@ module _ (z : List ℕ) (h a b at n st e : ℕ) (t : Bool) (way : Way) (x : WayI
   pub other-done : way ≡ OtherBay → (y : List ℕ) → y ≡ encode (relocated h a (decodeZone z)) → y ≡ encode (resizedTo h a (decodeZone z))
   other-done q y ey =
       let r = relocate-of (act-other q) in
-      ey ∙ ap encode (sym (moves z h a (lt-leb (a - length (dataIn z h)) (ownSum items baySum h (baysOf (decodeZone z))) (omega (arith, r .tight, r .grows .is-b)))))
+      ey ∙ ap encode (sym (moves z h a (lt-leb (a - length (dataIn z h)) (ownSum items baySum h (baysOf (decodeZone z))) (omega (arith, r .lacking, r .grows .is-b)))))

@@ -24,7 +24,7 @@ use Rattle.access.proofs.locate.Live.{place-gone, place-live}
 use Rattle.resize.specs.reshape.Own.{Known}
 use Rattle.resize.proofs.reshape.Plan.{here-of, here-reached}
 use Rattle.call_laws.specs.Frame.{zoneAt, PlannedIn, refuses, goes}
-use Rattle.resize.specs.Ready.{noRoom, WayIn, here, Tight, Chosen, lacks, found, ReadyIn}
+use Rattle.resize.specs.Ready.{noRoom, WayIn, here, Lacking, Chosen, lacks, found, ReadyIn}
 use Rattle.resize.specs.declared.Way.the-variants.{InPlace}
 use Rattle.structure.specs.IsZone.{IsZone}
 
@@ -87,6 +87,6 @@ module _ (z : List ℕ) (h c : ℕ) where
             in-bays 0 a (WayIn z h a b place f st en t InPlace)
             (found refl (ap (λ (u : Bool). not u && below (maxS baySum (baysOf s)) (relocHeader + a)) (here-reached z h place b f a x)) refl (here x))
 
-        pub in-tight : IsZone z → b ≡ length (dataIn z h) → (first : ℕ) → first ≡ firstField z → b + f < a → Tight z h first place b a
-        in-tight i eb first ef m =
+        pub in-lacking : IsZone z → b ≡ length (dataIn z h) → (first : ℕ) → first ≡ firstField z → b + f < a → Lacking z h first place b a
+        in-lacking i eb first ef m =
             record { zone = i; is-first = ef; live = live; is-b = eb; behind = f; known = k; more = m; four = omega (arith, ea); high = omega (arith, ea) }

@@ -1,4 +1,3 @@
-pub mod Slots
 pub mod Choice
 pub mod Beside
 pub mod Moved
@@ -9,5 +8,4 @@ pub mod Carrying
 pub mod Carried
 pub mod AsZone
 pub mod Zone
-pub mod Target
 pub mod Plan

@@ -45,7 +45,7 @@ abbrev pub Going : List ℕ → ℕ → Plan → Type 0
 Going z h p = WayIn z h (p .a) (p .b) (p .at) (p .size) (p .start) (p .end) (p .tidy) (p .way)
 
 -- the block of the live handle h, whose b data bytes lie at `at`, has no room for a where it stands
-pub record Tight (z : List ℕ) (h first at b a : ℕ) : Type 0 where
+pub record Lacking (z : List ℕ) (h first at b a : ℕ) : Type 0 where
   pub zone : IsZone z
   pub is-first : first ≡ firstField z
   pub live : placeIn z h ≡ 0 → ⊥
@@ -56,7 +56,7 @@ pub record Tight (z : List ℕ) (h first at b a : ℕ) : Type 0 where
   pub four : a % 4 ≡ 0
   pub high : a ≤ relocLimit
 
--- the plan of those: the refusal, or a way
+-- its plan: the refusal, or a way
 pub data Chosen (z : List ℕ) (h a number a′ : ℕ) (Goes : Type 0) : Type 0 where
   lacks : number ≡ 5 → noRoom z h a ≡ true → Chosen z h a number a′ Goes
   found : number ≡ 0 → noRoom z h a ≡ false → a′ ≡ a → Goes → Chosen z h a number a′ Goes

@@ -1,3 +1,2 @@
-pub mod Slot
 pub mod Move
 pub mod Relocate

@@ -10,7 +10,7 @@ ghost use Rattle.structure.specs.Structure.{encode, decodeZone};
 ghost use Rattle.calls.specs.Calls.{told, resize};
 ghost use Rattle.zone.specs.Call.{result, call};
 ghost use Rattle.call_laws.specs.Frame.{PlannedIn, Planned};
-ghost use Rattle.resize.specs.Ready.{resizedTo, Tight, Chosen, Going, Ready};
+ghost use Rattle.resize.specs.Ready.{resizedTo, Lacking, Chosen, Going, Ready};
 use block_type::BlockType;
 use calls::Told;
 ghost use Rattle.block_type.specs.Limits.{argumentRange};
@@ -57,7 +57,7 @@ fn no_plan(number: u32) -> Plan
 
 // The plan where there is no room right behind the block, whose b data bytes lie at `at`.
 fn plan_bays(z: &[u8], h: usize, first: usize, at: usize, b: usize, a: usize) -> Plan
-    requires { ⌜ Tight (now z) h first at b a ⌝ }
+    requires { ⌜ Lacking (now z) h first at b a ⌝ }
     ensures { λ r. ⌜ Chosen (now (z .entry)) h a (r .number) (r .a) (Going (now (z .entry)) h r) ⌝ }
 {
     let own = bays::find_own(z, first, at - BlockType::RELOCATABLE_HEADER);
@@ -80,17 +80,15 @@ fn plan_bays(z: &[u8], h: usize, first: usize, at: usize, b: usize, a: usize) ->
         };
     }
     let need = BlockType::RELOCATABLE_HEADER + a;
-    let low = bays::find_low(z, first, need);
-    let found = low.found;
-    let start = low.start;
-    let end = low.end;
-    let sum = low.sum;
+    let r = place::find_room(z, first, need);
+    let found = r.found;
     if found {
-        let s = place::find_room(z, need, start, end, sum);
         let way = Way::OtherBay;
-        let at = s.at;
-        let size = s.size;
-        let tidy = s.tidy;
+        let start = r.start;
+        let end = r.end;
+        let at = r.at;
+        let size = r.size;
+        let tidy = r.tidy;
         return Plan {
             number: 0,
             len: 0,

@@ -1,6 +1,7 @@
 pub mod Holes
+pub mod Walk
 pub mod Cut
 pub mod Placed
 pub mod RoomLaws
-pub mod SiteLaws
+pub mod LowestRoom
 pub mod InBay

@@ -1,75 +1,152 @@
-// A movable block's place in a bay: the free block that is chosen for it, and the writes that cut it out of that.
+// A movable block's place: the lowest bay whose sum reaches its size, the free block that is chosen in it, and the writes that cut the block out
+// of that.
+use access::row;
 use block_type::BlockType;
 use zone_check::block_check;
 ghost use mathlib.Core.Path.{_≡_};
 ghost use mathlib.Core.List.{[], _∷_};
-ghost use Prim.Native.Nat.{_-_, _≤_};
-ghost use lib.ListN.{length};
+ghost use Prim.Native.Nat.{_-_, _<_, _≤_};
+ghost use lib.ListN.{length, drop};
 ghost use Rattle.bigendian.specs.BigEndian.{overwrite};
 ghost use Rattle.block_type.specs.Limits.{longestZone};
-ghost use Rattle.bay.specs.Bay.{held, gap, holes, choose};
-ghost use Rattle.bay.specs.Sound.{bytesOf, cellsOf, IsBay};
-ghost use Rattle.room.specs.place.Hole.{holeN, holeAt};
+ghost use Rattle.access.specs.row.Row.{Row};
+ghost use Rattle.bay.specs.Bay.{held, gap};
+ghost use Rattle.bay.specs.Sound.{bytesOf};
+ghost use Rattle.bays.specs.Places.{baysAt};
+ghost use Rattle.room.specs.place.Hole.{holeN, holeIf, tighterN};
 ghost use Rattle.room.specs.place.Fit.{blank, Fit};
-ghost use Rattle.room.specs.place.Room.{BayFor, RoomFor};
+ghost use Rattle.room.specs.place.Room.{siteN, siteBy, lowSite, ReadFor};
 
-pub struct Hole {
-    pub found: bool,
-    pub at: usize,
-    pub size: usize,
+struct Hole {
+    found: bool,
+    at: usize,
+    size: usize,
 }
 
-// The free block of a bay that is chosen for need bytes, by its offset in the bay.
-pub fn find_hole(s: &[u8], need: usize) -> Hole
-    requires { ⌜ IsBay (now s) × (length (now s) ≤ longestZone) ⌝ }
-    ensures { λ r. ⌜ holeN (r .found) (r .at) (r .size) ≡ holeAt (choose need (holes (cellsOf (now (s .entry))))) ⌝ }
+// The n free bytes at `at` in the place of w, where they are at least need bytes and tighter than w.
+fn tighter(w: Hole, need: usize, n: usize, at: usize) -> Hole
+    ensures { λ r. ⌜ holeN (r .found) (r .at) (r .size) ≡ tighterN (holeN (w .found) (w .at) (w .size)) (holeIf need n at) ⌝ }
 {
-    let mut at = 0;
-    while at < s.len() {
-        let n = slide::step(s, at);
-        let k = block_check::type_at(s, at);
-        if (k == BlockType::FREE_CODE) & (need <= n) {
+    let found = w.found;
+    let size = w.size;
+    if need <= n {
+        if !found | (n < size) {
             return Hole {
                 found: true,
                 at,
                 size: n,
             };
         }
-        at += n;
     }
-    Hole {
+    w
+}
+
+// A bay that has been walked over, as by bays::read_bay, with the free block of it that is chosen.
+struct RoomRead {
+    end: usize,
+    sum: usize,
+    next: usize,
+    found: bool,
+    at: usize,
+    size: usize,
+}
+
+// The walk over the bay that begins at p: one pass for its sum and for the free block that is chosen for need bytes.
+fn read_room(z: &[u8], p: usize, need: usize) -> RoomRead
+    requires { ⌜ Row (drop p (now z)) × (p ≤ length (now z)) × (length (now z) ≤ longestZone) × (0 < need) ⌝ }
+    ensures { λ r. ⌜ ReadFor (now (z .entry)) p need (r .end) (r .sum) (r .next) (r .found) (r .at) (r .size) ⌝ }
+{
+    let mut best = Hole {
         found: false,
         at: 0,
         size: 0,
+    };
+    let mut at = p;
+    let mut sum = 0;
+    while at < z.len() {
+        let n = row::step(z, at);
+        let k = block_check::type_at(z, at);
+        if k == BlockType::FIXED_CODE {
+            return RoomRead {
+                end: at,
+                sum,
+                next: at + n,
+                found: best.found,
+                at: best.at,
+                size: best.size,
+            };
+        }
+        // 0 for a block that is not free: less than any need
+        let free = bays::free_part(k, n);
+        best = tighter(best, need, free, at);
+        sum += free;
+        at += n;
+    }
+    RoomRead {
+        end: at,
+        sum,
+        next: at + 1,
+        found: best.found,
+        at: best.at,
+        size: best.size,
     }
 }
 
+// A bay, and the free block in it for a new block: after compacting where `tidy` says so.
 pub struct Site {
+    pub found: bool,
+    pub start: usize,
+    pub end: usize,
     pub at: usize,
     pub size: usize,
     pub tidy: bool,
 }
 
-// Where need bytes go in the bay from start to end: the free block that is chosen, or the one that compacting leaves.
-pub fn find_room(z: &[u8], need: usize, start: usize, end: usize, sum: usize) -> Site
-    requires { ⌜ BayFor (now z) need start end sum ⌝ }
-    ensures { λ r. ⌜ RoomFor (now (z .entry)) need start end (r .at) (r .size) (r .tidy) ⌝ }
+// In the bay from start to end: the free block that is chosen, or else the one that compacting leaves.
+fn site_in(start: usize, end: usize, sum: usize, found: bool, at: usize, size: usize) -> Site
+    requires { ⌜ sum ≤ end ⌝ }
+    ensures { λ r. ⌜ siteN (r .found) (r .start) (r .end) (r .at) (r .size) (r .tidy) ≡ siteBy start end sum (holeN found at size) ⌝ }
 {
-    let hole = find_hole(&z[start..end], need);
-    let found = hole.found;
-    let at = hole.at;
-    let size = hole.size;
     if found {
         return Site {
-            at: start + at,
+            found: true,
+            start,
+            end,
+            at,
             size,
             tidy: false,
         };
     }
     Site {
+        found: true,
+        start,
+        end,
         at: end - sum,
         size: sum,
         tidy: true,
+    }
+}
+
+// The lowest bay whose sum reaches need, and where need bytes go in it.
+pub fn find_room(z: &[u8], first: usize, need: usize) -> Site
+    requires { ⌜ Row (drop first (now z)) × (first ≤ length (now z)) × (length (now z) ≤ longestZone) × (0 < need) ⌝ }
+    ensures { λ r. ⌜ siteN (r .found) (r .start) (r .end) (r .at) (r .size) (r .tidy) ≡ lowSite need first (baysAt (now (z .entry)) first) ⌝ }
+{
+    let mut start = first;
+    while start <= z.len() {
+        let b = read_room(z, start, need);
+        if need <= b.sum {
+            return site_in(start, b.end, b.sum, b.found, b.at, b.size);
+        }
+        start = b.next;
+    }
+    Site {
+        found: false,
+        start: 0,
+        end: 0,
+        at: 0,
+        size: 0,
+        tidy: false,
     }
 }
 

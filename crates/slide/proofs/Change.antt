@@ -21,7 +21,7 @@ pub record Kept (a n : ℕ) (cs : List Cell) : Type 0 where
   pub size : baySize cs ≡ n
   pub low : Low a cs
 
-pub part-size : (z : List ℕ) (a e : ℕ) → ZoneBay z a e → baySize (bayCells z a e) ≡ e - a
+part-size : (z : List ℕ) (a e : ℕ) → ZoneBay z a e → baySize (bayCells z a e) ≡ e - a
 part-size z a e b =
     sym (bytes-long (bayCells z a e) (bay-sound _ (b .bay))) ∙ ap length (bay-bytes _ (b .bay)) ∙ simp (length-take, length-drop) (omega (arith, b .order, b .inside))
 

@@ -15,7 +15,7 @@ ghost use Rattle.slide.specs.ZoneBay.{setAll, IsLow, ZoneBay, bayCells, 
 ghost use Rattle.slide.specs.Masters.{Owner, Turned};
 
 // The size of the block at p, with what a walk relies on.
-pub fn step(s: &[u8], p: usize) -> usize
+fn step(s: &[u8], p: usize) -> usize
     requires { ⌜ IsBay (drop p (now s)) × (p < length (now s)) ⌝ }
     ensures { λ r. ⌜ Stepped (now (s .entry)) p r ⌝ }
 {

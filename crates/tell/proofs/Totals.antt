@@ -54,18 +54,18 @@ met-none z first l = record { all = omega (arith, left-in (sumS baySum) z first 
 
 module _ (z : List ℕ) (p end sum tail next : ℕ) (r : Read z p end sum tail next) where
   sum-within : p + sum ≤ end
-  sum-within = omega (arith, r .end-is, r .sum-is, bsize-split (r .bay))
+  sum-within = omega (arith, r .between .end-is, r .sum-is, bsize-split (r .bay))
 
   pub total-within : (total : ℕ) → total ≤ p → total + sum ≤ next
-  total-within total l = omega (arith, sum-within, end-next (r .cut) (r .end-is))
+  total-within total l = omega (arith, sum-within, end-next (r .between .cut) (r .between .end-is))
 
   pub total-word : (total : ℕ) → total ≤ p → length z ≤ longestZone → Fits w64 (total + sum)
-  total-word total l s = record { fits = omega (arith, sum-within, r .inside) }
+  total-word total l s = record { fits = omega (arith, sum-within, r .between .inside) }
 
   pub met-more : (first total best best′ : ℕ) → p ≤ length z → Met z first p total best → best′ ≡ max best sum → Met z first next (total + sum) best′
   met-more first total best best′ l m e = record {
-    all = omega (arith, m .all, left-in (sumS baySum) z p l, cut-sum z p next (r .bay) (r .cut), r .sum-is);
-    most = omega (arith, m .most, left-in (maxS baySum) z p l, cut-most z p next (r .bay) (r .cut), r .sum-is);
+    all = omega (arith, m .all, left-in (sumS baySum) z p l, cut-sum z p next (r .bay) (r .between .cut), r .sum-is);
+    most = omega (arith, m .most, left-in (maxS baySum) z p l, cut-most z p next (r .bay) (r .between .cut), r .sum-is);
   }
 
 pub met-all : (z : List ℕ) (first at total best : ℕ) → length z < at → Met z first at total best → SumsFrom z first 0 total best

@@ -13,7 +13,7 @@ use Rattle.format.specs.WellFormed.{offsets}
 use Rattle.block_type.specs.Limits.{masterSize, typeUnit, zoneHeader, fixedCode, freeHeader}
 use Rattle.bigendian.specs.BigEndian.{toBE}
 use Rattle.structure.specs.Structure as Shape
-use Rattle.structure.specs.Structure.{Block, fixed, count, len, fixedTag, encodeBlock, placeOf, headOf, value, words, join, encode}
+use Rattle.structure.specs.Structure.{Block, fixed, count, fixedTag, encodeBlock, placeOf, headOf, value, words, join, encode}
 use Rattle.calls.specs.Bays.{Bays, last, more, orElse}
 use Rattle.bay.specs.Counted as Counted
 use Rattle.bay.specs.Counted.{live}

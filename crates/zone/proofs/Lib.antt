@@ -1,3 +1,4 @@
+pub mod Placing
 pub mod BaysLaws
 pub mod Sums
 pub mod Own

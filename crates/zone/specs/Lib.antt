@@ -5,6 +5,7 @@ pub mod View
 pub mod Census
 pub mod Walker
 pub mod Promise
+pub mod OneChoice
 pub mod RosterSays
 pub mod Hardware
 pub mod Claim

@@ -46,7 +46,7 @@ module _ (s : List ℕ) (c number l need h next a e at n : ℕ) (t : Bool)
       let d = decodeZone (take l s) in
       record {
         passed = is-ready .passed (length s);
-        answer = ap (λ (ls : List ℕ). told 0 (top ls)) (call-goes .in-bay .is-chain);
+        answer = ap (λ (ls : List ℕ). told 0 (top ls)) (call-goes .room-in .is-chain);
         line = ap (λ (i : Item). record { chain = rest (d .chain); blocks = flatten (placeLow i (baysOf (decodeZone (take l s)))) }) (new-is (top (d .chain)) c need (is-ready .is-need));
       }
 

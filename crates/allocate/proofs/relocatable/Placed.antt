@@ -20,11 +20,13 @@ use Rattle.bays.proofs.At.{at-new}
 use Rattle.slide.specs.ZoneBay.{bayCells, ZoneBay, settled}
 use Rattle.settle.proofs.Compact.{compact-settled}
 use Rattle.settle.proofs.Tidy.{bay-valid, bay-start}
+use Rattle.bays.specs.Slot.{blocksBefore, blocksAfter}
 use Rattle.room.specs.place.Fit.{blank, Size, Fit}
+use Rattle.room.specs.place.Room.{Room}
 use Rattle.room.proofs.place.Cut.{blank-size}
 use Rattle.room.proofs.place.InBay.{fill-fit, fill-placed}
-use Rattle.allocate.specs.relocatable.Ready.{allocated, BayIn, GoingIn}
-use Rattle.allocate.proofs.relocatable.Bay.{whole, valid, is-z, blocks-are, parts, bay-in, cells-in, master}
+use Rattle.allocate.specs.relocatable.Ready.{allocated, RoomIn, GoingIn}
+use Rattle.allocate.proofs.relocatable.Bay.{whole, valid, is-z, blocks-are, size-is, changed, parts, bay-in, cells-in, master}
 
 -- ---- in a free block of a bay, by offsets
 
@@ -44,8 +46,8 @@ module _ (s : Structure) (v : Valid s) (before after : List Block) (bay : List C
 -- ---- in the zone
 
 module _ (z : List ℕ) (need h next a e at n : ℕ) (t : Bool) (x : GoingIn z need h next a e at n t) where
-  abbrev b : BayIn z need h a e (x .sum)
-  b = x .in-bay
+  abbrev b : RoomIn z need h a e at n t
+  b = x .room-in
 
   abbrev s : Structure
   s = decodeZone z
@@ -54,13 +56,16 @@ module _ (z : List ℕ) (need h next a e at n : ℕ) (t : Bool) (x : GoingIn z n
   item = blank need h
 
   abbrev before : List Block
-  before = b .found .before
+  before = blocksBefore (b .lowest .slot)
 
   abbrev after : List Block
-  after = b .found .after
+  after = blocksAfter (b .lowest .slot)
 
   abbrev bay : List Cell
-  bay = b .found .bay
+  bay = b .lowest .bay
+
+  room : Room item bay a at n t
+  room = b .lowest .room item (size-is b)
 
   v : Valid s
   v = valid b
@@ -71,38 +76,35 @@ module _ (z : List ℕ) (need h next a e at n : ℕ) (t : Bool) (x : GoingIn z n
   pub ask-head : zoneHeader ≤ h
   ask-head = master b .0
 
-  size-is : itemSize item ≡ need
-  size-is = blank-size need h (b .size .low)
-
-  fits : need ≤ x .room .hole .size
-  fits = omega (arith, size-is, x .room .fits)
+  fits : need ≤ room .hole .size
+  fits = omega (arith, size-is b, room .fits)
 
   ok : Sound1 (held item)
-  ok = (rw size-is (b .size .four), omega (arith, size-is, b .size .high), omega (arith, master b .1, v .few))
+  ok = (rw (size-is b) (b .size .four), omega (arith, size-is b, b .size .high), omega (arith, master b .1, v .few))
 
-  place-is : at ≡ start s + sizes before + baySize (x .room .hole .before)
-  place-is = omega (arith, x .room .place, b .found .numbers .start-is)
+  place-is : at ≡ start s + sizes before + baySize (room .hole .before)
+  place-is = omega (arith, room .place, b .lowest .start-is)
 
   -- what is left is what the call on bays leaves
-  left : encode (record { chain = b .ks; blocks = before ++ (map cell (fill item (x .room .hole)) ++ after) }) ≡ encode (allocated need s)
+  left : encode (record { chain = b .ks; blocks = before ++ (map cell (fill item (room .hole)) ++ after) }) ≡ encode (allocated need s)
   left =
-      ap (λ (cs : List Cell). encode (record { chain = b .ks; blocks = before ++ (map cell cs ++ after) })) (sym (x .room .filled))
-      ∙ ap (λ (bs : List Block). encode (record { chain = b .ks; blocks = bs })) (sym (at-new (b .found .at)))
+      ap (λ (cs : List Cell). encode (record { chain = b .ks; blocks = before ++ (map cell cs ++ after) })) (sym (room .filled))
+      ∙ ap (λ (bs : List Block). encode (record { chain = b .ks; blocks = bs })) (sym (at-new (changed b)))
       ∙ ap (λ (ls : List ℕ). encode (record { chain = rest ls; blocks = flatten (placeLow (blank need (top ls)) (baysOf (decodeZone z))) })) (sym (b .is-chain))
 
   -- in the bay as it is
   module _ (f : t ≡ false) where
-    is-there : bay ≡ x .room .hole .before ++ (free (x .room .hole .size) ∷ x .room .hole .after)
-    is-there = subst (λ (u : Bool). cond u (compactBay bay) bay ≡ x .room .hole .before ++ (free (x .room .hole .size) ∷ x .room .hole .after)) f (x .room .is)
+    is-there : bay ≡ room .hole .before ++ (free (room .hole .size) ∷ room .hole .after)
+    is-there = subst (λ (u : Bool). cond u (compactBay bay) bay ≡ room .hole .before ++ (free (room .hole .size) ∷ room .hole .after)) f (room .is)
 
     pub fit-there : Fit z at n need h
     fit-there =
-        fit-at s v before after bay (parts b) (x .room .hole) is-there need h (b .ks) (b .is-chain) (b .size) fits z (sym (is-z b)) at n place-is (x .room .size)
+        fit-at s v before after bay (parts b) (room .hole) is-there need h (b .ks) (b .is-chain) (b .size) fits z (sym (is-z b)) at n place-is (room .size)
 
     pub done-there : (y : List ℕ) → y ≡ settled (overwrite z chainAt (toBE 2 next)) at (held (blank need h) ∷ gap (n - need) []) → y ≡ encode (allocated need (decodeZone z))
     done-there y ey =
         ey
-        ∙ done-at s v before after bay (parts b) (x .room .hole) is-there need h (b .ks) (b .is-chain) (b .size) fits z (sym (is-z b)) at n place-is (x .room .size)
+        ∙ done-at s v before after bay (parts b) (room .hole) is-there need h (b .ks) (b .is-chain) (b .size) fits z (sym (is-z b)) at n place-is (room .size)
         ok next (x .is-next)
         ∙ left
 
@@ -111,28 +113,28 @@ module _ (z : List ℕ) (need h next a e at n : ℕ) (t : Bool) (x : GoingIn z n
     abbrev s₁ : Structure
     s₁ = record { chain = s .chain; blocks = before ++ (map cell (compactBay bay) ++ after) }
 
-    is-made : compactBay bay ≡ x .room .hole .before ++ (free (x .room .hole .size) ∷ x .room .hole .after)
-    is-made = subst (λ (u : Bool). cond u (compactBay bay) bay ≡ x .room .hole .before ++ (free (x .room .hole .size) ∷ x .room .hole .after)) f (x .room .is)
+    is-made : compactBay bay ≡ room .hole .before ++ (free (room .hole .size) ∷ room .hole .after)
+    is-made = subst (λ (u : Bool). cond u (compactBay bay) bay ≡ room .hole .before ++ (free (room .hole .size) ∷ room .hole .after)) f (room .is)
 
     v₁ : Valid s₁
-    v₁ = bay-valid s v before after bay (b .found .at) (blocks-are b)
+    v₁ = bay-valid s v before after bay (changed b) (blocks-are b)
 
-    place₁ : at ≡ start s₁ + sizes before + baySize (x .room .hole .before)
-    place₁ = omega (arith, place-is, bay-start s v before after bay (b .found .at) (blocks-are b))
+    place₁ : at ≡ start s₁ + sizes before + baySize (room .hole .before)
+    place₁ = omega (arith, place-is, bay-start s v before after bay (changed b) (blocks-are b))
 
     bytes₁ : z₁ ≡ encode s₁
     bytes₁ =
         e₁ ∙ ap₂ (λ (y : List ℕ) (cs : List Cell). settled y a (compactBay cs)) (sym (is-z b)) (cells-in b)
-        ∙ ap (λ (o : ℕ). settled (encode s) o (compactBay bay)) (b .found .numbers .start-is)
+        ∙ ap (λ (o : ℕ). settled (encode s) o (compactBay bay)) (b .lowest .start-is)
         ∙ compact-settled s v before after bay (parts b)
 
     pub fit-made : Fit z₁ at n need h
-    fit-made = fit-at s₁ v₁ before after (compactBay bay) refl (x .room .hole) is-made need h (b .ks) (b .is-chain) (b .size) fits z₁ bytes₁ at n place₁ (x .room .size)
+    fit-made = fit-at s₁ v₁ before after (compactBay bay) refl (room .hole) is-made need h (b .ks) (b .is-chain) (b .size) fits z₁ bytes₁ at n place₁ (room .size)
 
     pub done-made : (y : List ℕ) → y ≡ settled (overwrite z₁ chainAt (toBE 2 next)) at (held (blank need h) ∷ gap (n - need) []) → y ≡ encode (allocated need (decodeZone z))
     done-made y ey =
         ey
-        ∙ done-at s₁ v₁ before after (compactBay bay) refl (x .room .hole) is-made need h (b .ks) (b .is-chain) (b .size) fits z₁ bytes₁ at n place₁ (x .room .size) ok next (x .is-next)
+        ∙ done-at s₁ v₁ before after (compactBay bay) refl (room .hole) is-made need h (b .ks) (b .is-chain) (b .size) fits z₁ bytes₁ at n place₁ (room .size) ok next (x .is-next)
         ∙ left
 
   pub below-end : h + masterSize ≤ longestZone

@@ -1,5 +1,5 @@
--- The plan in a bay that has been found.
-use mathlib.Core.Path.{_≡_, refl, sym, ap, _∙_, subst}
+-- The plan in the room that has been found.
+use mathlib.Core.Path.{_≡_, refl, ap, _∙_}
 use mathlib.Core.Bool.{Bool}
 use mathlib.Core.List.{List}
 use Prim.Native.Nat.{ℕ, suc, _+_, _≤_}
@@ -16,14 +16,10 @@ use Rattle.structure.specs.Structure.{Structure, count, start, headOf, nextOf, 
 use Rattle.structure.proofs.Table.{value-is, start-is}
 use Rattle.structure.proofs.Round.{offset-is, place-none}
 use Rattle.settle.proofs.surgery.Sound.{handle-once}
-use Rattle.bay.specs.Bay.{Cell, baySum}
-use Rattle.room.specs.place.Fit.{blank}
-use Rattle.room.specs.place.Room.{Room, BayFor, RoomFor}
-use Rattle.room.proofs.place.Cut.{blank-size}
-use Rattle.allocate.specs.relocatable.Ready.{BayIn, GoingIn}
-use Rattle.allocate.proofs.relocatable.Bay.{whole, valid, bay-in, cells-in, master}
+use Rattle.allocate.specs.relocatable.Ready.{RoomIn, GoingIn}
+use Rattle.allocate.proofs.relocatable.Bay.{whole, valid, master}
 
-module _ (z : List ℕ) (need h a e sum : ℕ) (x : BayIn z need h a e sum) where
+module _ (z : List ℕ) (need h a e at n : ℕ) (t : Bool) (x : RoomIn z need h a e at n t) where
   abbrev s : Structure
   s = decodeZone z
 
@@ -46,13 +42,5 @@ module _ (z : List ℕ) (need h a e sum : ℕ) (x : BayIn z need h a e sum) wher
       let n : nextOf h (s .chain) ≡ headOf (x .ks) = ap (nextOf h) (x .is-chain) ∙ (rw (eq-eqb h h refl)) in
       omega (arith, en, value-is z (whole x) h is-master, place-none h (start s) (s .blocks) (omega (arith, handle-once s (valid x) h, in-chain)), n)
 
-  pub ask-bay : BayFor z need a e sum
-  ask-bay = record { bay = bay-in x; is-sum = x .found .numbers .sum-is ∙ ap baySum (sym (cells-in x)); enough = omega (arith, x .found .enough, x .found .numbers .sum-is, blank-size need h (x .size .low)) }
-
-  pub going : (next at n : ℕ) (t : Bool) → next ≡ fromBE (slice z h 4) → RoomFor z need a e at n t → GoingIn z need h next a e at n t
-  going next at n t en r = record {
-    sum = sum;
-    in-bay = x;
-    is-next = next-is next en;
-    room = subst (λ (cs : List Cell). Room (blank need h) cs a at n t) (cells-in x) (r .room (blank need h) (blank-size need h (x .size .low)));
-  }
+  pub going : (next : ℕ) → next ≡ fromBE (slice z h 4) → GoingIn z need h next a e at n t
+  going next en = record { room-in = x; is-next = next-is next en }

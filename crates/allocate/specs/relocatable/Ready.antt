@@ -3,20 +3,16 @@ use mathlib.Core.Path.{_≡_}
 use mathlib.Core.Bool.{Bool, true}
 use mathlib.Core.List.{List, _∷_}
 use Prim.Native.Nat.{ℕ}
-use lib.ListN.{length}
 use Rattle.block_type.specs.Limits.{relocNeed}
-use Rattle.structure.specs.Structure.{Structure, start, headOf, decodeZone}
-use Rattle.kinds.specs.Kinds.{itemSize}
+use Rattle.structure.specs.Structure.{Structure, headOf, decodeZone}
 use Rattle.calls.specs.Calls.{allocate-relocatable}
 use Rattle.calls.specs.State.{top, rest}
 use Rattle.calls.specs.Table.{refusalOf}
-use Rattle.bay.specs.Bay.{put}
 use Rattle.zone.specs.Group.{flatten}
 use Rattle.zone.specs.Work.{facts, placeLow}
 use Rattle.bays.specs.Places.{baysOf}
-use Rattle.bays.specs.Found.{Found}
 use Rattle.room.specs.place.Fit.{blank, Size}
-use Rattle.room.specs.place.Room.{Room}
+use Rattle.room.specs.place.Room.{LowestRoom}
 use Rattle.call_laws.specs.Frame.{zoneAt}
 use Rattle.allocate.specs.declared.relocatable.Plan.{Plan}
 use Rattle.structure.specs.IsZone.{IsZone}
@@ -25,21 +21,18 @@ use Rattle.structure.specs.IsZone.{IsZone}
 abbrev pub allocated : ℕ → Structure → Structure
 allocated need s = record { chain = rest (s .chain); blocks = flatten (placeLow (blank need (top (s .chain))) (baysOf s)) }
 
--- the chain's head is h, and the bay from a to e with this sum is the one for need bytes
-pub record BayIn (z : List ℕ) (need h a e sum : ℕ) : Type 0 where
+-- the chain's head is h, and need bytes go to `at` in the bay from a to e
+pub record RoomIn (z : List ℕ) (need h a e at n : ℕ) (tidy : Bool) : Type 0 where
   pub zone : IsZone z
   pub ks : List ℕ
   pub is-chain : decodeZone z .chain ≡ h ∷ ks
   pub size : Size need
-  pub tail : ℕ
-  pub found : Found (itemSize (blank need h)) (start (decodeZone z)) (length z) (put (blank need h)) (baysOf (decodeZone z)) (placeLow (blank need h) (baysOf (decodeZone z))) a e sum tail
+  pub lowest : LowestRoom z need a e at n tidy
 
--- and there is room for them at `at`; the chain goes on with `next`
+-- and the chain goes on with `next`
 pub record GoingIn (z : List ℕ) (need h next a e at n : ℕ) (tidy : Bool) : Type 0 where
-  pub sum : ℕ
-  pub in-bay : BayIn z need h a e sum
-  pub is-next : next ≡ headOf (in-bay .ks)
-  pub room : Room (blank need h) (in-bay .found .bay) a at n tidy
+  pub room-in : RoomIn z need h a e at n tidy
+  pub is-next : next ≡ headOf (room-in .ks)
 
 -- the plan p may be carried out in the zone z
 abbrev pub Going : List ℕ → Plan → Type 0

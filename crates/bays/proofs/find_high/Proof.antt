@@ -5,7 +5,7 @@ use native.Mathlib.Omega.{arith}
 use lib.ListN.{length, drop}
 use Rattle.block_type.specs.Limits.{longestZone}
 use Rattle.access.specs.row.Row.{Row}
-use Rattle.bays.specs.Places.{baysAt, bayN, orBay, highBay}
+use Rattle.bays.specs.Places.{baysAt, bayN, noBay, orBay, highBay}
 use Rattle.bays.proofs.Searches.{from, start-high, high-next, high-done}
 use Rattle.bays.proofs.find_high.Statement.{statement}
 use Rattle.bays.proofs.find_high.Tie as tie
@@ -13,7 +13,7 @@ use Rattle.bays.proofs.find_high.Tie as tie
 abbrev Inv-loop : tie.InvT-loop
 Inv-loop z first need best₀ at₀ best at =
     (at ≤ suc (length z)) × (length z ≤ longestZone) × Row (drop at z)
-    × (orBay (from (highBay need) z at) (bayN (best .found) (best .start) (best .end) (best .sum) (best .tail)) ≡ highBay need first (baysAt z first))
+    × (orBay (from noBay (highBay need) z at) (bayN (best .found) (best .start) (best .end) (best .sum) (best .tail)) ≡ highBay need first (baysAt z first))
 
 abbrev μ-loop : tie.MeasureT-loop
 μ-loop z first need best₀ at₀ best at = suc (length z) - at

@@ -17,11 +17,11 @@ abbrev μ-loop : tie.MeasureT-loop
 loop-holds : tie.Need-loop-holds Inv-loop μ-loop
 loop-holds c = (omega arith, omega arith, omega arith, search needs, search seen-none)
 
-returns : tie.Need-returns Inv-loop μ-loop
-returns c = search read-fixed
-
 loop-again : tie.Need-loop-again Inv-loop μ-loop
 loop-again c = (omega arith, omega arith, omega arith, search needs, search seen-more)
+
+returns : tie.Need-returns Inv-loop μ-loop
+returns c = search read-fixed
 
 returns-2 : tie.Need-returns-2 Inv-loop μ-loop
 returns-2 c = search read-end

@@ -1,5 +1,6 @@
+use native.Mathlib.Omega.{arith}
 use Rattle.access.proofs.row.Zone.{zone-row, zone-start, zone-short}
-use Rattle.resize.proofs.Bays.{ask-low, own-way, other-bay, other-way, other-none}
+use Rattle.resize.proofs.Bays.{ask-low, own-way, other-way, other-none}
 use borrow.Author.Needs.{needs}
 use Rattle.resize.proofs.plan_bays.Statement.{statement}
 use Rattle.resize.proofs.plan_bays.Tie as tie
@@ -13,11 +14,8 @@ find-own-requires c κs = (search zone-row, search zone-start, search zone-short
 returns : tie.Need-returns
 returns c = search own-way
 
-find-low-requires : tie.Need-find-low-requires
-find-low-requires c κs = (search zone-row, search zone-start, search zone-short)
-
 find-room-requires : tie.Need-find-room-requires
-find-room-requires c κs = search other-bay
+find-room-requires c κs = (search zone-row, search zone-start, search zone-short, omega arith)
 
 returns-2 : tie.Need-returns-2
 returns-2 c = search other-way
@@ -34,7 +32,6 @@ plan-bays-spec =
     (λ c. search needs)
     returns
     (λ c. search needs)
-    find-low-requires
     find-room-requires
     returns-2
     (λ c κs. search needs)

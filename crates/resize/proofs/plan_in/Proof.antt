@@ -1,6 +1,6 @@
 use Rattle.access.proofs.Checked.{zone-8}
 use Rattle.resize.proofs.reshape.Plan.{known-word}
-use Rattle.resize.proofs.Zone.{in-6, in-3, in-here, in-tight, in-bays}
+use Rattle.resize.proofs.Zone.{in-6, in-3, in-here, in-lacking, in-bays}
 use borrow.Author.Needs.{needs}
 use Rattle.resize.proofs.plan_in.Statement.{statement}
 use Rattle.resize.proofs.plan_in.Tie as tie
@@ -21,7 +21,7 @@ get4-requires : tie.Need-get4-requires
 get4-requires c κs = search zone-8
 
 plan-bays-requires : tie.Need-plan-bays-requires
-plan-bays-requires c κs = search in-tight
+plan-bays-requires c κs = search in-lacking
 
 returns-4 : tie.Need-returns-4
 returns-4 c = search in-bays

@@ -22,9 +22,9 @@ use Rattle.bays.proofs.At.{no-sizes, later-sizes}
 use Rattle.free_block.specs.Around.{Around}
 use Rattle.free_block.proofs.Around.{around-same, around-later}
 use Rattle.free_block.proofs.Own.{none-released, around-own, own-block}
-use Rattle.resize.specs.relocate.Slot.{Slot, at-end, at-fixed, behind, plug, others, blocksBefore}
+use Rattle.bays.specs.Slot.{Slot, slot-end, slot-fixed, slot-behind, plug, others, blocksBefore}
 use Rattle.resize.specs.relocate.Move.{Apart, below, above}
-use Rattle.resize.proofs.relocate.Slots.{plug-map, behind-sizes}
+use Rattle.bays.proofs.Slots.{plug-map, behind-sizes}
 
 pub end-low : (cs : List Cell) → endFree cs ≤ baySize cs
 end-low [] = omega arith
@@ -51,7 +51,7 @@ pub record Beside (h : ℕ) (e : Item) (k : Slot) (c : List Cell) : Type 0 where
 
 module _ (h : ℕ) (e : Item) where
   -- a bay that has not the handle, and a block behind it
-  in-rest : (x : Fixed) (s : Bays (List Cell) Fixed) (c : List Cell) → AllS Sound s → live h s ≤ 1 → blockOf h s ≡ some e → Beside h e (at-fixed x s) c
+  in-rest : (x : Fixed) (s : Bays (List Cell) Fixed) (c : List Cell) → AllS Sound s → live h s ≤ 1 → blockOf h s ≡ some e → Beside h e (slot-fixed x s) c
   in-rest x s c d l f =
       let o = own-block h e s d l f in
       let a = around-later c (x .bytes) (o .0) in
@@ -59,7 +59,7 @@ module _ (h : ℕ) (e : Item) where
 
   -- a block in the first bay
   in-first : (b : List Cell) (x : Fixed) (k : Slot) (c : List Cell) → Sound b → AllS Sound (plug k c) → Sound c → get h (items b) ≡ some e → count h (items b) ≤ 1 → live h (plug k c) ≡ 0 → count h (items c) ≡ 0
-      → Beside h e (behind b x k) c
+      → Beside h e (slot-behind b x k) c
   in-first b x k c d ds dc g l n m =
       let r = released h e d g l in
       let same : plug (others (release h) k) c ≡ plug k c = ap (plug (others (release h) k)) (sym (release-none h dc m)) ∙ sym (plug-map (release h) k c) ∙ none-released h (plug k c) ds n in
@@ -72,7 +72,7 @@ module _ (h : ℕ) (e : Item) where
       }
 
   -- a block behind the first bay
-  in-later : (b : List Cell) (x : Fixed) (k : Slot) (c : List Cell) → Sound b → count h (items b) ≡ 0 → Beside h e k c → Beside h e (behind b x k) c
+  in-later : (b : List Cell) (x : Fixed) (k : Slot) (c : List Cell) → Sound b → count h (items b) ≡ 0 → Beside h e k c → Beside h e (slot-behind b x k) c
   in-later b x k c d m r =
       let a = around-later b (x .bytes) (r .around) in
       record {
@@ -82,23 +82,23 @@ module _ (h : ℕ) (e : Item) where
       }
     where
       go : Apart (lowEnd (r .around)) (highEnd (itemSize e) (r .around)) (sizes (blocksBefore k)) (baySize c)
-          → Apart (sizes (map cell b ++ (fixed (x .bytes) ∷ r .around .pre)) + (baySize (r .around .low) - endFree (r .around .low))) (sizes (map cell b ++ (fixed (x .bytes) ∷ r .around .pre)) + baySize (r .around .low) + itemSize e + startFree (r .around .high)) (sizes (blocksBefore (behind b x k))) (baySize c)
+          → Apart (sizes (map cell b ++ (fixed (x .bytes) ∷ r .around .pre)) + (baySize (r .around .low) - endFree (r .around .low))) (sizes (map cell b ++ (fixed (x .bytes) ∷ r .around .pre)) + baySize (r .around .low) + itemSize e + startFree (r .around .high)) (sizes (blocksBefore (slot-behind b x k))) (baySize c)
       go (below q) = below (omega (arith, later-sizes b x (r .around .pre), behind-sizes b x k))
       go (above q) = above (omega (arith, later-sizes b x (r .around .pre), behind-sizes b x k))
 
   pub beside : (k : Slot) (c : List Cell) → Sound c → AllS Sound (plug k c) → live h (plug k c) ≤ 1 → count h (items c) ≡ 0 → blockOf h (plug k c) ≡ some e → Beside h e k c
-  beside at-end c dc d l m f = go (get h (items c)) (count-get h (items c) l) f
+  beside slot-end c dc d l m f = go (get h (items c)) (count-get h (items c) l) f
     where
-      go : (o : Option Item) → count h (items c) ≡ often o → o ≡ some e → Beside h e at-end c
+      go : (o : Option Item) → count h (items c) ≡ often o → o ≡ some e → Beside h e slot-end c
       go none q f = let x : _≡_ {A = ℕ} 0 1 = cc in absurd (omega arith)
       go (some i) q f = absurd (omega arith)
-  beside (at-fixed x s) c dc d l m f = go (get h (items c)) (count-get h (items c) (omega arith)) f
+  beside (slot-fixed x s) c dc d l m f = go (get h (items c)) (count-get h (items c) (omega arith)) f
     where
-      go : (o : Option Item) → count h (items c) ≡ often o → orElse o (blockOf h s) ≡ some e → Beside h e (at-fixed x s) c
+      go : (o : Option Item) → count h (items c) ≡ often o → orElse o (blockOf h s) ≡ some e → Beside h e (slot-fixed x s) c
       go none q f = in-rest x s c (d .1) (omega arith) f
       go (some i) q f = absurd (omega arith)
-  beside (behind b x k) c dc d l m f = go (get h (items b)) refl (count-get h (items b) (omega arith)) f (λ f. beside k c dc (d .1) (omega arith) m f)
+  beside (slot-behind b x k) c dc d l m f = go (get h (items b)) refl (count-get h (items b) (omega arith)) f (λ f. beside k c dc (d .1) (omega arith) m f)
     where
-      go : (o : Option Item) → get h (items b) ≡ o → count h (items b) ≡ often o → orElse o (blockOf h (plug k c)) ≡ some e → (blockOf h (plug k c) ≡ some e → Beside h e k c) → Beside h e (behind b x k) c
+      go : (o : Option Item) → get h (items b) ≡ o → count h (items b) ≡ often o → orElse o (blockOf h (plug k c)) ≡ some e → (blockOf h (plug k c) ≡ some e → Beside h e k c) → Beside h e (slot-behind b x k) c
       go none g q f ih = in-later b x k c (d .0) q (ih f)
       go (some i) g q f ih = in-first b x k c (d .0) (d .1) dc (g ∙ f) (omega arith) (omega arith) m

@@ -23,10 +23,10 @@ use Rattle.free_block.specs.Walk.{Stopped, Extended}
 use Rattle.free_block.specs.Freed.{freed}
 use Rattle.free_block.proofs.Live.{freed-valid}
 use Rattle.bay.specs.Bay as Bay
-use Rattle.resize.specs.relocate.Slot.{Slot, others, blocksBefore, blocksAfter}
+use Rattle.bays.specs.Slot.{Slot, others, blocksBefore, blocksAfter}
 use Rattle.resize.specs.relocate.Move.{movedBytes}
 use Rattle.resize.specs.relocate.Relocate.{itemOf, OldPlace, old-place, Carry, carry-in, carriedTo, Carried}
-use Rattle.resize.proofs.relocate.Slots.{plug-flat, others-sizes}
+use Rattle.bays.proofs.Slots.{plug-flat, others-sizes}
 use Rattle.free_block.proofs.Itself.{its-place, its-data}
 use Rattle.resize.proofs.relocate.Moved.{moved}
 use Rattle.resize.proofs.relocate.Data.{new-long, new-data}

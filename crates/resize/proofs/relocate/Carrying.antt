@@ -46,10 +46,10 @@ use Rattle.access.proofs.locate.Live.{place-live}
 use Rattle.room.specs.place.Fit.{blank, Fit}
 use Rattle.room.proofs.place.Cut.{blank-size}
 use Rattle.room.proofs.place.InBay.{room-fit}
-use Rattle.resize.specs.relocate.Slot.{Slot, plug, others, blocksBefore, blocksAfter}
+use Rattle.bays.specs.Slot.{Slot, plug, others, blocksBefore, blocksAfter}
 use Rattle.resize.specs.relocate.Move.{Apart, below, above, MoveAt}
 use Rattle.resize.specs.relocate.Relocate.{LiveIn, live-in, OldPlace, old-place, Carry, CarryIn, carry-of}
-use Rattle.resize.proofs.relocate.Slots.{plug-flat, plug-map, plug-all}
+use Rattle.bays.proofs.Slots.{plug-flat, plug-map, plug-all}
 use Rattle.resize.proofs.relocate.Beside.{end-low, lowEnd, highEnd, Beside, beside}
 use Rattle.free_block.proofs.Itself.{its-place}
 use Rattle.resize.proofs.relocate.Moved.{handles}

@@ -13,8 +13,8 @@ use Rattle.calls.specs.State.{get, ownSum}
 use Rattle.bay.specs.Bay.{Cell, baySum, items, release}
 use Rattle.bay.specs.Counted.{count, live}
 use Rattle.zone.proofs.Once.{Named, unnamed, named, get-named, often, taken, count-get, sum-released, blockOf}
-use Rattle.resize.specs.relocate.Slot.{Slot, at-end, at-fixed, behind, plug, others, Under}
-use Rattle.resize.proofs.relocate.Slots.{plug-live}
+use Rattle.bays.specs.Slot.{Slot, slot-end, slot-fixed, slot-behind, plug, others, Under}
+use Rattle.bays.proofs.Slots.{plug-live}
 
 -- the sum of the bay that has the handle, by the block that is found in it
 abbrev sumIn : List Cell → Option Item → Option ℕ
@@ -22,22 +22,22 @@ sumIn b o = over (λ (e : Item). baySum b) o
 
 module _ (h a : ℕ) (e : Item) where
   -- the handle's block has a bay that lacks the room
-  abbrev Tight : Option Item → Option ℕ → Type 0
-  Tight o m = (o ≡ some e) × (Option·getD m 0 + length (e .bytes) < a)
+  abbrev Lacking : Option Item → Option ℕ → Type 0
+  Lacking o m = (o ≡ some e) × (Option·getD m 0 + length (e .bytes) < a)
 
-  absent : (b : List Cell) (o : Option Item) → count h (items b) ≡ often o → relocHeader + a ≤ baySum b → (w : Option Item) (m : Option ℕ) → Tight (orElse o w) (orElse (sumIn b o) m) → count h (items b) ≡ 0
+  absent : (b : List Cell) (o : Option Item) → count h (items b) ≡ often o → relocHeader + a ≤ baySum b → (w : Option Item) (m : Option ℕ) → Lacking (orElse o w) (orElse (sumIn b o) m) → count h (items b) ≡ 0
   absent b none q l w m t = q
   absent b (some i) q l w m t = absurd (omega (arith, t .1))
 
   -- the bay whose sum reaches the need is another one
   pub without : (k : Slot) (b : List Cell) → live h (plug k b) ≤ 1 → relocHeader + a ≤ baySum b → blockOf h (plug k b) ≡ some e → ownSum items baySum h (plug k b) + length (e .bytes) < a → count h (items b) ≡ 0
-  without at-end b l r f t = go (get h (items b)) (count-get h (items b) l) f t
+  without slot-end b l r f t = go (get h (items b)) (count-get h (items b) l) f t
     where
       go : (o : Option Item) → count h (items b) ≡ often o → o ≡ some e → Option·getD (sumIn b o) 0 + length (e .bytes) < a → count h (items b) ≡ 0
       go none q f t = q
       go (some i) q f t = absurd (omega arith)
-  without (at-fixed x s) b l r f t = absent b (get h (items b)) (count-get h (items b) (omega arith)) r (blockOf h s) (findS (λ (c : List Cell). sumIn c (get h (items c))) s) (f, t)
-  without (behind c x k) b l r f t = go (get h (items c)) (count-get h (items c) (omega arith)) f t (λ f t. without k b (omega arith) r f t)
+  without (slot-fixed x s) b l r f t = absent b (get h (items b)) (count-get h (items b) (omega arith)) r (blockOf h s) (findS (λ (c : List Cell). sumIn c (get h (items c))) s) (f, t)
+  without (slot-behind c x k) b l r f t = go (get h (items c)) (count-get h (items c) (omega arith)) f t (λ f t. without k b (omega arith) r f t)
     where
       go : (o : Option Item) → count h (items c) ≡ often o → orElse o (blockOf h (plug k b)) ≡ some e
           → Option·getD (orElse (sumIn c o) (findS (λ (c : List Cell). sumIn c (get h (items c))) (plug k b))) 0 + length (e .bytes) < a
@@ -54,22 +54,22 @@ module _ (h a : ℕ) (e : Item) where
       go (some i) q s = absurd (omega arith)
 
   under-same : (n : ℕ) (k : Slot) (b : List Cell) → live h (plug k b) ≡ 0 → Under n k → Under n (others (release h) k)
-  under-same n at-end b l u = tt
-  under-same n (at-fixed x s) b l u = tt
-  under-same n (behind c x k) b l u = (omega (arith, u .0, same-sum c (omega arith)), under-same n k b (omega arith) (u .1))
+  under-same n slot-end b l u = tt
+  under-same n (slot-fixed x s) b l u = tt
+  under-same n (slot-behind c x k) b l u = (omega (arith, u .0, same-sum c (omega arith)), under-same n k b (omega arith) (u .1))
 
   -- no bay before it reaches the need once the old place is free
   pub under-freed : (k : Slot) (b : List Cell) → live h (plug k b) ≤ 1 → blockOf h (plug k b) ≡ some e → ownSum items baySum h (plug k b) + length (e .bytes) < a
       → Under (relocHeader + a) k → Under (relocHeader + a) (others (release h) k)
-  under-freed at-end b l f t u = tt
-  under-freed (at-fixed x s) b l f t u = tt
-  under-freed (behind c x k) b l f t u =
+  under-freed slot-end b l f t u = tt
+  under-freed (slot-fixed x s) b l f t u = tt
+  under-freed (slot-behind c x k) b l f t u =
       go (get-named h (items c)) (count-get h (items c) (omega arith)) (sum-released h c (omega arith)) f t (λ f t. under-freed k b (omega arith) f t (u .1))
     where
       go : {o : Option Item} → Named h o → count h (items c) ≡ often o → baySum (release h c) ≡ baySum c + taken o → orElse o (blockOf h (plug k b)) ≡ some e
           → Option·getD (orElse (sumIn c o) (findS (λ (c : List Cell). sumIn c (get h (items c))) (plug k b))) 0 + length (e .bytes) < a
           → (blockOf h (plug k b) ≡ some e → ownSum items baySum h (plug k b) + length (e .bytes) < a → Under (relocHeader + a) (others (release h) k))
-          → Under (relocHeader + a) (others (release h) (behind c x k))
+          → Under (relocHeader + a) (others (release h) (slot-behind c x k))
       go unnamed q s f t ih = (omega (arith, s, u .0), ih f t)
       go (named {d = d}) q s f t ih =
           let j : item h d ≡ e = cc in

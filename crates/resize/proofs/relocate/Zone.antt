@@ -43,9 +43,10 @@ use Rattle.settle.proofs.Bay.{bay-at}
 use Rattle.settle.proofs.Compact.{compact-settled}
 use Rattle.settle.proofs.Tidy.{bay-valid, bay-start}
 use Rattle.access.proofs.locate.Live.{place-live}
-use Rattle.resize.specs.relocate.Slot.{Slot, plug, others, blocksBefore, blocksAfter, Under}
+use Rattle.room.specs.place.Room.{Room}
+use Rattle.bays.specs.Slot.{Slot, plug, others, blocksBefore, blocksAfter, Under}
 use Rattle.resize.specs.relocate.Relocate.{relocated, itemOf, Carry, CarryIn, carry-in, Carried, Relocate, RelocateIn, relocate-of}
-use Rattle.resize.proofs.relocate.Slots.{plug-at, plug-flat, plug-map, plug-all, plug-lowest, plug-tiled, plug-find}
+use Rattle.bays.proofs.Slots.{plug-at, plug-flat, plug-map, plug-all, plug-lowest, plug-tiled, plug-find}
 use Rattle.resize.proofs.relocate.AsZone.{zone-of, back-of, its-data}
 use Rattle.resize.proofs.relocate.Choice.{without, under-freed}
 use Rattle.structure.specs.IsZone.{IsZone}
@@ -59,10 +60,10 @@ module _ (z : List ℕ) (h b a from to at n : ℕ) (t : Bool) (y : RelocateIn z 
   s = decodeZone z
 
   abbrev k : Slot
-  k = x .slot
+  k = x .lowest .slot
 
   abbrev bay : List Cell
-  bay = x .bay
+  bay = x .lowest .bay
 
   w : Whole z
   w = whole-of z (x .grows .zone)
@@ -84,22 +85,22 @@ module _ (z : List ℕ) (h b a from to at n : ℕ) (t : Bool) (y : RelocateIn z 
   e = found .0
 
   in-slot : blockOf h (plug k bay) ≡ some e
-  in-slot = ap (blockOf h) (sym (x .bays)) ∙ found .1
+  in-slot = ap (blockOf h) (sym (x .lowest .bays)) ∙ found .1
 
   once : live h (plug k bay) ≤ 1
-  once = subst (λ (u : Bays (List Cell) Fixed). live h u ≤ 1) (x .bays) (single-live (inBays (len s) s) wb h)
+  once = subst (λ (u : Bays (List Cell) Fixed). live h u ≤ 1) (x .lowest .bays) (single-live (inBays (len s) s) wb h)
 
-  tight : ownSum items baySum h (plug k bay) + length (e .bytes) < a
-  tight = omega (arith, x .tight, ap (ownSum items baySum h) (x .bays), ap length (found .2), x .grows .is-b)
+  lacking : ownSum items baySum h (plug k bay) + length (e .bytes) < a
+  lacking = omega (arith, x .lacking, ap (ownSum items baySum h) (x .lowest .bays), ap length (found .2), x .grows .is-b)
 
   none-in : count h (items bay) ≡ 0
-  none-in = without h a e k bay once (x .enough) in-slot tight
+  none-in = without h a e k bay once (x .lowest .enough) in-slot lacking
 
   sound-bay : Sound bay
-  sound-bay = plug-all Sound k bay (subst (AllS Sound) (x .bays) (wb .sound))
+  sound-bay = plug-all Sound k bay (subst (AllS Sound) (x .lowest .bays) (wb .sound))
 
   blocks-are : s .blocks ≡ flatten (plug k bay)
-  blocks-are = sym (flatten-group (start s) (s .blocks)) ∙ ap (λ (u : Bays (List Cell) Fixed). flatten u) (x .bays)
+  blocks-are = sym (flatten-group (start s) (s .blocks)) ∙ ap (λ (u : Bays (List Cell) Fixed). flatten u) (x .lowest .bays)
 
   -- ---- what is left is what the call on bays leaves
 
@@ -109,23 +110,26 @@ module _ (z : List ℕ) (h b a from to at n : ℕ) (t : Bool) (y : RelocateIn z 
   size-is : itemSize new ≡ relocHeader + a
   size-is = ap (relocHeader +_) (length-sized a (dataIn z h))
 
-  put-there : placeLow new (mapS (release h) (baysOf (decodeZone z))) ≡ plug (others (release h) k) (fill new (x .room .hole))
-  put-there =
-      ap (λ (u : Bays (List Cell) Fixed). placeLow new (mapS (release h) u)) (x .bays)
-      ∙ ap (placeLow new) (plug-map (release h) k bay ∙ ap (plug (others (release h) k)) (release-none h sound-bay none-in))
-      ∙ plug-lowest (itemSize new) (put new) (others (release h) k) bay (subst (λ (j : ℕ). Under j (others (release h) k)) (sym size-is) (under-freed h a e k bay once in-slot tight (x .under)))
-      (le-leb (itemSize new) (baySum bay) (omega (arith, size-is, x .enough)))
-      ∙ ap (plug (others (release h) k)) (x .room .filled)
+  room : Room new bay from at n t
+  room = x .lowest .room new size-is
 
-  left : encode (record { chain = s .chain; blocks = flatten (plug (others (release h) k) (fill new (x .room .hole))) }) ≡ encode (relocated h a (decodeZone z))
+  put-there : placeLow new (mapS (release h) (baysOf (decodeZone z))) ≡ plug (others (release h) k) (fill new (room .hole))
+  put-there =
+      ap (λ (u : Bays (List Cell) Fixed). placeLow new (mapS (release h) u)) (x .lowest .bays)
+      ∙ ap (placeLow new) (plug-map (release h) k bay ∙ ap (plug (others (release h) k)) (release-none h sound-bay none-in))
+      ∙ plug-lowest (itemSize new) (put new) (others (release h) k) bay (subst (λ (j : ℕ). Under j (others (release h) k)) (sym size-is) (under-freed h a e k bay once in-slot lacking (x .lowest .under)))
+      (le-leb (itemSize new) (baySum bay) (omega (arith, size-is, x .lowest .enough)))
+      ∙ ap (plug (others (release h) k)) (room .filled)
+
+  left : encode (record { chain = s .chain; blocks = flatten (plug (others (release h) k) (fill new (room .hole))) }) ≡ encode (relocated h a (decodeZone z))
   unfolding dataIn
   left = ap (λ (u : Bays (List Cell) Fixed). encode (record { chain = s .chain; blocks = flatten u })) (sym put-there)
 
-  fits : relocHeader + a ≤ x .room .hole .size
-  fits = omega (arith, size-is, x .room .fits)
+  fits : relocHeader + a ≤ room .hole .size
+  fits = omega (arith, size-is, room .fits)
 
   abbrev Is : Bool → Type 0
-  Is u = cond u (compactBay bay) bay ≡ x .room .hole .before ++ (free (x .room .hole .size) ∷ x .room .hole .after)
+  Is u = cond u (compactBay bay) bay ≡ room .hole .before ++ (free (room .hole .size) ∷ room .hole .after)
 
   -- ---- in the bay as it is
 
@@ -135,13 +139,13 @@ module _ (z : List ℕ) (h b a from to at n : ℕ) (t : Bool) (y : RelocateIn z 
       grows = x .grows;
       slot = k;
       bay = bay;
-      bays = x .bays;
+      bays = x .lowest .bays;
       without = none-in;
-      hole = x .room .hole;
-      is = subst Is f (x .room .is);
+      hole = room .hole;
+      is = subst Is f (room .is);
       fits = fits;
-      at-is = omega (arith, x .room .place, x .from-is);
-      size-is = x .room .size;
+      at-is = omega (arith, room .place, x .lowest .start-is);
+      size-is = room .size;
     }
 
     pub carry-there : CarryIn z h b a at n
@@ -157,7 +161,7 @@ module _ (z : List ℕ) (h b a from to at n : ℕ) (t : Bool) (y : RelocateIn z 
   parts = blocks-are ∙ plug-flat k bay
 
   there-bay : ZoneBay z from to × (bayCells z from to ≡ bay)
-  there-bay = bay-at s v (blocksBefore k) (blocksAfter k) bay parts z from to is-z (x .from-is) (x .to-is)
+  there-bay = bay-at s v (blocksBefore k) (blocksAfter k) bay parts z from to is-z (x .lowest .start-is) (x .lowest .end-is)
 
   pub ask-bay : ZoneBay z from to
   ask-bay = there-bay .0
@@ -177,7 +181,7 @@ module _ (z : List ℕ) (h b a from to at n : ℕ) (t : Bool) (y : RelocateIn z 
   tiled : Tiled (start s) (plug k bay) (length z)
   tiled =
       let q = zone-bays z (x .grows .zone) (firstField z) refl in
-      subst (λ (u : Bays (List Cell) Fixed). Tiled (start s) u (length z)) (q .bays ∙ x .bays) (subst (λ (p : ℕ). Tiled p (baysAt z (firstField z)) (length z)) (sym (start-is z w)) (q .tiled))
+      subst (λ (u : Bays (List Cell) Fixed). Tiled (start s) u (length z)) (q .bays ∙ x .lowest .bays) (subst (λ (p : ℕ). Tiled p (baysAt z (firstField z)) (length z)) (sym (start-is z w)) (q .tiled))
 
   bays₁ : group (start s₁) (s₁ .blocks) ≡ plug k (compactBay bay)
   bays₁ = ap₂ group start₁ (sym (plug-flat k (compactBay bay))) ∙ group-flatten (plug-tiled k bay (compactBay bay) (tidy-size bay) tiled)
@@ -186,7 +190,7 @@ module _ (z : List ℕ) (h b a from to at n : ℕ) (t : Bool) (y : RelocateIn z 
     bytes₁ : z₁ ≡ encode s₁
     bytes₁ =
         e₁ ∙ ap₂ (λ (l : List ℕ) (cs : List Cell). settled l from (compactBay cs)) (sym is-z) cells-here
-        ∙ ap (λ (o : ℕ). settled (encode s) o (compactBay bay)) (x .from-is)
+        ∙ ap (λ (o : ℕ). settled (encode s) o (compactBay bay)) (x .lowest .start-is)
         ∙ compact-settled s v (blocksBefore k) (blocksAfter k) bay parts
 
     back : decodeZone z₁ ≡ s₁
@@ -215,11 +219,11 @@ module _ (z : List ℕ) (h b a from to at n : ℕ) (t : Bool) (y : RelocateIn z 
         bay = compactBay bay;
         bays = bays-z₁;
         without = ap (count h) (tidy-items bay) ∙ none-in;
-        hole = x .room .hole;
-        is = subst Is f (x .room .is);
+        hole = room .hole;
+        is = subst Is f (room .is);
         fits = fits;
-        at-is = omega (arith, x .room .place, x .from-is, start₁, ap (λ (u : Structure). start u) back);
-        size-is = x .room .size;
+        at-is = omega (arith, room .place, x .lowest .start-is, start₁, ap (λ (u : Structure). start u) back);
+        size-is = room .size;
       }
 
       pub carry-made : CarryIn z₁ h b a at n
@@ -229,5 +233,5 @@ module _ (z : List ℕ) (h b a from to at n : ℕ) (t : Bool) (y : RelocateIn z 
       unfolding made
       done-made u c =
           c .left made
-          ∙ ap₂ (λ (r : Structure) (d : List ℕ). encode (record { chain = r .chain; blocks = flatten (plug (others (release h) k) (fill (item h (sized a d)) (x .room .hole))) })) back same-data
+          ∙ ap₂ (λ (r : Structure) (d : List ℕ). encode (record { chain = r .chain; blocks = flatten (plug (others (release h) k) (fill (item h (sized a d)) (room .hole))) })) back same-data
           ∙ left

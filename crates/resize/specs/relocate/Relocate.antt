@@ -18,8 +18,8 @@ use Rattle.zone.specs.Work.{placeLow}
 use Rattle.bays.specs.Places.{baysOf}
 use Rattle.free_block.specs.Walk.{Stopped, Extended}
 use Rattle.room.specs.place.Fit.{Size}
-use Rattle.room.specs.place.Room.{Room}
-use Rattle.resize.specs.relocate.Slot.{Slot, plug, others, blocksBefore, Under}
+use Rattle.room.specs.place.Room.{LowestRoom}
+use Rattle.bays.specs.Slot.{Slot, plug, others, blocksBefore}
 use Rattle.structure.specs.IsZone.{IsZone}
 
 -- "it moves to the lowest bay whose sum reaches 4 + a, as an allocation does, and the old place is freed": h's block, with a data bytes
@@ -78,15 +78,8 @@ pub record Carried (z : List ℕ) (h b a at n : ℕ) (y : List ℕ) : Type 0 whe
 -- compacting where tidy says so
 pub record Relocate (z : List ℕ) (h b a from to at n : ℕ) (tidy : Bool) : Type 0 where
   pub grows : Grows z h b a
-  pub slot : Slot
-  pub bay : List Cell
-  pub bays : baysOf (decodeZone z) ≡ plug slot bay
-  pub under : Under (relocHeader + a) slot
-  pub enough : relocHeader + a ≤ baySum bay
-  pub tight : ownSum items baySum h (baysOf (decodeZone z)) + b < a
-  pub from-is : from ≡ start (decodeZone z) + sizes (blocksBefore slot)
-  pub to-is : to ≡ from + baySize bay
-  pub room : Room (itemOf z h a) bay from at n tidy
+  pub lowest : LowestRoom z (relocHeader + a) from to at n tidy
+  pub lacking : ownSum items baySum h (baysOf (decodeZone z)) + b < a
 
 -- the same as one fact, for a contract
 pub data RelocateIn (z : List ℕ) (h b a from to at n : ℕ) (tidy : Bool) : Type 0 where

@@ -7,7 +7,6 @@ use lib.ListN.{length, take, length-append, length-take, take-append-drop}
 use lib.Seq.{sets, length-sets, sets-eq}
 use Rattle.bigendian.specs.BigEndian.{overwrite}
 use Rattle.bigendian.proofs.Overwrite.{write-right, write-left, write-mid}
-use Rattle.kinds.specs.Kinds.{is}
 use Rattle.calls.specs.Calls.{Target}
 use Rattle.bay.specs.Bay.{free, held}
 use Rattle.structure.specs.Structure.{Block, fixed, cell, Structure, size, sizes, start, len, placeOf, encode, encodeBlock, join, handlesOf}

@@ -17,7 +17,7 @@ use Rattle.structure.specs.IsZone.{IsZone}
 use Rattle.structure.proofs.IsZone.{whole-of}
 use Rattle.access.specs.Edit.{placeIn, dataIn}
 use Rattle.calls.specs.Calls.{by-handle, Answer, size, roster, told, toldWith}
-use Rattle.calls.specs.Roster.{Card, cardBytes, cardsIn}
+use Rattle.calls.specs.Roster.{Card, cardBytes}
 use Rattle.calls.proofs.Roster.{length-bytes, Small, cards-back}
 use Rattle.calls.specs.State.{handlesFrom}
 use Rattle.zone.specs.Work.{cardIf, cardsOf, cards, masterCount}

@@ -1,6 +1,7 @@
+use native.Mathlib.Omega.{arith}
 use Rattle.access.proofs.Checked.{zone-8, zone-14}
 use Rattle.access.proofs.row.Zone.{zone-row, zone-start, zone-short}
-use Rattle.allocate.proofs.relocatable.Zone.{in-0, in-3, in-4, in-5, bay-here}
+use Rattle.allocate.proofs.relocatable.Zone.{in-0, in-3, in-4, in-5, room-here}
 use borrow.Author.Needs.{needs}
 use Rattle.allocate.proofs.relocatable.plan_in.Statement.{statement}
 use Rattle.allocate.proofs.relocatable.plan_in.Tie as tie
@@ -17,11 +18,11 @@ returns-2 c = search in-4
 get4-requires : tie.Need-get4-requires
 get4-requires c κs = search zone-8
 
-find-low-requires : tie.Need-find-low-requires
-find-low-requires c κs = (search zone-row, search zone-start, search zone-short)
+find-room-requires : tie.Need-find-room-requires
+find-room-requires c κs = (search zone-row, search zone-start, search zone-short, omega arith)
 
-plan-bay-requires : tie.Need-plan-bay-requires
-plan-bay-requires c κs = search bay-here
+plan-room-requires : tie.Need-plan-room-requires
+plan-room-requires c κs = search room-here
 
 returns-3 : tie.Need-returns-3
 returns-3 c = search in-0
@@ -44,8 +45,8 @@ plan-in-spec =
     (λ c. search needs)
     get4-requires
     (λ c. search needs)
-    find-low-requires
-    plan-bay-requires
+    find-room-requires
+    plan-room-requires
     returns-3
     (λ c κs. search needs)
     returns-4)

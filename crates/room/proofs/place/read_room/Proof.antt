@@ -1,0 +1,48 @@
+use borrow.Author.Needs.{needs}
+use Prim.Native.Nat.{_-_, _<_, _≤_}
+use native.Mathlib.Omega.{arith}
+use lib.ListN.{length, drop}
+use Rattle.block_type.specs.Limits.{longestZone}
+use Rattle.access.specs.row.Row.{Row}
+use Rattle.room.proofs.place.Walk.{SeenFor, for-none, for-more, for-fixed, for-end}
+use Rattle.room.proofs.place.read_room.Statement.{statement}
+use Rattle.room.proofs.place.read_room.Tie as tie
+
+abbrev Inv-loop : tie.InvT-loop
+Inv-loop z p need best₀ at₀ sum₀ best at sum =
+    (sum ≤ at) × (at ≤ length z) × (length z ≤ longestZone) × (0 < need) × Row (drop at z) × SeenFor z p need at sum (best .found) (best .at) (best .size)
+
+abbrev μ-loop : tie.MeasureT-loop
+μ-loop z p need best₀ at₀ sum₀ best at sum = length z - at
+
+loop-holds : tie.Need-loop-holds Inv-loop μ-loop
+loop-holds c = (omega arith, omega arith, omega arith, omega arith, search needs, search for-none)
+
+loop-again : tie.Need-loop-again Inv-loop μ-loop
+loop-again c = (omega arith, omega arith, omega arith, omega arith, search needs, search for-more)
+
+returns : tie.Need-returns Inv-loop μ-loop
+returns c = search for-fixed
+
+returns-2 : tie.Need-returns-2 Inv-loop μ-loop
+returns-2 c = search for-end
+
+pub read-room-spec : {M : Type 1} → statement M
+read-room-spec =
+    tie.close
+    (tie.spec
+    Inv-loop
+    μ-loop
+    loop-holds
+    (λ c κs. search needs)
+    (λ c κs. search needs)
+    (λ c. search needs)
+    returns
+    (λ c κs. search needs)
+    (λ c κs. search needs)
+    (λ c. search needs)
+    (λ c. search needs)
+    (λ c. search needs)
+    loop-again
+    (λ c. search needs)
+    returns-2)

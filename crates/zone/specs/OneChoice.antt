@@ -1,0 +1,29 @@
+-- Document 02, U2, of the calls: "Inside the chosen bay a relocatable allocation takes the smallest free block that is big enough", "Resize into
+-- another bay does the same". Both place a block by `put`, in the lowest bay whose sum reaches its size: `WhichHole` (crate bay) and `LowestBay`
+-- (crate calls) say what that is. (Theorems about `work`: nobody has to believe them.)
+use mathlib.Core.Path.{_≡_}
+use mathlib.Core.List.{List}
+use Prim.Native.Nat.{ℕ, _-_, _≤_, _<_}
+use lib.Dec.{leb}
+use lib.ListN.{length}
+use Rattle.block_type.specs.Limits.{up4}
+use Rattle.calls.specs.Calls.{by-handle, allocate-relocatable, resize}
+use Rattle.calls.specs.Bays.{Bays, onLowest, mapS}
+use Rattle.kinds.specs.Kinds.{Item, item, itemSize}
+use Rattle.calls.specs.State.{newItem, sized, Fixed, dataOf, ownSum, top}
+use Rattle.bay.specs.Bay.{Cell, baySum, items, put, release, reshape}
+use Rattle.zone.specs.Work.{Zone, has, work}
+
+-- the bays with the block e in its place (`placeLow`, spelt out here, so that it cannot mean anything else)
+abbrev pub inLowest : Item → Bays (List Cell) Fixed → Bays (List Cell) Fixed
+inLowest e s = onLowest (λ b. leb (itemSize e) (baySum b)) (put e) s
+
+pub record OneChoice : Type 0 where
+  pub allocated : (c : ℕ) (z : Zone) → work (allocate-relocatable c) z .next .bays ≡ inLowest (newItem (top (z .chain)) c) (z .bays)
+  -- where its own bay lacks the room; the old place is free by then
+  pub moved : (h c : ℕ) (z : Zone) → ownSum items baySum h (z .bays) < up4 c - length (dataOf items (by-handle h) z)
+      → work (resize h c) z .next .bays ≡ inLowest (item h (sized (up4 c) (dataOf items (by-handle h) z))) (mapS (release h) (z .bays))
+  -- where it has the room (a resize to less always has), the block stays in its own bay, in place (`GrowsInPlace`, crate bay) or with the bay laid
+  -- out anew; no hole is chosen
+  pub grown : (h c : ℕ) (z : Zone) → up4 c - length (dataOf items (by-handle h) z) ≤ ownSum items baySum h (z .bays)
+      → work (resize h c) z .next .bays ≡ onLowest (has h) (reshape h (up4 c)) (z .bays)
