@@ -17,6 +17,7 @@ ghost use Rattle.room.specs.place.Hole.{holeN, holeIf, tighterN};
 ghost use Rattle.room.specs.place.Fit.{blank, Fit};
 ghost use Rattle.room.specs.place.Room.{siteN, siteBy, lowSite, ReadFor};
 
+// A free block of a bay, where one is found.
 struct Hole {
     found: bool,
     at: usize,
