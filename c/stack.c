@@ -1,6 +1,7 @@
 /* Measures the stack that each function of nafelode.h uses: a random list of calls, each on a stack
  * that was painted before, of which the calls then have changed the upper part. Usage: stack; exit
- * status 0 if none used more than NAFELODE_STACK and every function was accepted at least once. */
+ * status 0 if none used more than NAFELODE_STACK, every function was accepted at least once, and
+ * an allocation added masters. */
 #define _XOPEN_SOURCE 700
 #include <stdio.h>
 #include <string.h>
@@ -62,20 +63,22 @@ int main(void) {
         "resize", "size", "read", "write", "view", "compact", "sum", "check", "length", "enlarge", "shrink", "roster", "census",
         "walker_start", "walker_step"};
     size_t most[CALLS] = {0}, worst = 0;
-    unsigned accepted[CALLS] = {0};
+    unsigned accepted[CALLS] = {0}, grown = 0;
     which = CALLS;
     size_t own = used();
     for (unsigned i = 0; i < LIST; i++) {
         which = i % 1000 ? 1 + random_below(CALLS - 1) : 0;
         a = 16 + 4 * random_below(24), c = random_below(8) ? random_below(60) : random_below(33000);
-        d = 20 + random_below(5), b = 0;
+        d = 4 + random_below(20), b = 0;
         uint32_t at = nafelode_walker_start(Z), stop = random_below(30); /* b: the pointer of some fixed block */
         for (uint32_t k = 0; at && k < 60; k++) {
             nafelode_step s = nafelode_walker_step(Z, &at);
             if (s.kind == 1) b = s.offset + 2;
             if (k >= stop && b) break;
         }
+        unsigned masters = zone[11];
         size_t n = used();
+        grown += which == 1 && number == 0 && zone[11] > masters;
         n = n > own ? n - own : 0;
         if (n > most[which]) most[which] = n;
         if (number == 0) accepted[which]++;
@@ -86,6 +89,7 @@ int main(void) {
         if (most[i] > worst) worst = most[i];
         bad |= accepted[i] == 0;
     }
+    printf("allocations that added masters: %u\n", grown);
     printf("at most %zu bytes of stack; the header says %u\n", worst, NAFELODE_STACK);
-    return bad || worst == 0 || worst > NAFELODE_STACK;
+    return bad || grown == 0 || worst == 0 || worst > NAFELODE_STACK;
 }

@@ -185,6 +185,51 @@ static void tightest_hole(void) {
     IS(at(zone + 32), 48);
 }
 
+/* Where no master is free eight are added, from 32 bytes of the first bay: its blocks close up behind them, handles and pointers stay. */
+static void more_masters(void) {
+    uint32_t walker = 24;
+    TOLD(nafelode_initialize(Z, 80, 2), 0, 0);
+    TOLD(nafelode_allocate_fixed(Z, 0), 0, 78);
+    TOLD(nafelode_allocate_relocatable(Z, 0), 0, 16);
+    TOLD(nafelode_allocate_relocatable(Z, 36), 0, 20);
+    TOLD(nafelode_free_handle(Z, 16), 0, 0);
+    TOLD(nafelode_allocate_relocatable(Z, 4), 0, 16);
+    TOLD(nafelode_resize(Z, 20, 4), 0, 0);
+    memcpy(second, "markcoreHW", 10);
+    WRITES(nafelode_write(Z, NAFELODE_HANDLE, 20, 0, 4, second, SECOND), 0);
+    WRITES(nafelode_write(Z, NAFELODE_HANDLE, 16, 0, 4, second + 4, 4), 0);
+    WRITES(nafelode_write(Z, NAFELODE_POINTER, 78, 0, 2, second + 8, 2), 0);
+    IS(at(zone + 24), 2), IS(at(zone + 20), 32), IS(at(zone + 36), 16), IS(at(zone + 16), 72); /* holes of 4 and 32 bytes */
+    TOLD(nafelode_allocate_relocatable(Z, 1), 5, 0); /* 36 bytes are free, 4 after the masters: no master is added */
+    TOLD(nafelode_allocate_relocatable(Z, 32), 5, 0);
+    TOLD(nafelode_allocate_relocatable(Z, 32760), 5, 0);
+    TOLD(nafelode_allocate_relocatable(Z, 32761), 3, 0);
+    TOLD(nafelode_allocate_relocatable(Z, 0), 0, 24);
+    IS(at(zone), 80), IS(at(zone + 4), 56), IS(at(zone + 8), 10), IS(at(zone + 12), 28u << 16); /* L, bkFst, m, the chain */
+    IS(at(zone + 20), 60), IS(at(zone + 16), 68), IS(at(zone + 24), 76); /* up by 28 bytes, down by 4; the new block */
+    for (uint32_t i = 28; i < 56; i += 4) IS(at(zone + i), i < 52 ? i + 4 : 0);
+    IS(at(zone + 56), 0x80040014), IS(at(zone + 64), 0x80040010), IS(at(zone + 72), 0x80020018);
+    IS(memcmp(zone + 60, "mark", 4) || memcmp(zone + 68, "core", 4) || memcmp(zone + 78, "HW", 2), 0);
+    READS(nafelode_read(Z, NAFELODE_POINTER, 78, 0, 2, second, 2), 0);
+    IS(nafelode_check(Z).yes, 1), IS(nafelode_check(Z).count, 3);
+    IS(nafelode_walker_start(Z), 56), IS(nafelode_walker_step(Z, &walker).size, 0), IS(walker, 24); /* no block starts at 24 now */
+    TOLD(nafelode_allocate_relocatable(Z, 0), 5, 0); /* a handle is free, no byte is */
+    TOLD(nafelode_free_handle(Z, 16), 0, 0);
+    TOLD(nafelode_allocate_relocatable(Z, 0), 0, 16);
+    TOLD(nafelode_allocate_relocatable(Z, 0), 0, 28);
+    for (uint32_t length = 72; length <= 76; length += 4) { /* 28 bytes of the first bay are too few, 32 are just enough; the block goes to the next bay */
+        TOLD(nafelode_initialize(Z, length, 1), 0, 0);
+        TOLD(nafelode_allocate_fixed(Z, 10), 0, length - 10);
+        TOLD(nafelode_allocate_fixed(Z, 2), 0, length - 14);
+        TOLD(nafelode_free_pointer(Z, length - 10), 0, 0);
+        TOLD(nafelode_allocate_relocatable(Z, 4), 0, 16);
+        TOLD(nafelode_allocate_relocatable(Z, 9), length == 72 ? 4 : 5, 0);
+        TOLD(nafelode_allocate_relocatable(Z, 8), length == 72 ? 4 : 0, length == 72 ? 0 : 20);
+    }
+    IS(at(zone + 4), 52), IS(at(zone + 8), 9), IS(at(zone + 16), 56), IS(at(zone + 20), 68);
+    TELLS(nafelode_size(Z, NAFELODE_POINTER, 62), 0, 2);
+}
+
 static void refused_1(void) {
     uint32_t walker = 32;
     FRESH();
@@ -215,7 +260,7 @@ static void refused_2_to_10(void) {
     TOLD(nafelode_initialize(Z, 84, 4), 2, 0);
     TOLD(nafelode_initialize(Z, 64, 8189), 2, 0);
     TOLD(nafelode_initialize(Z, 64, 0xFFFFFFFF), 2, 0);
-    TOLD(nafelode_initialize(Z, 64, 0), 0, 0);
+    TOLD(nafelode_initialize(Z, 44, 0), 0, 0); /* 28 bytes: too few for eight masters */
     TOLD(nafelode_allocate_relocatable(Z, 32761), 3, 0);
     TOLD(nafelode_allocate_relocatable(Z, 32760), 4, 0);
     FRESH();
@@ -269,6 +314,18 @@ static void largest(void) {
     IS(nafelode_allocate_relocatable(big, sizeof big, 32760).number, 5);
 }
 
+/* The most masters: eight are added to 8180 in use, none to 8181, though the first bay has the bytes. */
+static void most_masters(void) {
+    static uint8_t big[65536];
+    for (uint32_t m = 8180; m <= 8181; m++) {
+        IS(nafelode_initialize(big, sizeof big, sizeof big, m).number, 0);
+        for (uint32_t i = 0; i < m; i++) IS(nafelode_allocate_relocatable(big, sizeof big, 0).value, 16 + 4 * i);
+        IS(nafelode_sum(big, sizeof big).total, 65536 - 16 - 8 * m);
+        IS(nafelode_allocate_relocatable(big, sizeof big, 0).number, m == 8180 ? 0 : 4);
+        IS(at(big + 8), m == 8180 ? 8188 : 8181);
+    }
+}
+
 int main(void) {
     uint8_t *pages = mmap(NULL, 5 * PAGE, PROT_NONE, MAP_PRIVATE | MAP_ANONYMOUS, -1, 0);
     if (pages == MAP_FAILED) return perror("mmap"), 2;
@@ -278,9 +335,9 @@ int main(void) {
         memset(zone_page, 0xA5, PAGE), memset(second_page, 0xA5, PAGE);
         zone = low ? zone_page : zone_page + PAGE - LENGTH;
         second = low ? second_page : second_page + PAGE - SECOND;
-        rig_sheet(), bytes(), roster_order(), tightest_hole(), refused_1(), refused_2_to_10(), empty();
+        rig_sheet(), bytes(), roster_order(), tightest_hole(), more_masters(), refused_1(), refused_2_to_10(), empty();
     }
-    largest();
+    largest(), most_masters();
     printf("%u tests, %u wrong\n", tests, wrong);
     return wrong != 0;
 }

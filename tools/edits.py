@@ -26,7 +26,7 @@ NOT_MET = re.compile(
     r"|`omega`: the goal does not follow"
     r"|`simp`: no equation of the list has an instance in the goal"
     r"|(?:computed as far as they go|as printed), the two (?:types|indices|values) "
-    r"|expected type `\S*\bReads\.(?:Post|Asked) "
+    r"|expected type `(?:Path |\S*\bReads\.(?:Post|Asked) )"
 )
 # what only waits for something that was refused is passed over
 WAITS = "was not admitted (it has holes or undetermined implicits, or was rejected), so this cannot be checked"

@@ -135,7 +135,7 @@ def main():
     lists, calls, reading, zones = set(), 0, 0, set()
     for path in sys.argv[2:]:
         with open(path, encoding="ascii") as file:
-            if max(map(len, file)) > 1101:
+            if max(map(len, file)) > 1101 and not path.endswith("masters.txt"):
                 fail(path, "the page says that no line has more than 1,100 characters")
         for name, before, call, told, after in steps(path):
             where = f"{os.path.basename(path)}: {name}: {' '.join(call)}"
@@ -147,7 +147,7 @@ def main():
                     fail(where, f"the package in Python does not agree with {told}")
             if told.get("answer", [0])[0] and after != before:
                 fail(where, "a refused call has changed the zone")
-            if len(after) > 512 and not path.endswith("limits.txt"):
+            if len(after) > 512 and not path.endswith(("limits.txt", "masters.txt")):
                 fail(where, "the page says that no buffer has more than 512 bytes")
             if after not in zones and (found := differences(library, after)):
                 fail(where, "\n  ".join(found[:5]))

@@ -18,7 +18,9 @@ from library import HANDLE, POINTER, Library
 
 # (L, masters, bytes beyond L, steps)
 LISTS = ((64, 4, 0, 50), (64, 3, 8, 40), (96, 5, 16, 60), (128, 6, 0, 60),
-         (160, 8, 12, 50), (256, 10, 0, 40), (384, 70, 0, 25), (508, 16, 4, 35))
+         (160, 8, 12, 50), (256, 10, 0, 40), (384, 70, 0, 25), (508, 16, 4, 35),
+         # few masters, so that the pool grows
+         (300, 0, 4, 60), (240, 1, 0, 60), (400, 0, 8, 70))
 WEIGHTS = {"allocate_relocatable": 26, "allocate_fixed": 9, "free_handle": 10,
            "free_pointer": 7, "resize": 22, "write": 12, "read": 3, "view": 2,
            "size": 1, "compact": 2, "sum": 1, "check": 1, "length": 1,

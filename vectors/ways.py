@@ -13,6 +13,9 @@ WAYS = (
     "relocatable_exact relocatable_rest relocatable_compacted "
     "relocatable_later_hole relocatable_tightest_hole relocatable_equal_holes "
     "relocatable_higher_bay "
+    "masters_none masters_no_block masters_up masters_down masters_both_ways "
+    "masters_exact masters_rest masters_just_32 "
+    "masters_higher_bay masters_compacted masters_tightest_hole "
     "fixed_exact fixed_rest fixed_compacted fixed_lower_bay "
     "free_handle_alone free_handle_left free_handle_right free_handle_both "
     "free_pointer_alone free_pointer_left free_pointer_right free_pointer_both "
@@ -50,6 +53,10 @@ REFUSALS = {
 VIEW_TOO = (1, 6, 7, 8)  # a view carries no number; it is refused for these
 
 
+# "eight masters are added: the first bay gives up 32 bytes" (document 02, U3).
+ADDED = 32
+
+
 def up4(k: int) -> int:
     return -(-k // 4) * 4
 
@@ -84,8 +91,34 @@ def merges(zone: Zone, block: Block) -> str:
             (1, 1): "both"}[left, right]
 
 
+def _masters(zone: Zone, need: int) -> Set[str]:
+    """An allocation that finds the chain empty: where the first bay's blocks go,
+    and where the new one (document 02, U3)."""
+    first, before, goes = zone.bays[0], 0, set()
+    for block in first.blocks:
+        if free(block):
+            before += block.size
+        else:
+            goes.add("up" if before < ADDED else "down" if before > ADDED else "stays")
+    found = {"masters_both_ways"} if {"up", "down"} <= goes else {"masters_" + way for way in goes - {"stays"}}
+    if not goes:
+        found.add("masters_no_block")
+    if zone.m == 0:
+        found.add("masters_none")
+    left = first.sum - ADDED
+    if left == 0:
+        found.add("masters_just_32")
+    if left >= need:
+        return found | {"masters_exact" if left == need else "masters_rest"}
+    bay = next(bay for bay in zone.bays[1:] if bay.sum >= need)
+    found |= {"masters_" + way for way in place(bay, need) & {"compacted", "tightest_hole"}}
+    return found | {"masters_higher_bay"}
+
+
 def _relocatable(zone: Zone, c: int) -> Set[str]:
     need = up4(4 + c)
+    if not zone.chain:
+        return _masters(zone, need)
     bay = next(bay for bay in zone.bays if bay.sum >= need)
     found = {"relocatable_" + way for way in place(bay, need)}
     if bay is not zone.bays[0]:

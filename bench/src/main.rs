@@ -25,7 +25,7 @@ mod zone;
 
 use random::Random;
 use timing::{time, time_plain_read, PlainRead, Times, Work};
-use workloads::{alone, mix, zone_of, Plan, KIBIBYTE};
+use workloads::{alone, mix, zone_of, Plan, Row, KIBIBYTE};
 
 /// Bytes of the buffer behind a zone that is shorter than the limit.
 const BEYOND: usize = 1_024;
@@ -119,7 +119,7 @@ fn table(workload: &Workload) {
     println!("| call | proved library, ns | Rust, ns | ratio |\n|---|---:|---:|---:|");
     let calls = mix(&zone, &workload.plan, MIXED_CALLS, workload.compact_every, &mut random);
     row("realistic mix", &Work { zone: &zone, calls: &calls, each_on_a_copy: false });
-    for (name, calls) in alone(&zone, &workload.plan, 24, &mut random) {
+    for Row { name, calls, zone } in alone(&zone, &workload.plan, 24, &mut random) {
         row(name, &Work { zone: &zone, calls: &calls, each_on_a_copy: true });
     }
     if workload.name == NEARLY_EMPTY {

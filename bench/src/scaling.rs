@@ -7,9 +7,10 @@ use crate::timing::{time, time_plain_read, Times, Work};
 use crate::workloads::{alone, zone_of, Plan, KIBIBYTE};
 
 /// The calls shown: each way of going over the zone is among them.
-const SHOWN: [&str; 12] = [
+const SHOWN: [&str; 13] = [
     "check",
     "allocate relocatable",
+    "allocate relocatable, growing",
     "allocate fixed",
     "free by handle",
     "resize to more",
@@ -34,9 +35,9 @@ fn column(plan: &Plan) -> Column {
     let rows = alone(&zone, plan, 12, &mut random);
     let calls = rows
         .into_iter()
-        .filter(|(name, _)| SHOWN.contains(name))
-        .map(|(name, calls)| {
-            (name, time(&Work { zone: &zone, calls: &calls, each_on_a_copy: true }))
+        .filter(|row| SHOWN.contains(&row.name))
+        .map(|row| {
+            (row.name, time(&Work { zone: &row.zone, calls: &row.calls, each_on_a_copy: true }))
         })
         .collect();
     Column { calls, plain_read: time_plain_read(&zone).plain }

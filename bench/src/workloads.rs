@@ -4,6 +4,7 @@ use crate::calls::Call;
 use crate::model::{Item, Picture};
 use crate::random::Random;
 use crate::zone::{self, Name, Stretch};
+use std::borrow::Cow;
 
 pub const KIBIBYTE: usize = 1_024;
 
@@ -48,6 +49,27 @@ pub fn zone_of(plan: &Plan, random: &mut Random) -> Vec<u8> {
         _ => {}
     }
     let picture = Picture { length: plan.length, m: plan.masters, chain: handles.collect(), items };
+    let zone = picture.encode();
+    assert_eq!(zone::check(&zone), (true, plan.relocatable as u32));
+    zone
+}
+
+/// A zone by the plan, but with no free master and 32 bytes more in the first
+/// bay: an allocation of a relocatable block adds masters (document 02, U3), for
+/// which blocks go up before the first holes and may go down behind them.
+fn zone_without_free_master(plan: &Plan, random: &mut Random) -> Vec<u8> {
+    let full = Plan { masters: plan.relocatable, ..*plan };
+    let mut picture = Picture::decode(&zone_of(&full, random));
+    match picture.items.last_mut() {
+        Some(Item::Free(rest)) if *rest > 32 => *rest -= 32,
+        _ => panic!("32 bytes are free at the end"),
+    }
+    let end = picture.items.iter().position(|item| matches!(item, Item::Fixed(_)));
+    let end = end.unwrap_or(picture.items.len());
+    match picture.items[..end].last_mut() {
+        Some(Item::Free(size)) => *size += 32,
+        _ => picture.items.insert(end, Item::Free(32)),
+    }
     let zone = picture.encode();
     assert_eq!(zone::check(&zone), (true, plan.relocatable as u32));
     zone
@@ -150,18 +172,21 @@ fn a_stretch(zone: &[u8], handle: u32) -> Stretch {
     Stretch { block: Name::Handle(handle), offset: 0, count: size.min(64) }
 }
 
+/// A call alone, some times, each on a copy of the zone.
+pub struct Row<'z> {
+    pub name: &'static str,
+    pub calls: Vec<Call>,
+    pub zone: Cow<'z, [u8]>,
+}
+
 /// The rows of a table: a call alone, `count` times, on blocks picked at random.
-pub fn alone(
-    zone: &[u8],
-    plan: &Plan,
-    count: usize,
-    random: &mut Random,
-) -> Vec<(&'static str, Vec<Call>)> {
+pub fn alone<'z>(zone: &'z [u8], plan: &Plan, count: usize, random: &mut Random) -> Vec<Row<'z>> {
     let known = known(zone);
     let room = (zone.len() - plan.length) as u32 / 4 * 4;
     let mut rows = Vec::new();
     let mut add = |name, call: &mut dyn FnMut(&mut Random) -> Call| {
-        rows.push((name, (0..count).map(|_| call(random)).collect()));
+        let calls = (0..count).map(|_| call(random)).collect();
+        rows.push(Row { name, calls, zone: Cow::Borrowed(zone) });
     };
     let handle = |random: &mut Random| random.pick(&known.handles);
     let stretch = |random: &mut Random| {
@@ -210,5 +235,22 @@ pub fn alone(
             Call::Read(Stretch { block: Name::Pointer(pointer(random)), offset: 0, count: 14 })
         });
     }
+    // right after the allocations that find a free master
+    let place = rows.iter().take_while(|row| row.name != "allocate fixed").count();
+    rows.insert(place, growing(plan, count, zone.len(), random));
     rows
+}
+
+/// Allocations each of which adds masters.
+fn growing(plan: &Plan, count: usize, length: usize, random: &mut Random) -> Row<'static> {
+    let mut zone = zone_without_free_master(plan, random);
+    zone.resize(length, 0);
+    let calls: Vec<Call> =
+        (0..count).map(|_| Call::Relocatable(random.below(plan.most_data))).collect();
+    for call in &calls {
+        let mut copy = zone.clone();
+        crate::sides::rust(&mut copy, call, &mut []);
+        assert_ne!(copy[8..12], zone[8..12], "masters are added");
+    }
+    Row { name: "allocate relocatable, growing", calls, zone: Cow::Owned(zone) }
 }

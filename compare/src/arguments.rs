@@ -26,6 +26,10 @@ pub const STRETCHES: [u32; CALLS] =
 #[allow(dead_code)]
 pub const PLACING: [u32; CALLS] = [1, 0, 0, 0, 1, 0, 0, 0, 0, 0, 0, 0, 0, 0, 0, 0, 0, 0, 0, 0];
 
+/// Allocations of relocatable blocks alone.
+#[allow(dead_code)]
+pub const ALLOCATING: [u32; CALLS] = [1, 0, 0, 0, 0, 0, 0, 0, 0, 0, 0, 0, 0, 0, 0, 0, 0, 0, 0, 0];
+
 const EDGES: [u32; 26] = [
     0,
     1,
@@ -75,6 +79,8 @@ struct About {
     pointers: Vec<(u32, u32)>,
     starts: Vec<u32>,
     free: Vec<u32>,
+    /// of each bay
+    sums: Vec<u32>,
     masters: u32,
     length: u32,
     room: u32,
@@ -93,6 +99,7 @@ impl About {
         about.masters = word(buffer, 8);
         about.length = word(buffer, 0);
         let mut at = word(buffer, 4);
+        let mut sum = 0;
         while at < about.length {
             let header = word(buffer, at);
             let short = 2 * (header >> 16 & 0x3FFF);
@@ -100,10 +107,12 @@ impl About {
             at += match header >> 30 {
                 0 => {
                     about.free.push(2 * header);
+                    sum += 2 * header;
                     2 * header
                 }
                 1 => {
                     about.pointers.push((at + 2, short - 2));
+                    about.sums.push(std::mem::take(&mut sum));
                     short
                 }
                 _ => {
@@ -112,6 +121,7 @@ impl About {
                 }
             };
         }
+        about.sums.push(sum);
         about
     }
 
@@ -186,7 +196,8 @@ impl About {
         }
     }
 
-    /// Data bytes: small ones, those of free blocks and their sums, edges.
+    /// Data bytes: small ones, those of free blocks and their sums, edges; bays'
+    /// sums, and what is left of them when 32 bytes are taken.
     fn size(&self, random: &mut Random) -> u32 {
         let total: u32 = self.free.iter().sum();
         let some = random.pick_or(&self.free, 0) + random.pick_or(&self.free, 0);
@@ -201,6 +212,10 @@ impl About {
             13 | 14 => data + random.pick_or(&self.free, 0) + random.below(5),
             15 => random.below(total + 1),
             16..=18 => random.below(self.length / 40 + 20),
+            19 | 20 => {
+                let less = random.pick(&[0, 32]) + random.below(9);
+                random.pick_or(&self.sums, 0).saturating_sub(less)
+            }
             _ => random.below(20),
         }
     }

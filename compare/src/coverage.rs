@@ -1,7 +1,9 @@
 //! What a set of lists reaches, so that agreement on them says something.
 
 use crate::holes;
+use crate::pool;
 use crate::records::{BUFFER, RECORD};
+use crate::ways;
 
 /// Refusals that each code can be given; 10 cannot come, for zone-run's second
 /// buffer has the one byte that is asked for.
@@ -37,6 +39,7 @@ pub struct Coverage {
     many_fixed: u64,
     slides: u64,
     holes: holes::Counts,
+    pool: pool::Counts,
 }
 
 fn word(zone: &[u8], at: usize) -> usize {
@@ -79,9 +82,13 @@ impl Coverage {
             return;
         };
         self.answers[usize::from(record[0])][refusal as usize] += 1;
+        if record[0] == 1 {
+            let c = word(record, 4) as u32;
+            ways::add(&mut self.pool, &pool::of_allocation(before, c, refusal));
+        }
         if refusal == 0 {
             self.accepted(record[0], before, zone);
-            holes::add(&mut self.holes, &holes_of(record, before));
+            ways::add(&mut self.holes, &holes_of(record, before));
         }
     }
 
@@ -100,6 +107,11 @@ impl Coverage {
     /// Calls that meet holes between which the choice decides.
     pub fn holes(&self) -> holes::Counts {
         self.holes
+    }
+
+    /// Allocations that find no free master.
+    pub fn pool(&self) -> pool::Counts {
+        self.pool
     }
 
     /// Answers by refusal number, 0 for those done, over all codes.
@@ -136,7 +148,8 @@ impl Coverage {
         self.nearly_full += other.nearly_full;
         self.many_fixed += other.many_fixed;
         self.slides += other.slides;
-        holes::add(&mut self.holes, &other.holes);
+        ways::add(&mut self.holes, &other.holes);
+        ways::add(&mut self.pool, &other.pool);
     }
 
     /// What was never reached.
@@ -167,6 +180,7 @@ impl Coverage {
             ("lists with a short last record", self.short_last),
         ];
         features.extend(holes::WAYS.into_iter().zip(self.holes));
+        features.extend(pool::WAYS.into_iter().zip(self.pool));
         features
     }
 
@@ -196,9 +210,9 @@ fn holes_of(record: &[u8; RECORD], before: &[u8]) -> holes::Counts {
 
 /// Whether a watched live master points elsewhere than before.
 fn slid(before: &[u8], zone: &[u8]) -> bool {
-    let first = word(zone, 4);
-    (16..first.min(WATCHED)).step_by(4).any(|master| {
+    let (old_first, first) = (word(before, 4), word(zone, 4));
+    (16..old_first.min(WATCHED)).step_by(4).any(|master| {
         let (old, new) = (word(before, master), word(zone, master));
-        old >= first && new >= first && old != new
+        old >= old_first && new >= first && old != new
     })
 }

@@ -5,8 +5,10 @@ use crate::calls::{ask_zone, Call, Reply};
 use crate::foreign::{ask_archive, without_number};
 use crate::holes;
 use crate::model::Picture;
+use crate::pool;
 use crate::random::Random;
 use crate::verdict::{difference, Left};
+use crate::ways;
 use crate::zone::{self, Name};
 
 /// Largest buffers that are lent.
@@ -75,6 +77,7 @@ pub struct Tally {
     /// rosters of zones whose blocks do not stand by rising handle
     pub rosters_apart: u64,
     pub holes: holes::Counts,
+    pub pool: pool::Counts,
 }
 
 impl Tally {
@@ -84,7 +87,10 @@ impl Tally {
             self.rosters_apart += u64::from(!Picture::decode(zone).handles().is_sorted());
         }
         if refusal == 0 {
-            holes::add(&mut self.holes, &holes_of(zone, call));
+            ways::add(&mut self.holes, &holes_of(zone, call));
+        }
+        if let Call::Relocatable(c) = *call {
+            ways::add(&mut self.pool, &pool::of_allocation(zone, c, refusal));
         }
         if let (Call::Read(stretch) | Call::Write(stretch), 0) = (call, refusal) {
             let long = u64::from(stretch.count >= LONG);
@@ -101,7 +107,8 @@ impl Tally {
         self.long_by_handle += other.long_by_handle;
         self.long_by_pointer += other.long_by_pointer;
         self.rosters_apart += other.rosters_apart;
-        holes::add(&mut self.holes, &other.holes);
+        ways::add(&mut self.holes, &other.holes);
+        ways::add(&mut self.pool, &other.pool);
     }
 }
 

@@ -1,14 +1,18 @@
 //! Writes a list of zone-run records: `gen SEED COUNT [--counts]`. With
 //! `--counts` the answers' refusal numbers, the records skipped and the ways of
-//! `holes` are counted on standard error.
+//! `holes` and `pool` are counted on standard error.
 
 #[allow(dead_code)]
 mod coverage;
 mod generator;
 #[allow(dead_code)]
 mod holes;
+#[allow(dead_code)]
+mod pool;
 mod random;
 mod records;
+#[allow(dead_code)]
+mod ways;
 #[allow(dead_code)]
 mod zone;
 
@@ -31,8 +35,9 @@ fn main() -> ExitCode {
         return ExitCode::FAILURE;
     }
     if arguments.iter().any(|text| text == "--counts") {
-        let (refusals, holes) = (words(&coverage.refusals()), words(&coverage.holes()));
-        eprintln!("{refusals} skip {} holes {holes}", coverage.skips);
+        let (refusals, skips) = (words(&coverage.refusals()), coverage.skips);
+        let (holes, pool) = (words(&coverage.holes()), words(&coverage.pool()));
+        eprintln!("{refusals} skip {skips} holes {holes} pool {pool}");
     }
     ExitCode::SUCCESS
 }

@@ -17,7 +17,9 @@ const MANY_FIXED: [u32; 11] = [0, 14, 34, 9, 20, 10, 4, 4, 2, 3, 3];
 const RESIZING: [u32; 11] = [0, 14, 5, 6, 4, 52, 8, 7, 1, 2, 2];
 const LENGTH: [u32; 11] = [0, 18, 8, 10, 6, 12, 5, 5, 2, 18, 18];
 const BYTES: [u32; 11] = [0, 12, 5, 6, 4, 8, 30, 30, 2, 1, 1];
-const TEMPERS: [[u32; 11]; 6] = [BALANCED, FILLING, MANY_FIXED, RESIZING, LENGTH, BYTES];
+const MANY_HANDLES: [u32; 11] = [0, 56, 4, 6, 3, 16, 5, 5, 1, 2, 2];
+const TEMPERS: [[u32; 11]; 7] =
+    [BALANCED, FILLING, MANY_FIXED, RESIZING, LENGTH, BYTES, MANY_HANDLES];
 
 /// Numbers at the edges of document 01's limits and of 32 bits.
 const EDGES: [u32; 18] = [
@@ -62,6 +64,26 @@ struct Generator {
 }
 
 impl Generator {
+    fn new(seed: u64, count: u64) -> Generator {
+        Generator {
+            random: Random::new(seed),
+            output: Vec::with_capacity(RECORD * (count as usize + 1)),
+            zone: vec![0; BUFFER],
+            handles: Vec::new(),
+            dead_handles: Vec::new(),
+            pointers: Vec::new(),
+            dead_pointers: Vec::new(),
+            left: count,
+            coverage: Coverage::default(),
+        }
+    }
+
+    /// The list, and what it meets.
+    fn end(mut self) -> (Vec<u8>, Coverage) {
+        self.coverage.end(self.output.len() % RECORD != 0);
+        (self.output, self.coverage)
+    }
+
     // ------------------------------------------------------- writing records
 
     /// Writes the record, carries it out and keeps the books.
@@ -215,10 +237,22 @@ impl Generator {
         free
     }
 
+    /// Free bytes in the first bay.
+    fn first_sum(&self) -> u32 {
+        let (mut at, length, mut free) = (self.word(4), self.word(0), 0);
+        while at < length && self.word(at) >> 30 != 1 {
+            let word = self.word(at);
+            let size = if word >> 30 == 0 { 2 * word } else { 2 * (word >> 16 & 0x3FFF) };
+            free += if word >> 30 == 0 { size } else { 0 };
+            at += size;
+        }
+        free
+    }
+
     // ------------------------------------------------------------ the records
 
-    /// A zone from 16 to 65,536 bytes with 0 to 8,188 masters. One without
-    /// masters, or very short, soon has nothing new to show.
+    /// A zone from 16 to 65,536 bytes with 0 to 8,188 masters. A very short one
+    /// soon has nothing new to show.
     fn begin_era(&mut self) -> Era {
         let length = 4 * match self.random.below(10) {
             0 => self.random.between(4, 12),
@@ -233,8 +267,8 @@ impl Generator {
             0 => 0,
             1 => room.min(8_188),
             2 => self.random.below(room + 1).min(8_188),
-            3 | 4 => self.random.between(1, 4).min(room),
-            5..=8 => (room / 8).min(8_188),
+            3..=5 => self.random.below(5).min(room),
+            6..=8 => (room / 8).min(8_188),
             _ => self.random.below(room / 3 + 1).min(64),
         };
         self.call(0, &[length, m]);
@@ -244,11 +278,7 @@ impl Generator {
             weights: self.random.pick(&TEMPERS),
             largest_block: (data / part).max(self.random.below(24)),
             fill_above: if self.random.once_in(2) { data / 8 } else { u32::MAX },
-            left: self.random.pick(&[10, 40, 120, 400, 1_500]).min(if m == 0 {
-                40
-            } else {
-                length
-            }),
+            left: self.random.pick(&[10, 40, 120, 400, 1_500]).min(length),
         }
     }
 
@@ -289,6 +319,112 @@ impl Generator {
         let block = self.call(1, &[size]);
         self.call(1, &[0]);
         block
+    }
+
+    /// Allocations where no master is free: they make the pool of masters grow,
+    /// or find too little for that (document 02, U3).
+    fn masters_run_out(&mut self) {
+        let upper = self.no_free_master();
+        for _ in 0..self.random.between(1, 3) {
+            let c = self.a_size_about_32_less(upper);
+            if let Some(handle) = self.call(1, &[c]) {
+                self.mark_ends(handle);
+            }
+        }
+        if self.random.once_in(3) {
+            for _ in 0..10 {
+                self.call(1, &[0]);
+            }
+        }
+        self.look_at_ends();
+    }
+
+    /// A zone whose masters are all in use: blocks in its first bay with holes
+    /// between them, and maybe a bay above it, whose bytes are answered.
+    fn no_free_master(&mut self) -> u32 {
+        let m = self.random.below(7);
+        let sizes: Vec<u32> = (0..m).map(|_| 4 * self.random.below(14)).collect();
+        let lower = sizes.iter().map(|size| 4 + size).sum::<u32>() + 4 * self.random.below(20);
+        let upper = 4 * self.random.below(2) * self.random.between(1, 16);
+        let wall = if upper > 0 { 4 } else { 0 };
+        self.call(0, &[16 + 4 * m + lower + wall + upper, m]);
+        if upper > 0 {
+            let above = self.call(2, &[upper - 2]).unwrap_or(0);
+            self.call(2, &[2]);
+            self.call(4, &[above]);
+        }
+        for size in sizes {
+            if let Some(handle) = self.call(1, &[size]) {
+                self.mark_ends(handle);
+            }
+        }
+        for handle in self.handles.clone() {
+            if self.random.once_in(2) {
+                let less = self.random.below(self.data_size(handle) + 1);
+                self.call(5, &[handle, less]);
+                self.mark_ends(handle);
+            }
+        }
+        if self.random.once_in(2) {
+            self.again_elsewhere(upper);
+        }
+        upper
+    }
+
+    /// Data bytes for which the sums of the first bay and of another one are
+    /// enough, just not enough, or enough before 32 bytes are taken; or few.
+    fn a_size_about_32_less(&mut self, other_sum: u32) -> u32 {
+        let first = self.first_sum();
+        let less = self.random.below(4);
+        let few = self.random.below(12);
+        let sums = [few, other_sum, first, first, first.saturating_sub(32)];
+        self.random.pick(&sums).saturating_sub(self.random.pick(&[0, 4, 8]) + less)
+    }
+
+    /// The first block freed and allocated anew, larger if there is room, so
+    /// that the first bay may begin with a hole.
+    fn again_elsewhere(&mut self, upper: u32) {
+        let Some(&first) = self.handles.first() else { return };
+        let size = self.data_size(first);
+        self.call(3, &[first]);
+        for c in [size + 4, upper.saturating_sub(4), size] {
+            if let Some(handle) = self.call(1, &[c]) {
+                self.mark_ends(handle);
+                return;
+            }
+        }
+    }
+
+    /// Bytes at both ends of a block's data.
+    fn mark_ends(&mut self, handle: u32) {
+        if let Some(last) = self.data_size(handle).checked_sub(1) {
+            for offset in [0, last] {
+                let byte = self.random.any();
+                self.call(6, &[handle, offset, byte]);
+            }
+        }
+    }
+
+    /// Reads the bytes at both ends of every block.
+    fn look_at_ends(&mut self) {
+        for handle in self.handles.clone() {
+            if let Some(last) = self.data_size(handle).checked_sub(1) {
+                self.call(7, &[handle, 0]);
+                self.call(7, &[handle, last]);
+            }
+        }
+    }
+
+    /// Allocations from so many masters on until the pool cannot grow. The
+    /// first block has bytes, and goes up each time.
+    fn to_the_limit(&mut self, m: u32) {
+        self.call(0, &[BUFFER as u32, m]);
+        let first = self.call(1, &[4]).unwrap_or(0);
+        self.mark_ends(first);
+        while self.left > 0 && self.call(1, &[0]).is_some() {}
+        self.look_at_ends();
+        self.call(8, &[]);
+        self.call(1, &[0]);
     }
 
     /// Calls of every code that come before an accepted initialize: "1 0".
@@ -439,6 +575,9 @@ impl Generator {
             if self.random.once_in(4) {
                 self.holes_in_two_bays();
             }
+            for _ in 0..self.random.below(8) {
+                self.masters_run_out();
+            }
             let mut era = self.begin_era();
             while era.left > 0 && self.left > 0 {
                 era.left -= 1;
@@ -464,18 +603,18 @@ impl Generator {
 
 /// The list of `count` records that belongs to this seed, and what it meets.
 pub fn list(seed: u64, count: u64) -> (Vec<u8>, Coverage) {
-    let mut generator = Generator {
-        random: Random::new(seed),
-        output: Vec::with_capacity(RECORD * (count as usize + 1)),
-        zone: vec![0; BUFFER],
-        handles: Vec::new(),
-        dead_handles: Vec::new(),
-        pointers: Vec::new(),
-        dead_pointers: Vec::new(),
-        left: count,
-        coverage: Coverage::default(),
-    };
+    let mut generator = Generator::new(seed, count);
     generator.whole_list();
-    generator.coverage.end(generator.output.len() % RECORD != 0);
-    (generator.output, generator.coverage)
+    generator.end()
+}
+
+/// A list in which the pool of masters grows up to document 01's limit of 8,188,
+/// and one in which it ends at 8,181, for eight more would be too many.
+#[allow(dead_code)]
+pub fn masters_to_the_limit() -> (Vec<u8>, Coverage) {
+    const MOST: u64 = 2 * 8_300;
+    let mut generator = Generator::new(0, MOST);
+    generator.to_the_limit(4);
+    generator.to_the_limit(5);
+    generator.end()
 }

@@ -12,16 +12,6 @@ pub const WAYS: [&str; 4] = [
 /// How often each way was met.
 pub type Counts = [u64; WAYS.len()];
 
-pub fn add(all: &mut Counts, more: &Counts) {
-    all.iter_mut().zip(more).for_each(|(all, more)| *all += more);
-}
-
-/// The ways that nothing met.
-pub fn never_met(counts: &Counts) -> Vec<&'static str> {
-    let never = WAYS.into_iter().zip(counts).filter(|(_, &count)| count == 0);
-    never.map(|(way, _)| way).collect()
-}
-
 fn word(zone: &[u8], at: usize) -> usize {
     zone[at..at + 4].iter().fold(0, |value, &byte| value << 8 | usize::from(byte))
 }
@@ -72,9 +62,14 @@ fn met(bays: &[Bay], need: usize) -> [u64; 2] {
     [u64::from(fitting.first() > tightest), u64::from(as_tight > 1)]
 }
 
-/// What an allocation of c bytes meets in a well-formed zone.
+/// What an allocation of c bytes meets in a well-formed zone. With no free
+/// master the first bay is laid out anew before (U3): it has one hole at most.
 pub fn of_allocation(zone: &[u8], c: u32) -> Counts {
-    let [larger_below, equal] = met(&bays(zone), 4 + up4(c));
+    let mut bays = bays(zone);
+    if zone[12..14] == [0, 0] {
+        bays[0].holes = vec![bays[0].sum().saturating_sub(32)];
+    }
+    let [larger_below, equal] = met(&bays, 4 + up4(c));
     [larger_below, equal, 0, 0]
 }
 

@@ -1,5 +1,6 @@
-//! The ledger of document 01: fed the calls alone, it holds no place of a
-//! relocatable block and never reads the zone.
+//! The ledger of document 01, with document 02's requests that have landed: fed
+//! the calls alone, it holds no place of a relocatable block and never reads the
+//! zone.
 
 use crate::calls::{Call, Reply};
 use crate::zone::{Name, Stretch};
@@ -127,19 +128,36 @@ impl Ledger {
         Ok(place as u32 + 2)
     }
 
+    fn allocate_relocatable(&mut self, c: u32) -> Result<u32, u32> {
+        if c > 32_760 {
+            return Err(3);
+        }
+        // "When a relocatable allocation finds the chain empty": then m is the
+        // number of live handles (document 02, U3)
+        let m = self.bays.iter().map(|bay| bay.live.len() as u32).sum::<u32>();
+        let grows = self.stack.is_empty();
+        if grows && (m + 8 > 8_188 || self.bays[0].sum() < 32) {
+            return Err(4);
+        }
+        let need = up4(4 + u64::from(c));
+        // "tested against the sums after those 32 bytes are taken"
+        let given_up = |bay: usize| if grows && bay == 0 { 32 } else { 0 };
+        let sums = self.bays.iter().map(Bay::sum).enumerate();
+        let reaching = sums.map(|(bay, sum)| sum - given_up(bay)).position(|sum| sum >= need);
+        let bay = reaching.ok_or(5u32)?;
+        // "The ledger's first capacity falls by 32 and its stack gains eight"
+        if grows {
+            self.bays[0].capacity -= 32;
+            self.stack = (m..m + 8).rev().map(|i| 16 + 4 * i).collect();
+        }
+        let handle = self.stack.pop().expect("there is a free handle now");
+        self.bays[bay].live.push((handle, vec![0; need as usize - 4]));
+        Ok(handle)
+    }
+
     fn step(&mut self, call: &Call, second: &mut [u8]) -> Result<Vec<u32>, u32> {
         let values = match *call {
-            Call::Relocatable(c) => {
-                if c > 32_760 {
-                    return Err(3);
-                }
-                let handle = *self.stack.last().ok_or(4u32)?;
-                let need = up4(4 + u64::from(c));
-                let bay = self.bays.iter().position(|bay| bay.sum() >= need).ok_or(5u32)?;
-                self.stack.pop();
-                self.bays[bay].live.push((handle, vec![0; need as usize - 4]));
-                vec![handle]
-            }
+            Call::Relocatable(c) => vec![self.allocate_relocatable(c)?],
             Call::Fixed(c) => vec![self.allocate_fixed(c)?],
             Call::FreeHandle(handle) => {
                 let (bay, entry) = self.find_handle(handle)?;

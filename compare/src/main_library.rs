@@ -12,16 +12,20 @@ mod foreign;
 mod holes;
 #[allow(dead_code)]
 mod model;
+mod pool;
 mod random;
 mod rules;
 mod verdict;
 #[allow(dead_code)]
+mod ways;
+#[allow(dead_code)]
 mod zone;
 mod zones;
 
-use arguments::{a_call, every_call, PLACING, STRETCHES, WEIGHTS};
+use arguments::{a_call, every_call, ALLOCATING, PLACING, STRETCHES, WEIGHTS};
 use calls::Call;
 use differ::{Differ, Tally, LONG, NAMES};
+use random::Random;
 use std::process::ExitCode;
 use std::thread;
 
@@ -88,6 +92,18 @@ fn pitted_zones(differ: &mut Differ, count: u32) -> Outcome {
         let mut zone = zones::a_pitted_zone(&mut differ.random);
         let (call, second) = a_call(&mut differ.random, &zone, &PLACING);
         differ.compare(&mut zone, &call, &second)?;
+    }
+    Ok(())
+}
+
+/// A block is allocated where no master is free, then two more.
+fn full_zones(differ: &mut Differ, count: u32, zone: fn(&mut Random) -> Vec<u8>) -> Outcome {
+    for _ in 0..count {
+        let mut zone = zone(&mut differ.random);
+        for _ in 0..3 {
+            let (call, second) = a_call(&mut differ.random, &zone, &ALLOCATING);
+            differ.compare(&mut zone, &call, &second)?;
+        }
     }
     Ok(())
 }
@@ -160,6 +176,8 @@ fn everything(differ: &mut Differ) -> Outcome {
     lists(differ, 4, 40, 262_140, 262_144)?;
     zones_at_random(differ, 15_000)?;
     pitted_zones(differ, 15_000)?;
+    full_zones(differ, 15_000, zones::a_zone_without_free_master)?;
+    full_zones(differ, 100, zones::a_zone_of_all_masters)?;
     walks(differ, 3_000)?;
     long_stretches(differ, 40)?;
     reached_zones(differ, 120, 12, 1_000)?;
@@ -184,12 +202,15 @@ fn print(tally: &Tally) {
     for (way, count) in holes::WAYS.iter().zip(tally.holes) {
         println!("  {way}: {count}");
     }
+    for (way, count) in pool::WAYS.iter().zip(tally.pool) {
+        println!("  {way}: {count}");
+    }
 }
 
-/// Without them the roster's order, or the choice between holes, would not have
-/// been compared.
+/// Without them the roster's order, the choice between holes, or the pool of
+/// masters that grows, would not have been compared.
 fn never_met(tally: &Tally) -> Vec<&'static str> {
-    let mut never = holes::never_met(&tally.holes);
+    let mut never = [ways::never_met(holes::WAYS, &tally.holes), ways::never_met(pool::WAYS, &tally.pool)].concat();
     if tally.rosters_apart == 0 {
         never.push("rosters of blocks that do not stand by rising handle");
     }

@@ -11,11 +11,15 @@ mod generator;
 mod holes;
 #[allow(dead_code)]
 mod lines;
+#[allow(dead_code)]
+mod pool;
 mod program;
 mod random;
 mod records;
 mod rows;
 mod text;
+#[allow(dead_code)]
+mod ways;
 #[allow(dead_code)]
 mod zone;
 
@@ -111,10 +115,20 @@ impl Comparison {
         }
     }
 
-    /// Two workers over the seeds; both stop at the first failing list.
-    fn seeds(&self) {
+    /// The pool of masters grows until m + 8 is too large.
+    fn to_the_limit(&self) -> Coverage {
+        let (list, meets) = generator::masters_to_the_limit();
+        if self.compare("masters-limit", &list, list.len()) {
+            println!("a list of {} records, up to 8,188 masters", list.len() / records::RECORD);
+        }
+        meets
+    }
+
+    /// Two workers over the seeds; both stop at the first failing list. What
+    /// other lists met is added.
+    fn seeds(&self, others: Coverage) {
         let (next, failed) = (AtomicU64::new(1), AtomicBool::new(false));
-        let covered = Mutex::new(Coverage::default());
+        let covered = Mutex::new(others);
         let work = || loop {
             let seed = next.fetch_add(1, Ordering::Relaxed);
             if seed > SEEDS || failed.load(Ordering::Relaxed) {
@@ -170,7 +184,8 @@ fn main() -> ExitCode {
     comparison.input_lengths();
     comparison.long_list();
     comparison.fresh(seed);
-    comparison.seeds();
+    let limit = comparison.to_the_limit();
+    comparison.seeds(limit);
     if comparison.failed.into_inner() {
         println!("the program and the Rust implementation differ");
         return ExitCode::FAILURE;

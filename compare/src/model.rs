@@ -191,6 +191,23 @@ impl Picture {
         true
     }
 
+    /// Eight masters more, ascending, in place of the first bay's 32 first bytes;
+    /// the bay is laid out as compacted behind them (document 02, U3).
+    fn add_masters(&mut self) -> Result<(), u32> {
+        let first = self.bays().remove(0);
+        let sum = self.sum_of(&first);
+        if self.m + 8 > 8_188 || sum < 32 {
+            return Err(4);
+        }
+        let mut items = self.compacted(&first);
+        items.pop();
+        items.push(Item::Free(sum - 32));
+        self.items.splice(first, items);
+        self.chain = (self.m..self.m + 8).map(|i| 16 + 4 * i as u32).collect();
+        self.m += 8;
+        Ok(())
+    }
+
     /// Puts a new fixed block at the end of the highest bay whose sum reaches
     /// its size, and gives its item's index.
     fn place_high(&mut self, block: Item) -> Option<usize> {
@@ -346,7 +363,11 @@ impl Picture {
                 if c > 32_760 {
                     return Err(3);
                 }
-                let handle = *self.chain.first().ok_or(4u32)?;
+                if self.chain.is_empty() {
+                    self.add_masters()?;
+                }
+                let handle = self.chain[0];
+                // refused with 5, the structure goes and the bytes are the old ones
                 if !self.place_low(Item::Relocatable(handle, vec![0; padded(c as usize, 4)])) {
                     return Err(5);
                 }

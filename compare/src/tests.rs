@@ -1,8 +1,8 @@
 //! Tests of the zone: the rig sheet to the byte, zone-run's example, the choice
-//! between holes, every state that small zones reach, long random lists, zones
-//! built at random and broken buffers. Two models answer beside it: the
-//! structured one (`model`) for every byte, and the ledger (`ledger`) for every
-//! answer of a list.
+//! between holes, the pool of masters that grows, every state that small zones
+//! reach, long random lists, zones built at random and broken buffers. Two
+//! models answer beside it: the structured one (`model`) for every byte, and the
+//! ledger (`ledger`) for every answer of a list.
 
 #![allow(dead_code)]
 
@@ -12,14 +12,17 @@ mod holes;
 mod ledger;
 mod lines;
 mod model;
+mod pool;
 mod random;
 mod records;
 mod rules;
 mod verdict;
+#[allow(dead_code)]
+mod ways;
 mod zone;
 mod zones;
 
-use arguments::{a_call, every_call, CALLS, PLACING, WEIGHTS};
+use arguments::{a_call, every_call, ALLOCATING, CALLS, PLACING, WEIGHTS};
 use calls::{ask_zone, Call, Reply};
 use ledger::Ledger;
 use model::{ask_model, Item, Picture};
@@ -27,7 +30,10 @@ use random::Random;
 use std::collections::HashSet;
 use verdict::{difference, Left};
 use zone::{Name, Stretch};
-use zones::{a_pitted_zone, a_zone, break_a_rule, damage, noise};
+use zones::{
+    a_pitted_zone, a_zone, a_zone_of_all_masters, a_zone_without_free_master, break_a_rule, damage,
+    noise,
+};
 
 // ---------------------------------------------------------------- rig sheet
 
@@ -455,6 +461,201 @@ fn fixed_blocks_and_growth_do_not_look_for_the_tightest_hole() {
     assert_eq!(master(&other, 16), 24 + 8 + 4);
 }
 
+// ------------------------------------------------------- masters that grow
+
+/// A zone of these blocks whose masters are all in use, and 8 bytes beyond it.
+fn full(items: Vec<Item>) -> Vec<u8> {
+    let m = items.iter().filter(|item| matches!(item, Item::Relocatable(..))).count();
+    let length = 16 + 4 * m + items.iter().map(Item::size).sum::<usize>();
+    let mut zone = Picture { length, m, chain: vec![], items }.encode();
+    zone.extend([0xEE; 8]);
+    zone
+}
+
+fn block(handle: u32, data: &[u8]) -> Item {
+    Item::Relocatable(handle, data.to_vec())
+}
+
+/// An allocation of c bytes: its handle, and the zone's bytes, 8 of them beyond
+/// it.
+fn assert_grows(mut zone: Vec<u8>, c: u32, handle: u32, wanted: &str) -> Vec<u8> {
+    let reply = compare(&mut zone, &Call::Relocatable(c), &[], None);
+    assert_eq!(reply, Reply::new(0, &[handle]));
+    let length = zone.len() - 8;
+    assert_eq!(zone, [bytes(wanted, length), vec![0xEE; 8]].concat());
+    zone
+}
+
+fn assert_refused(zone: &[u8], c: u32, number: u32) {
+    let mut after = zone.to_vec();
+    let reply = compare(&mut after, &Call::Relocatable(c), &[], None);
+    assert_eq!(reply, Reply::new(number, &[0]), "{c} bytes");
+    assert_eq!(after, zone, "a refused call changes no byte");
+}
+
+/// m = 0, and a first bay without a block.
+#[test]
+fn masters_where_there_was_none() {
+    let zone = full(vec![Item::Free(48)]);
+    let masters = "00000040 00000030 00000008 00140000
+        00000034 00000018 0000001C 00000020 00000024 00000028 0000002C 00000000";
+    assert_grows(zone.clone(), 4, 16, &format!("{masters} 80040010 00000000 00000004"));
+    // 48 bytes less 32
+    assert_grows(zone.clone(), 12, 16, &format!("{masters} 80080010"));
+    assert_refused(&zone, 13, 5);
+    assert_refused(&zone, 32_760, 5);
+    assert_refused(&zone, 32_761, 3);
+}
+
+/// The first block goes up by 24 bytes, the second down by 16.
+fn both_ways() -> Vec<u8> {
+    full(vec![
+        Item::Free(8),
+        block(16, b"basisrec"),
+        Item::Free(40),
+        block(20, b"MARK"),
+        Item::Free(4),
+    ])
+}
+
+#[test]
+fn blocks_go_up_and_down() {
+    let head = "00000060 00000038 0000000A 001C0000 0000003C 00000048
+        00000050 00000020 00000024 00000028 0000002C 00000030 00000034 00000000
+        80060010 62617369 73726563 80040014 4D41524B";
+    let new = "80060018 00000000 00000000 00000004";
+    let zone = assert_grows(both_ways(), 5, 24, &format!("{head} {new}"));
+    // where bkFst was, no block starts any more
+    let mut walker = zone::Walker { offset: 24 };
+    assert_eq!(walker.advance(&zone), Ok(zone::Step::default()));
+    assert_eq!((walker.offset, zone::Walker::start(&zone).unwrap().offset), (24, 56));
+    // the whole rest of the first bay
+    assert_grows(both_ways(), 16, 24, &format!("{head} 800A0018"));
+    // 52 bytes are free, 20 of them after the masters
+    assert_refused(&both_ways(), 17, 5);
+    assert_refused(&both_ways(), 48, 5);
+}
+
+/// Blocks longer than their slide, one of each way and one that stays.
+#[test]
+fn long_blocks_slide_over_themselves() {
+    let data = |first: u8| (first..first + 60).collect::<Vec<u8>>();
+    let blocks = [data(1), data(61), data(121), data(181)];
+    let holes = [0, 12, 20, 28];
+    let items = holes.iter().zip(&blocks).enumerate().flat_map(|(i, (&hole, data))| {
+        [Item::Free(hole), block(16 + 4 * i as u32, data)].into_iter().skip(usize::from(hole == 0))
+    });
+    let mut zone = full(items.collect());
+    let before: Vec<u32> = (0..4).map(|i| master(&zone, 16 + 4 * i)).collect();
+    compare(&mut zone, &Call::Relocatable(20), &[], None);
+    let slides = [32, 20, 0, -28];
+    for i in 0..4 {
+        let at = master(&zone, 16 + 4 * i) as usize;
+        assert_eq!(at as i64, i64::from(before[i]) + slides[i], "block {i}");
+        assert_eq!(zone[at..at + 60], blocks[i]);
+    }
+}
+
+/// A first bay of just 32 bytes is full then; its block goes up, the new one
+/// goes to the other bay, and the fixed block between them stays.
+#[test]
+fn the_block_goes_to_another_bay() {
+    let zone = full(vec![
+        block(16, b"MARK"),
+        Item::Free(32),
+        Item::Fixed(vec![0xF1, 0xF2]),
+        Item::Free(12),
+    ]);
+    let expected = "0000004C 00000034 00000009 00180000 00000038
+        00000044 0000001C 00000020 00000024 00000028 0000002C 00000030 00000000
+        80040010 4D41524B 4002F1F2 80060014";
+    assert_grows(zone.clone(), 8, 20, expected);
+    // 32 bytes were enough for it, 0 and 12 are not
+    assert_refused(&zone, 9, 5);
+    assert_refused(&zone, 28, 5);
+}
+
+/// The tightest hole of another bay, the lowest of equals; the first bay is laid
+/// out anew all the same.
+#[test]
+fn another_bay_has_its_tightest_hole_taken() {
+    let upper = [24, 16, 12, 16].map(Item::Free).into_iter().zip([20, 24, 28, 32].map(keeper));
+    let items = [Item::Free(20), keeper(16), Item::Free(16), Item::Fixed(vec![0xFF; 2])];
+    let items = items.into_iter().chain(upper.flat_map(|(hole, keeper)| [hole, keeper]));
+    let mut zone = full(items.collect());
+    compare(&mut zone, &Call::Relocatable(12), &[], None);
+    let upper = 36 + 20 + 8 + 16 + 4;
+    assert_eq!(master(&zone, 36), upper + 24 + 8 + 4);
+    assert_eq!(master(&zone, 16), 36 + 32 + 4);
+    assert_eq!(zone[36 + 32 + 8..][..4], [0, 0, 0, 2], "4 bytes are left in the first bay");
+}
+
+/// 4 by the first bay alone, whatever the others have; 5 comes after it.
+#[test]
+fn too_little_in_the_first_bay() {
+    let walls = || [Item::Fixed(vec![0xFF; 2]), Item::Free(400)];
+    for holes in [vec![28], vec![8, 20], vec![]] {
+        let blocks = (0..).map(|i| block(16 + 4 * i, b""));
+        let items = holes.iter().zip(blocks).flat_map(|(&hole, block)| [Item::Free(hole), block]);
+        let zone = full(items.chain(walls()).collect());
+        assert_refused(&zone, 0, 4);
+        assert_refused(&zone, 32_760, 4);
+        assert_refused(&zone, 32_761, 3);
+    }
+    // with 32 bytes there, what the other bay has decides
+    let mut zone = full([Item::Free(32)].into_iter().chain(walls()).collect());
+    assert_refused(&zone, 397, 5);
+    compare(&mut zone, &Call::Relocatable(396), &[], None);
+    assert_eq!(master(&zone, 16), 16 + 32 + 4 + 4);
+}
+
+/// Eight handles, one after the other, then eight more.
+#[test]
+fn eight_handles_at_a_time() {
+    let mut zone = vec![0xEE; 200];
+    assert_eq!(zone::initialize(&mut zone, 200, 0), Ok(()));
+    let mut ledger = Ledger::new(200, 200, 0);
+    for i in 0..17 {
+        let reply = compare(&mut zone, &Call::Relocatable(0), &[], Some(&mut ledger));
+        assert_eq!(reply, Reply::new(0, &[16 + 4 * i]));
+        assert_eq!(master(&zone, 8), 8 * (i / 8 + 1), "m");
+    }
+    // one that is freed comes first again
+    compare(&mut zone, &Call::FreeHandle(20), &[], Some(&mut ledger));
+    let reply = compare(&mut zone, &Call::Relocatable(0), &[], Some(&mut ledger));
+    assert_eq!(reply, Reply::new(0, &[20]));
+}
+
+/// "m + 8 above 8,188", with bytes enough in the first bay.
+#[test]
+fn masters_up_to_their_limit() {
+    for (m, last) in [(8_180, 8_188), (8_181, 8_181), (8_172, 8_188), (8_173, 8_181)] {
+        let length = 16 + 8 * last + 32;
+        let mut zone = vec![0; length as usize];
+        assert_eq!(zone::initialize(&mut zone, length, m), Ok(()));
+        let mut ledger = Ledger::new(zone.len(), length, m);
+        for i in 0..last {
+            assert_eq!(zone::allocate_relocatable(&mut zone, 0), Ok(16 + 4 * i));
+            assert_eq!(ledger.ask(&Call::Relocatable(0), &mut []), Reply::new(0, &[16 + 4 * i]));
+        }
+        assert_eq!(zone::sum(&zone), Ok((32, 32)));
+        let reply = compare(&mut zone, &Call::Relocatable(0), &[], Some(&mut ledger));
+        assert_eq!((reply, master(&zone, 8)), (Reply::new(4, &[0]), last));
+    }
+}
+
+/// A resize takes no handle.
+#[test]
+fn a_resize_adds_no_master() {
+    let zone = both_ways();
+    for c in [12, 49, 60, 61] {
+        let mut after = zone.clone();
+        let reply = compare(&mut after, &Call::Resize(16, c), &[], None);
+        assert_eq!(reply.refusal, Some(if c > 60 { 5 } else { 0 }));
+        assert_eq!(after[4..14], zone[4..14], "bkFst, m and chain");
+    }
+}
+
 // --------------------------------------------- comparing with the two models
 
 /// A zone and its ledger after calls that leave handles 24 and 20 in the first
@@ -561,29 +762,41 @@ fn assert_refused_values(call: &Call, reply: &Reply) {
     }
 }
 
-/// Counts of accepted calls (0) and of each refusal; of choices between holes.
+/// Counts of accepted calls (0) and of each refusal; of choices between holes; of
+/// allocations that find no free master.
 #[derive(Default)]
 struct Tally {
     answers: [u64; 11],
     holes: holes::Counts,
+    pool: pool::Counts,
 }
 
 impl Tally {
     fn count(&mut self, before: &[u8], call: &Call, reply: &Reply) {
         let Some(refusal) = reply.refusal else { return };
         self.answers[refusal as usize] += 1;
+        if let Call::Relocatable(c) = *call {
+            ways::add(&mut self.pool, &pool::of_allocation(before, c, refusal));
+        }
         let met = match *call {
             _ if refusal != 0 => return,
             Call::Relocatable(c) => holes::of_allocation(before, c),
             Call::Resize(handle, c) => holes::of_resize(before, handle, c),
             _ => return,
         };
-        holes::add(&mut self.holes, &met);
+        ways::add(&mut self.holes, &met);
     }
 
     fn tell(&self, name: &str) {
-        let Tally { answers, holes } = self;
-        println!("{name}; done and refused 1 to 10: {answers:?}; choices between holes: {holes:?}");
+        let Tally { answers, holes, pool } = self;
+        println!("{name}; done and refused 1 to 10: {answers:?}; choices between holes: {holes:?}; no free master: {pool:?}");
+    }
+
+    /// The ways of `pool` that were never met, but for the one of large zones.
+    fn pool_not_met(&self) -> Vec<&'static str> {
+        let mut never = ways::never_met(pool::WAYS, &self.pool);
+        never.retain(|&way| way != pool::WAYS[pool::WAYS.len() - 1]);
+        never
     }
 }
 
@@ -622,6 +835,7 @@ fn many_lists(name: &str, seed: u64, lists: u32, steps: u32, words: impl Fn(&mut
     tally.tell(&format!("{name}: {lists} lists of {steps} calls"));
     if lists > 100 {
         assert!(tally.answers[3..].iter().all(|&times| times > 0), "a refusal was never reached");
+        assert_eq!(tally.pool_not_met(), [""; 0], "never met");
     }
 }
 
@@ -675,7 +889,25 @@ fn one_placing_on_pitted_zones() {
         tally.count(&before, &call, &reply);
     }
     tally.tell("pitted zones");
-    assert_eq!(holes::never_met(&tally.holes), [""; 0], "never met");
+    assert_eq!(ways::never_met(holes::WAYS, &tally.holes), [""; 0], "never met");
+}
+
+#[test]
+fn allocations_where_no_master_is_free() {
+    let mut random = Random::new(10);
+    let mut tally = Tally::default();
+    for round in 0..60_000 {
+        // few of the large zones
+        let large = round % 1_000 == 0;
+        let a_zone = if large { a_zone_of_all_masters } else { a_zone_without_free_master };
+        let mut buffer = a_zone(&mut random);
+        let before = buffer.clone();
+        let (call, second) = a_call(&mut random, &buffer, &ALLOCATING);
+        let reply = compare(&mut buffer, &call, &second, None);
+        tally.count(&before, &call, &reply);
+    }
+    tally.tell("no free master");
+    assert_eq!(ways::never_met(pool::WAYS, &tally.pool), [""; 0], "never met");
 }
 
 #[test]
@@ -751,11 +983,13 @@ fn every_state(length: u32, beyond: u32, m: u32, most: usize) -> (usize, u64) {
     let mut open = vec![first];
     let mut calls = vec![Call::Compact, Call::Sum, Call::Check, Call::Census, Call::Enlarge(4)];
     let sizes: Vec<u32> = (0..=length - 16 - 4 * m).step_by(2).collect();
+    // eight more for every 32 bytes
+    let handles = m + 8 * ((length + beyond - 16 - 4 * m) / 32);
     for &c in &sizes {
         calls.extend([Call::Relocatable(c), Call::Fixed(c), Call::Shrink(c)]);
-        calls.extend((0..m).map(|i| Call::Resize(16 + 4 * i, c)));
+        calls.extend((0..handles).map(|i| Call::Resize(16 + 4 * i, c)));
     }
-    calls.extend((0..m).map(|i| Call::FreeHandle(16 + 4 * i)));
+    calls.extend((0..handles).map(|i| Call::FreeHandle(16 + 4 * i)));
     calls.extend((16..length + beyond).step_by(2).map(Call::FreePointer));
     let mut steps = 0;
     while let Some(state) = open.pop() {
@@ -808,9 +1042,15 @@ fn every_state_of_small_zones() {
     every_state_of(&[(16, 8, 0), (32, 4, 0), (36, 4, 1), (44, 0, 2), (48, 0, 3)]);
 }
 
+/// 36 bytes, of which 32 can become masters.
+#[test]
+fn every_state_of_a_small_zone_that_grows() {
+    every_state_of(&[(52, 0, 0)]);
+}
+
 /// Takes half a minute: run by name, with `--ignored`.
 #[test]
 #[ignore]
 fn every_state_of_larger_zones() {
-    every_state_of(&[(48, 4, 2), (52, 0, 3)]);
+    every_state_of(&[(48, 4, 2), (52, 0, 3), (56, 0, 1)]);
 }

@@ -98,6 +98,10 @@ const AT_ZEROS: usize = 14;
 pub const LENGTH_LIMIT: usize = 1_048_576;
 pub const MASTERS_LIMIT: usize = 8_188;
 
+/// "eight masters are added: the first bay gives up 32 bytes" (document 02, U3).
+const ADDED_MASTERS: usize = 8;
+const ADDED: usize = MASTER * ADDED_MASTERS;
+
 /// What the check learns of a well-formed zone.
 #[derive(Clone, Copy)]
 struct Layout {
@@ -468,9 +472,9 @@ struct Room {
     tightest: Option<Block>,
 }
 
-/// "the lowest whose sum reaches the need", with its tightest hole.
-fn lowest_room(zone: &[u8], layout: &Layout, need: usize) -> Answer<Room> {
-    let mut bays = bays(zone, layout);
+/// Of the bays to come "the lowest whose sum reaches the need", with its
+/// tightest hole.
+fn lowest_room(mut bays: Bays, need: usize) -> Answer<Room> {
     loop {
         let mut tightest = None;
         let bay = bays
@@ -560,17 +564,74 @@ pub fn allocate_relocatable(zone: &mut [u8], c: u32) -> Answer<u32> {
     if c > Block::RELOCATABLE_DATA_LIMIT {
         return Err(Refusal::TooLarge);
     }
+    let need = up4(Block::RELOCATABLE_HEADER + c as usize);
     let handle = get16(zone, AT_CHAIN) as usize;
     if handle == 0 {
-        return Err(Refusal::NoFreeMaster);
+        return allocate_growing(zone, &layout, need);
     }
-    let need = up4(Block::RELOCATABLE_HEADER + c as usize);
-    let room = lowest_room(zone, &layout, need)?;
+    let room = lowest_room(bays(zone, &layout), need)?;
     let at = take_low(zone, &room, need);
     let next = get32(zone, handle);
     put16(zone, AT_CHAIN, next);
     put_relocatable(zone, at, need, handle);
     Ok(handle as u32)
+}
+
+/// Document 02, U3: "When a relocatable allocation finds the chain empty, eight
+/// masters are added". 4 is "m + 8 above 8,188 or the first bay's sum below
+/// 32"; "The block's need is tested against the sums after those 32 bytes are
+/// taken; if none reaches it, 5 is given and no pool growth remains".
+fn allocate_growing(zone: &mut [u8], layout: &Layout, need: usize) -> Answer<u32> {
+    let mut bays = bays(zone, layout);
+    let first = bays
+        .next()
+        .filter(|bay| bay.sum >= ADDED && layout.masters + ADDED_MASTERS <= MASTERS_LIMIT)
+        .ok_or(Refusal::NoFreeMaster)?;
+    let elsewhere = if first.sum - ADDED >= need { None } else { Some(lowest_room(bays, need)?) };
+    let free = make_way(zone, &first);
+    let handle = add_masters(zone, layout);
+    let at = take_low(zone, &elsewhere.unwrap_or(Room { bay: first, tightest: Some(free) }), need);
+    put_relocatable(zone, at, need, handle);
+    Ok(handle as u32)
+}
+
+/// "the first bay gives up 32 bytes at its start, its blocks stand right after
+/// those in old order without gaps, and the rest of that bay, if any, is one
+/// free block at its end". Answers that free block, of size 0 for none. The 32
+/// bytes are left with anything in them.
+fn make_way(zone: &mut [u8], bay: &Bay) -> Block {
+    // Blocks with fewer than 32 free bytes before them go up, those with more
+    // go down. The former end with the free block that makes 32 bytes full.
+    let (mut head, mut free) = (bay.start, 0);
+    while free < ADDED {
+        let block = Block::read(zone, head);
+        if block.kind == Kind::Free {
+            free += block.size;
+        }
+        head = block.end();
+    }
+    // Those that go up are put together at the bay's start, then go up as one
+    // run, over free bytes alone.
+    let gap = compact_bay(zone, &Bay { end: head, ..*bay });
+    slide_up(zone, bay.start..gap.at, ADDED);
+    let start = gap.at + ADDED;
+    put_free(zone, start, gap.size - ADDED);
+    compact_bay(zone, &Bay { start, ..*bay })
+}
+
+/// Eight masters from the old bkFst on, "chained ascending". Answers the first
+/// of them, which is taken at once: the chain starts with the second.
+fn add_masters(zone: &mut [u8], layout: &Layout) -> usize {
+    let handle = layout.first;
+    let first = handle + ADDED;
+    for master in (handle..first).step_by(MASTER) {
+        let next = master + MASTER;
+        put32(zone, master, if next < first { next as u32 } else { 0 });
+    }
+    put32(zone, AT_FIRST, first as u32);
+    put32(zone, AT_MASTERS, (layout.masters + ADDED_MASTERS) as u32);
+    put16(zone, AT_CHAIN, (handle + MASTER) as u32);
+    handle
 }
 
 /// "Allocate fixed (c): the highest bay whose sum reaches the need. If its
@@ -655,7 +716,7 @@ pub fn resize(zone: &mut [u8], handle: u32, c: u32) -> Answer<()> {
     if own.sum >= size - block.size {
         grow(zone, &own, &block, size, handle);
     } else {
-        let room = lowest_room(zone, &layout, size)?;
+        let room = lowest_room(bays(zone, &layout), size)?;
         move_to(zone, &layout, &room, &block, size, handle);
     }
     Ok(())

@@ -71,6 +71,48 @@ pub fn a_pitted_zone(random: &mut Random) -> Vec<u8> {
     encoded(items, m, handles)
 }
 
+/// A well-formed zone whose masters are all in use, its first bay with holes of
+/// which some make 32 bytes only together: where its blocks go when the pool of
+/// masters grows, and whether it does, is document 02's (U3).
+pub fn a_zone_without_free_master(random: &mut Random) -> Vec<u8> {
+    let m = random.below(9);
+    let mut handles = shuffled_handles(random, m);
+    let mut items = Vec::new();
+    let longest = random.pick(&[2, 4, 10]);
+    let last_bay = random.below(3);
+    for bay in 0..=last_bay {
+        if bay > 0 {
+            items.push(Item::Fixed(vec![0xA5, 0x5A]));
+        }
+        let few = random.below(handles.len() as u32 + 1);
+        let count = if bay == last_bay { handles.len() } else { few as usize };
+        for handle in handles.split_off(handles.len() - count) {
+            if random.once_in(2) {
+                items.push(Item::Free(4 * random.between(1, longest) as usize));
+            }
+            let data = (0..4 * random.below(8)).map(|_| random.any() as u8).collect();
+            items.push(Item::Relocatable(handle, data));
+        }
+        if random.once_in(2) {
+            items.push(Item::Free(4 * random.between(1, 2 * longest) as usize));
+        }
+    }
+    encoded(items, m, handles)
+}
+
+/// The same with as many masters as a zone can have, or up to nine fewer.
+pub fn a_zone_of_all_masters(random: &mut Random) -> Vec<u8> {
+    let m = 8_188 - random.below(10);
+    let mut items = Vec::new();
+    for (i, handle) in shuffled_handles(random, m).into_iter().enumerate() {
+        if i % 4_000 == 0 {
+            items.push(Item::Free(4 * random.between(1, 10) as usize));
+        }
+        items.push(Item::Relocatable(handle, vec![]));
+    }
+    encoded(items, m, vec![])
+}
+
 /// Changes a few bytes or numbers; the zone may or may not stay well-formed.
 pub fn damage(random: &mut Random, buffer: &mut Vec<u8>) {
     for _ in 0..random.pick(&[1, 1, 1, 2, 3]) {

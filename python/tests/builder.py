@@ -90,6 +90,22 @@ def relocatable(handle: int, data: bytes) -> Part:
     return Part(RELOCATABLE, 4 + len(data), handle, data)
 
 
+def full_and_grown() -> Tuple[Plan, Plan]:
+    """A zone whose masters are all in use, and the same after an allocation
+    of 16 bytes, which are written: eight masters more (document 02, U3)."""
+    recipe = relocatable(20, b"\x00\x01\x39\x7aRECIPE A")
+    mark = relocatable(24, b"MARK")
+    one = relocatable(28, b"SP222222")
+    two = relocatable(16, b"P1111111111Z")
+    hardware = fixed(bytes(range(10, 16)))
+    new = relocatable(32, b"P" + b"3" * 15)
+    full = Plan(4, (free(8), recipe, mark, free(40), one, two, free(20),
+                    hardware), ())
+    grown = Plan(12, (recipe, mark, one, two, new, free(16), hardware),
+                 (36, 40, 44, 48, 52, 56, 60))
+    return full, grown
+
+
 def random_plan(rng: random.Random, blocks: int, largest: int = 64,
                 fixed_blocks: int = 0, spare: int = 3,
                 length: Optional[int] = None) -> Plan:

@@ -6,6 +6,7 @@ import sys
 PYTHON = os.path.dirname(os.path.dirname(os.path.abspath(__file__)))
 ROOT = os.path.dirname(PYTHON)
 COMMAND = os.path.join(ROOT, "zone-print")
+EXAMPLES = os.path.join(ROOT, "examples")
 
 if PYTHON not in sys.path:
     sys.path.insert(0, PYTHON)

@@ -55,6 +55,17 @@ class Command(unittest.TestCase):
         self.assertIn("free bytes: 12; largest bay's sum 8", text)
         self.assertIn("scatter is counted as", text)
 
+    def test_masters_that_have_grown(self) -> None:
+        done = self.run_it(os.path.join(support.EXAMPLES, "grown.zone"))
+        self.assertEqual((done.returncode, done.stderr), (0, b""))
+        text = done.stdout.decode("ascii")
+        self.assertIn("zone: L 160, bkFst 64, m 12, hFstFree 36\n", text)
+        self.assertIn("masters: 5 live, 7 in the chain "
+                      "(36 40 44 48 52 56 60)\n", text)
+        rows = [line.split() for line in text.splitlines()]
+        self.assertIn("80 relocatable 8 handle 24 4 4D41524B".split(), rows)
+        self.assertIn("0 64 152 88 16 1 16 0".split(), rows)
+
     def test_standard_input(self) -> None:
         done = self.run_it("-", data=support.R1)
         self.assertEqual((done.returncode, done.stderr), (0, b""))

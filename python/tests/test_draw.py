@@ -1,5 +1,6 @@
 """The map: that it is well-formed XML and leaves no block out."""
 
+import os
 import random
 import unittest
 import xml.etree.ElementTree as tree
@@ -38,6 +39,27 @@ class Map(unittest.TestCase):
         for expected in ("Zone of 64 bytes", "header", "next 20", "free 32",
                          "bay 0: sum 32", "L", "fixed block", "free master"):
             self.assertIn(expected, words)
+
+    def test_masters_that_have_grown(self) -> None:
+        full, grown = (Zone(p.image()) for p in builder.full_and_grown())
+        self.assertNotIn("handle 32", self.words(full))
+        words, tips = self.words(grown), self.tips(grown)
+        for master in range(16, 64, 4):
+            self.assertIn(str(master), words)
+        self.assertIn("handle 32", words)
+        self.assertIn("bay 0: sum 16", words)
+        for expected in ("live master 32, holds 120", "live master 20, holds 68",
+                         "free master 36, next 40", "free master 60, next 0",
+                         "header: L 160, bkFst 64, m 12, hFstFree 36",
+                         "fixed block at 152, size 8, pointer 154"):
+            self.assertIn(expected, tips)
+
+    def test_kept_pictures(self) -> None:
+        for name, plan in zip(("full", "grown"), builder.full_and_grown()):
+            path = os.path.join(support.EXAMPLES, name + ".svg")
+            with open(path, encoding="utf-8", newline="") as stream:
+                self.assertEqual(stream.read(),
+                                 draw(Zone(plan.image()), name + ".zone"))
 
     def test_least_zones(self) -> None:
         chain = tuple(16 + 4 * i for i in range(17))

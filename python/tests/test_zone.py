@@ -1,5 +1,6 @@
 """What is read from well-formed zones."""
 
+import os
 import random
 import unittest
 
@@ -64,6 +65,51 @@ class RigSheet(unittest.TestCase):
         self.assertEqual([(bay.start, bay.end, bay.sum) for bay in zone.bays],
                          [(32, 44, 12), (48, 60, 12), (64, 64, 0)])
         self.assertEqual(zone.sum(), (24, 12))
+
+
+class Grown(unittest.TestCase):
+    """Eight masters more: the reader takes both images as they are."""
+
+    def setUp(self) -> None:
+        self.images = [plan.image() for plan in builder.full_and_grown()]
+        self.full, self.grown = map(Zone, self.images)
+
+    def test_header(self) -> None:
+        full, grown = self.full, self.grown
+        self.assertEqual((full.length, grown.length), (160, 160))
+        self.assertEqual((full.m, full.bk_fst, full.chain), (4, 32, ()))
+        self.assertEqual((grown.m, grown.bk_fst, grown.h_fst_free),
+                         (12, 64, 36))
+        self.assertEqual(grown.chain, tuple(range(36, 64, 4)))
+
+    def test_names_read_the_same(self) -> None:
+        for handle in self.full.handles:
+            self.assertEqual(self.grown.read_handle(handle),
+                             self.full.read_handle(handle))
+        self.assertEqual(self.grown.handles, (*self.full.handles, 32))
+        self.assertEqual(self.grown.pointers, self.full.pointers)
+        self.assertEqual(self.grown.read_pointer(154),
+                         self.full.read_pointer(154))
+
+    def test_both_ways(self) -> None:
+        moved = {handle: self.grown.by_handle(handle).offset
+                 - self.full.by_handle(handle).offset
+                 for handle in self.full.handles}
+        self.assertEqual(moved, {16: -16, 20: 24, 24: 24, 28: -16})
+        self.assertEqual(self.full.sum(), (68, 68))
+        self.assertEqual(self.grown.sum(), (68 - 32 - 20, 16))
+        self.assertEqual(self.grown.scatter(), (1, 16, 0))
+
+    def test_a_free_master_of_the_new_ones(self) -> None:
+        with self.assertRaises(ZoneError):
+            self.grown.by_handle(36)
+        self.assertEqual(self.grown.roster()[-1], (32, 16))
+
+    def test_examples(self) -> None:
+        for name, image in zip(("full", "grown"), self.images):
+            path = os.path.join(support.EXAMPLES, name + ".zone")
+            with open(path, "rb") as stream:
+                self.assertEqual(stream.read(), bytes(image), name)
 
 
 class RandomZones(unittest.TestCase):

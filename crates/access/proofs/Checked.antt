@@ -10,7 +10,7 @@ use borrow.Author.Tests.{not-false}
 use lib.ListN.{length, getD, take, length-take}
 use Rattle.bigendian.specs.BigEndian.{fromBE, Bytes}
 use Rattle.bigendian.proofs.Parts.{slice-take}
-use Rattle.block_type.specs.Limits.{lengthAt, firstAt, chainAt}
+use Rattle.block_type.specs.Limits.{lengthAt, firstAt, mastersAt, chainAt}
 use Rattle.format.specs.WellFormed.{wellFormed, zoneOf, lengthField, firstField, mastersField, chainField}
 use Rattle.format.specs.Steps.{Fields}
 use Rattle.format.proofs.Bool.{and-left}
@@ -67,6 +67,9 @@ module _ (s : List ℕ) (ok : Bool) (e : ok ≡ wellFormed s) (q : not ok ≡ fa
 
 pub zone-14 : (z : List ℕ) → IsZone z → chainAt + 2 ≤ length z
 zone-14 z i = omega (arith, whole-of z i .long)
+
+pub zone-12 : (z : List ℕ) → IsZone z → mastersAt + 4 ≤ length z
+zone-12 z i = omega (arith, whole-of z i .long)
 
 pub zone-8 : (z : List ℕ) → IsZone z → firstAt + 4 ≤ length z
 zone-8 z i = omega (arith, whole-of z i .long)

@@ -1,2 +1,3 @@
+pub mod growth
 pub mod relocatable
 pub mod fixed

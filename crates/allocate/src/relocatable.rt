@@ -1,10 +1,14 @@
-// Allocate relocatable: a block with the chain's head as its handle, in the lowest bay whose sum reaches its size.
+// Allocate relocatable: a block with the chain's head as its handle, in the lowest bay whose sum reaches its size. Where the chain is empty,
+// eight masters are added first.
+use super::growth;
 use room::place;
 ghost use mathlib.Core.Path.{_≡_};
+ghost use mathlib.Core.Bool.{false};
 ghost use mathlib.Core.List.{[], _∷_};
 ghost use Prim.Native.Nat.{_-_, _≤_};
 ghost use lib.ListN.{take};
-ghost use Rattle.block_type.specs.Limits.{zoneHeader, chainAt};
+ghost use Rattle.block_type.specs.Limits.{relocLimit, relocNeed, zoneHeader, chainAt};
+ghost use Rattle.format.specs.WellFormed.{chainField};
 ghost use Rattle.bigendian.specs.BigEndian.{toBE, overwrite};
 ghost use Rattle.structure.specs.Structure.{encode, decodeZone};
 ghost use Rattle.bay.specs.Bay.{held, gap};
@@ -13,11 +17,14 @@ ghost use Rattle.room.specs.place.Fit.{blank, Fit};
 ghost use Rattle.calls.specs.Calls.{told, allocate-relocatable};
 ghost use Rattle.zone.specs.Call.{result, call};
 ghost use Rattle.call_laws.specs.Frame.{PlannedIn, Planned};
-ghost use Rattle.allocate.specs.relocatable.Ready.{allocated, RoomIn, Going, Ready};
+ghost use Rattle.masters.specs.Grown.{grownIn};
+ghost use Rattle.allocate.specs.growth.Grows.{GrowsIn};
+ghost use Rattle.allocate.specs.relocatable.Ready.{allocated, withMasterIn, RoomIn, Going, Way, Ready};
 use block_type::BlockType;
 use calls::Told;
 ghost use Rattle.structure.specs.IsZone.{IsZone};
 
+// What the call is to write: the bay from start to end gets the block at `at`, or, where it grows, that bay is the first one, which gives up its bytes.
 pub struct Plan {
     pub number: u32,
     pub len: usize,
@@ -29,6 +36,7 @@ pub struct Plan {
     pub at: usize,
     pub size: usize,
     pub tidy: bool,
+    pub grows: bool,
 }
 
 // Master h leaves the chain, which goes on with `next`, for a new block in the free block of n bytes at `at`.
@@ -68,13 +76,14 @@ fn no_plan(number: u32) -> Plan
         at: 0,
         size: 0,
         tidy: false,
+        grows: false,
     }
 }
 
 // The plan in a well-formed zone, in the room that has been found.
 fn plan_room(z: &[u8], need: usize, h: usize, r: place::Site) -> Plan
     requires { ⌜ RoomIn (now z) need h (r .start) (r .end) (r .at) (r .size) (r .tidy) ⌝ }
-    ensures { λ p. ⌜ (p .number ≡ 0) × (p .need ≡ need) × Going (now (z .entry)) p ⌝ }
+    ensures { λ p. ⌜ (p .number ≡ 0) × (p .need ≡ need) × (p .grows ≡ false) × Going (now (z .entry)) p ⌝ }
 {
     let next = bigendian::get4(z, h);
     let start = r.start;
@@ -93,6 +102,31 @@ fn plan_room(z: &[u8], need: usize, h: usize, r: place::Site) -> Plan
         at,
         size,
         tidy,
+        grows: false,
+    }
+}
+
+// The plan where masters are added first: the new block's handle is the first of them, which lies where the first block was.
+fn plan_grown(z: &[u8], c: u32, need: usize) -> Plan
+    requires { ⌜ IsZone (now z) × (c ≤ relocLimit) × (need ≡ relocNeed c) × (chainField (now z) ≡ 0) ⌝ }
+    ensures { λ r. ⌜ PlannedIn (allocate-relocatable c) (now (z .entry)) (r .number) (Ready (now (z .entry)) c r) ⌝ }
+{
+    let g = growth::plan_growth(z, c, need);
+    let number = g.number;
+    let start = g.first;
+    let end = g.end;
+    Plan {
+        number,
+        len: 0,
+        need,
+        handle: start,
+        next: 0,
+        start,
+        end,
+        at: 0,
+        size: 0,
+        tidy: false,
+        grows: true,
     }
 }
 
@@ -104,11 +138,11 @@ fn plan_in(z: &[u8], c: u32) -> Plan
     if BlockType::RELOCATABLE_LIMIT < c {
         return no_plan(3);
     }
+    let need = (BlockType::RELOCATABLE_HEADER + c as usize + 3) / 4 * 4;
     let h = bigendian::get2(z, block_type::CHAIN_AT) as usize;
     if h == 0 {
-        return no_plan(4);
+        return plan_grown(z, c, need);
     }
-    let need = (BlockType::RELOCATABLE_HEADER + c as usize + 3) / 4 * 4;
     let first = bigendian::get4(z, block_type::FIRST_AT) as usize;
     let r = place::find_room(z, first, need);
     let found = r.found;
@@ -138,6 +172,7 @@ fn plan_zone(zone: &[u8], c: u32) -> Plan
     let at = p.at;
     let size = p.size;
     let tidy = p.tidy;
+    let grows = p.grows;
     Plan {
         number,
         len: l,
@@ -149,6 +184,30 @@ fn plan_zone(zone: &[u8], c: u32) -> Plan
         at,
         size,
         tidy,
+        grows,
+    }
+}
+
+// Adds masters from the bay from `first` to `end`, then the new block, with the first of them.
+fn allocate_grown(z: &mut [u8], need: usize, first: usize, end: usize)
+    requires { ⌜ GrowsIn (now z) need first end ⌝ }
+    ensures { λ _. ⌜ now (z .exit) ≡ encode (allocated need (grownIn (decodeZone (now (z .entry))))) ⌝ }
+{
+    masters::grow(z, first, end);
+    let r = place::find_room(z, first + block_type::ADDED_BYTES, need);
+    let p = plan_room(z, need, first, r);
+    allocate_in(z, p);
+}
+
+// What the plan says.
+fn carry_out(z: &mut [u8], p: Plan)
+    requires { ⌜ Way (now z) p ⌝ }
+    ensures { λ _. ⌜ now (z .exit) ≡ encode (allocated (p .need) (withMasterIn (decodeZone (now (z .entry))))) ⌝ }
+{
+    if p.grows {
+        allocate_grown(z, p.need, p.start, p.end);
+    } else {
+        allocate_in(z, p);
     }
 }
 
@@ -161,7 +220,7 @@ pub fn allocate_relocatable(zone: &mut [u8], c: u32) -> Told
     let l = p.len;
     let handle = p.handle;
     if number == 0 {
-        allocate_in(&mut zone[..l], p);
+        carry_out(&mut zone[..l], p);
         let value = handle as u32;
         return Told { number: 0, value };
     }

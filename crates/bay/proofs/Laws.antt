@@ -8,7 +8,7 @@ use lib.Dec.{leb}
 use borrow.Author.Tests.{leb-true}
 use Rattle.kinds.specs.Kinds.{Item, headerOf, itemSize, is}
 use Rattle.calls.specs.State.{total, alter}
-use Rattle.bay.specs.Bay.{Cell, free, held, baySize, baySum, items, gap, packed, joinBays, compactBay, trim, takeHigh, release, edit}
+use Rattle.bay.specs.Bay.{Cell, free, held, baySize, baySum, items, gap, packed, joinBays, compactBay, packedLess, trim, takeHigh, release, edit}
 use Rattle.bay.specs.Counted.{remove}
 use Rattle.bay.proofs.Each.{Each, nothing, just, each-over, each-cond, each-getD, cond-ap, cond-one}
 
@@ -57,6 +57,10 @@ bsum-gap (suc n) [] = refl
 bsum-gap (suc n) (free k ∷ cs) = omega arith
 bsum-gap (suc n) (held e ∷ cs) = refl
 
+pub bsum-packed : (es : List Item) (t : List Cell) → baySum (packed es t) ≡ baySum t
+bsum-packed [] t = refl
+bsum-packed (e ∷ es) t = bsum-packed es t
+
 pub bsum-weld : (b t : List Cell) → baySum (joinBays b t) ≡ baySum b + baySum t
 bsum-weld [] t = omega arith
 bsum-weld (free n ∷ b) t = omega (arith, bsum-gap n (joinBays b t), bsum-weld b t)
@@ -87,6 +91,13 @@ tidy-size cs = omega (arith, bsize-packed (items cs) (gap (baySum cs) []), bsize
 pub tidy-items : (cs : List Cell) → items (compactBay cs) ≡ items cs
 tidy-items cs = simp (items-packed, items-gap, append-nil)
 
+-- the same with n free bytes less
+pub less-items : (n : ℕ) (cs : List Cell) → items (packedLess n cs) ≡ items cs
+less-items n cs = simp (items-packed, items-gap, append-nil)
+
+pub less-sum : (n : ℕ) (cs : List Cell) → baySum (packedLess n cs) ≡ baySum cs - n
+less-sum n cs = bsum-packed (items cs) (gap (baySum cs - n) []) ∙ bsum-gap (baySum cs - n) [] ∙ omega arith
+
 -- n bytes less, and the same items
 pub record Less (n : ℕ) (cs ds : List Cell) : Type 0 where
   pub size : baySize ds + n ≡ baySize cs
@@ -98,13 +109,15 @@ trim-less n (free k ∷ []) = each-cond (leb n k) (λ h. just (record { size = o
 trim-less n (free k ∷ (c ∷ cs)) = each-over (free k ∷_) (λ a p. record { size = omega (arith, p .size); same = p .same }) (trim-less n (c ∷ cs))
 trim-less n (held e ∷ cs) = each-over (held e ∷_) (λ a p. record { size = omega (arith, p .size); same = ap (e ∷_) (p .same) }) (trim-less n cs)
 
+-- compacted, with n free bytes less
+pub packed-less : (n : ℕ) (cs : List Cell) → n ≤ baySum cs → Less n cs (packedLess n cs)
+packed-less n cs h = record {
+  size = omega (arith, bsize-packed (items cs) (gap (baySum cs - n) []), bsize-gap (baySum cs - n) [], bsize-split cs);
+  same = less-items n cs;
+}
+
 pub cut-less : (n : ℕ) (cs : List Cell) → n ≤ baySum cs → Less n cs (takeHigh n cs)
-cut-less n cs h =
-    each-getD (trim-less n cs)
-    (record {
-      size = omega (arith, bsize-packed (items cs) (gap (baySum cs - n) []), bsize-gap (baySum cs - n) [], bsize-split cs);
-      same = simp (items-packed, items-gap, append-nil);
-    })
+cut-less n cs h = each-getD (trim-less n cs) (packed-less n cs h)
 
 pub release-size : (h : ℕ) (cs : List Cell) → baySize (release h cs) ≡ baySize cs
 release-size h [] = refl

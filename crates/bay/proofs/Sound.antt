@@ -9,7 +9,7 @@ use lib.Dec.{leb}
 use borrow.Author.Tests.{leb-true}
 use Rattle.kinds.specs.Kinds.{Item, itemSize, is}
 use Rattle.calls.specs.State.{alter}
-use Rattle.bay.specs.Bay.{Cell, free, held, baySum, items, gap, packed, joinBays, compactBay, put, trim, takeHigh, release, edit}
+use Rattle.bay.specs.Bay.{Cell, free, held, baySum, items, gap, packed, joinBays, compactBay, packedLess, put, trim, takeHigh, release, edit}
 use Rattle.bay.proofs.Each.{Each, nothing, just, each-over, each-cond, each-getD}
 use Rattle.bay.proofs.Holes.{Put, in-hole, compacted, put-is}
 use Rattle.bay.proofs.Laws.{alter-size}
@@ -55,6 +55,9 @@ sum-by4 (s-held b s) = sum-by4 s
 pub tidy-sound : {cs : List Cell} → Sound cs → Sound (compactBay cs)
 tidy-sound {cs} s = packed-sound (items-sizes s) (gap-sound (baySum cs) (sum-by4 s) s-nil)
 
+pub less-sound : (n : ℕ) {cs : List Cell} → n % 4 ≡ 0 → Sound cs → Sound (packedLess n cs)
+less-sound n {cs} q s = packed-sound (items-sizes s) (gap-sound (baySum cs - n) (omega (arith, sum-by4 s)) s-nil)
+
 behind-free : {k : ℕ} {after : List Cell} → Sound (free k ∷ after) → Sound after
 behind-free (s-end b) = s-nil
 behind-free (s-free b s) = s
@@ -86,7 +89,7 @@ trim-sound n q (s-free {n = k} {e = d} {cs = cs} b (s-held c s)) =
 trim-sound n q (s-held {e = d} b s) = each-over (held d ∷_) (λ a p. s-held b p) (trim-sound n q s)
 
 pub cut-sound : (n : ℕ) {cs : List Cell} → n % 4 ≡ 0 → n ≤ baySum cs → Sound cs → Sound (takeHigh n cs)
-cut-sound n {cs} q h s = each-getD (trim-sound n q s) (packed-sound (items-sizes s) (gap-sound (baySum cs - n) (omega (arith, sum-by4 s)) s-nil))
+cut-sound n q h s = each-getD (trim-sound n q s) (less-sound n q s)
 
 cond-sound : (t : Bool) {a b : List Cell} → Sound a → Sound b → Sound (cond t a b)
 cond-sound true p q = p

@@ -1,10 +1,10 @@
--- A bay that is merged, packed or compacted stays sound.
+-- A bay that is merged, packed or compacted stays sound, also with free bytes less.
 use mathlib.Core.Path.{_≡_, refl}
 use mathlib.Core.List.{List, [], _∷_}
-use Prim.Native.Nat.{ℕ, zero, suc, _+_, _%_, _≤_}
+use Prim.Native.Nat.{ℕ, zero, suc, _+_, _-_, _%_, _≤_}
 use native.Mathlib.Omega.{arith}
 use Rattle.block_type.specs.Limits.{longestZone}
-use Rattle.bay.specs.Bay.{Cell, free, held, baySize, baySum, items, gap, packed, compactBay}
+use Rattle.bay.specs.Bay.{Cell, free, held, baySize, baySum, items, gap, packed, compactBay, packedLess}
 use Rattle.bay.specs.Sound.{Sound}
 use Rattle.bay.proofs.Laws.{bsize-split}
 
@@ -26,3 +26,8 @@ sum-four (held e ∷ cs) s = sum-four cs (s .1)
 
 pub compact-sound : (cs : List Cell) → baySize cs ≤ longestZone → Sound cs → Sound (compactBay cs)
 compact-sound cs l s = packed-sound cs (gap (baySum cs) []) s (gap-sound (baySum cs) [] (sum-four cs s) (omega (arith, bsize-split cs)) tt)
+
+-- with n free bytes less
+pub less-sound : (n : ℕ) (cs : List Cell) → n % 4 ≡ 0 → baySize cs ≤ longestZone → Sound cs → Sound (packedLess n cs)
+less-sound n cs q l s =
+    packed-sound cs (gap (baySum cs - n) []) s (gap-sound (baySum cs - n) [] (omega (arith, sum-four cs s)) (omega (arith, bsize-split cs)) tt)

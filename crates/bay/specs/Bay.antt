@@ -67,6 +67,10 @@ joinBays (held e ∷ cs) t = held e ∷ joinBays cs t
 abbrev pub compactBay : List Cell → List Cell
 compactBay cs = packed (items cs) (gap (baySum cs) [])
 
+-- the same with n free bytes less: the held blocks in old order without gaps, then one free block, or none
+abbrev pub packedLess : ℕ → List Cell → List Cell
+packedLess n cs = packed (items cs) (gap (baySum cs - n) [])
+
 -- ---- allocation
 
 -- a free block, with what stands before it and after it
@@ -116,7 +120,7 @@ trim n (held e ∷ cs) = over (held e ∷_) (trim n cs)
 
 -- "else after compacting"
 abbrev pub takeHigh : ℕ → List Cell → List Cell
-takeHigh n cs = Option·getD (trim n cs) (packed (items cs) (gap (baySum cs - n) []))
+takeHigh n cs = Option·getD (trim n cs) (packedLess n cs)
 
 -- ---- freeing, writing
 

@@ -1,4 +1,4 @@
--- The numbers of document 01: block types, header lengths, limits, the header of a zone and where its fields lie. `tools/by_name.py` tests
+-- The numbers of documents 01 and 02: block types, header lengths, limits, the header of a zone and where its fields lie. `tools/by_name.py` tests
 -- that they stand by name everywhere else.
 use Prim.Native.Nat.{ℕ, _+_, _*_, _/_}
 
@@ -93,6 +93,14 @@ longestZone = 1048576
 
 abbrev pub mostMasters : ℕ
 mostMasters = 8188
+
+-- document 02, U3: "eight masters are added", for which the first bay gives up "32 bytes"
+
+abbrev pub addedMasters : ℕ
+addedMasters = 8
+
+abbrev pub addedBytes : ℕ
+addedBytes = masterSize * addedMasters
 
 -- ---- where the header's fields lie: "at 0 the length L (4 bytes); at 4 bkFst, offset of the first block (4); at 8 m, the number of master
 -- pointers (4); at 12 hFstFree, offset of the first free master, 0 for none (2); at 14 two zero bytes"

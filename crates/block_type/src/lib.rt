@@ -3,7 +3,7 @@
 ghost use mathlib.Core.Path.{_≡_};
 ghost use Prim.Native.Nat.{_+_};
 ghost use Rattle.block_type.specs.Limits.{freeCode, fixedCode, relocCode, freeHeader, fixedHeader, relocHeader, tagAt, handleRange, typeByteUnit, typeUnit, smallestBlock, fixedLimit, relocLimit};
-ghost use Rattle.block_type.specs.Limits.{zoneHeader, masterSize, longestZone, mostMasters, lengthAt, firstAt, mastersAt, chainAt, zerosAt, recordSize, amountAt};
+ghost use Rattle.block_type.specs.Limits.{zoneHeader, masterSize, longestZone, mostMasters, addedMasters, addedBytes, lengthAt, firstAt, mastersAt, chainAt, zerosAt, recordSize, amountAt};
 
 pub enum BlockType {
     Free,
@@ -136,6 +136,11 @@ pub const LONGEST_ZONE: usize = 1048576;
 // "m ≤ 8,188"
 pub const MOST_MASTERS: usize = 8188;
 
+// document 02, U3: "eight masters are added", for which the first bay gives up "32 bytes"
+pub const ADDED_MASTERS: usize = 8;
+
+pub const ADDED_BYTES: usize = 32;
+
 // "at 0 the length L (4 bytes)"
 pub const LENGTH_AT: usize = 0;
 
@@ -180,6 +185,18 @@ pub fn most_masters() -> usize
     ensures { λ r. ⌜ r ≡ mostMasters ⌝ }
 {
     MOST_MASTERS
+}
+
+pub fn added_masters() -> usize
+    ensures { λ r. ⌜ r ≡ addedMasters ⌝ }
+{
+    ADDED_MASTERS
+}
+
+pub fn added_bytes() -> usize
+    ensures { λ r. ⌜ r ≡ addedBytes ⌝ }
+{
+    ADDED_BYTES
 }
 
 pub fn length_at() -> usize

@@ -1,40 +1,16 @@
--- A call that is accepted: the buffer is well-formed, no cause of the table holds, and the zone after it is what the call's work leaves.
-use mathlib.Core.Path.{_≡_, refl, ap, subst}
-use mathlib.Core.Bool.{Bool, true, false}
+-- A call that is accepted: no cause of the table holds, and the zone after it is what the call's work leaves.
+use mathlib.Core.Path.{_≡_, refl, ap}
+use mathlib.Core.Bool.{true, false}
 use mathlib.Core.List.{List}
-use Prim.Native.Nat.{ℕ, zero, suc}
-use native.Mathlib.Omega.{arith}
-use lib.Dec.{eqb·suc-zero}
+use Prim.Native.Nat.{ℕ}
 use Rattle.bigendian.specs.BigEndian.{Bytes}
-use Rattle.format.specs.WellFormed.{wellFormed}
-use Rattle.calls.specs.Calls.{Call, beside, secondOf, refused}
-use Rattle.calls.specs.Table.{refusalOf, causes, holdsIn, order}
+use Rattle.calls.specs.Calls.{Call, beside, secondOf}
+use Rattle.calls.specs.Table.{causes, holdsIn, order}
 use Rattle.calls.proofs.First.{among, clear}
 use Rattle.zone.specs.Work.{facts, work}
-use Rattle.zone.specs.Call.{zoneIn, Result, numberOf, callWith, call}
+use Rattle.zone.specs.Call.{zoneIn, Result, call}
+pub use Rattle.zone.proofs.Accepted.{Accepted, accepted}
 use Rattle.call_laws.proofs.Outcome.{step, call-of, after-call, step-work}
-
-pub record Accepted (c : Call) (s : List ℕ) : Type 0 where
-  pub well : wellFormed s ≡ true
-  pub passed : refusalOf c (facts true (zoneIn s)) ≡ 0
-
--- of a call whose refusal is told, and that asks for a well-formed zone
-module _ (c : Call) (s : List ℕ) (tells : (n : ℕ) → (refused c n) .number ≡ n) (ill : refusalOf c (facts false (zoneIn s)) ≡ 1) (e : (call c s) .answer .number ≡ 0) where
-  unrefused : numberOf c s ≡ 0
-  unrefused = go (numberOf c s) refl
-    where
-      go : (n : ℕ) → numberOf c s ≡ n → n ≡ 0
-      go zero q = refl
-      go (suc n) q =
-          let k : (callWith (suc n) c s) .answer .number ≡ suc n = rw (eqb·suc-zero n) (tells (suc n)) in
-          absurd (omega (arith, k, ap (λ (j : ℕ). (callWith j c s) .answer .number) q))
-
-  pub accepted : Accepted c s
-  accepted = go (wellFormed s) refl
-    where
-      go : (t : Bool) → wellFormed s ≡ t → Accepted c s
-      go true w = record { well = w; passed = subst (λ (t : Bool). refusalOf c (facts t (zoneIn s)) ≡ 0) w unrefused }
-      go false w = absurd (omega (arith, unrefused, ap (λ (t : Bool). refusalOf c (facts t (zoneIn s))) w, ill))
 
 module _ {c : Call} {s : List ℕ} (a : Accepted c s) where
   -- the table's cause of number n does not hold

@@ -46,3 +46,7 @@ module _ (cs : List Cause) where
 pub or-left : (a b : Bool) → a || b ≡ false → a ≡ false
 or-left true b e = absurd (true≢false e)
 or-left false b e = refl
+
+pub or-right : (a b : Bool) → a || b ≡ false → b ≡ false
+or-right true b e = absurd (true≢false e)
+or-right false b e = e

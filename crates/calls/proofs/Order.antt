@@ -1,13 +1,14 @@
 -- The table picks by its order, of any zone and any ledger; and a refused call leaves a second buffer.
 use mathlib.Core.Path.{_≡_, refl}
-use mathlib.Core.Bool.{Bool, true, not}
+use mathlib.Core.Bool.{Bool, true, false, cond, _&&_, _||_, not}
 use mathlib.Core.List.{List, [], _∷_}
 use mathlib.Core.Option.{Option, none}
-use Prim.Native.Nat.{ℕ}
+use Prim.Native.Nat.{ℕ, _+_, _<_, _≤_}
 use lib.Dec.{leb}
-use Rattle.block_type.specs.Limits.{relocLimit, up4, relocNeed}
+use borrow.Author.Tests.{le-leb, lt-leb}
+use Rattle.block_type.specs.Limits.{relocLimit, up4, relocNeed, mostMasters, addedMasters, addedBytes}
 use Rattle.calls.specs.Calls.{Target, by-handle, allocate-relocatable, resize, read, write, roster, refused}
-use Rattle.calls.specs.Table.{Facts, cause, isNone, isEmpty, first, order, noBayToResize, refusalOf}
+use Rattle.calls.specs.Table.{Facts, cause, isNone, first, order, noBayToResize, refusalOf}
 
 -- a resize of a handle that is not live gives 6, whatever else is wrong with it
 pub six-first : (h c : ℕ) (f : Facts) → f .well ≡ true → f .size (by-handle h) ≡ none → refusalOf (resize h c) f ≡ 6
@@ -25,11 +26,30 @@ write-left t i n k second = refl
 pub roster-left : (k : ℕ) (second : List ℕ) → (refused (roster second) k) .bytes ≡ second
 roster-left k second = refl
 
--- an allocation that a handle is left for, and that the largest bay's sum reaches, is not refused
-pub granted : (c h : ℕ) (hs : List ℕ) (f : Facts) → f .well ≡ true → f .chain ≡ h ∷ hs → leb c relocLimit ≡ true → leb (relocNeed c) (f .largest) ≡ true
-    → refusalOf (allocate-relocatable c) f ≡ 0
-granted c h hs f w g l n = go (f .well) (f .chain) (leb c relocLimit) (leb (relocNeed c) (f .largest)) w g l n
+-- ---- the number of a relocatable allocation of c bytes
+
+-- c is too large, whatever else is wrong
+pub large-number : (c : ℕ) (f : Facts) → f .well ≡ true → relocLimit < c → refusalOf (allocate-relocatable c) f ≡ 3
+large-number c f w l = rw (w, lt-leb c relocLimit l) refl
+
+-- a handle is free: the largest sum decides
+pub free-number : (c h : ℕ) (hs : List ℕ) (f : Facts) → f .well ≡ true → f .chain ≡ h ∷ hs → c ≤ relocLimit → refusalOf (allocate-relocatable c) f ≡ cond (leb (relocNeed c) (f .largest)) 0 5
+free-number c h hs f w g l = rw (w, g, le-leb c relocLimit l) (go (leb (relocNeed c) (f .largest)))
   where
-    go : (v : Bool) (ks : List ℕ) (t u : Bool) → v ≡ true → ks ≡ h ∷ hs → t ≡ true → u ≡ true
-        → first order (cause 1 (not v) ∷ cause 3 (not t) ∷ cause 4 (isEmpty ks) ∷ cause 5 (not u) ∷ []) ≡ 0
-    go v ks t u w g l n = rw (w, g, l, n) refl
+    go : (t : Bool) → first order (cause 1 false ∷ cause 3 false ∷ cause 4 false ∷ cause 5 (not t) ∷ []) ≡ cond t 0 5
+    go true = refl
+    go false = refl
+
+-- no handle is free: by m, the first bay's sum, and the largest sum after the bytes of more masters are taken
+abbrev pub emptyNumber : ℕ → ℕ → ℕ → ℕ → ℕ
+emptyNumber c m n k = cond (leb (m + addedMasters) mostMasters && leb addedBytes n) (cond (leb (relocNeed c) k) 0 5) 4
+
+pub empty-number : (c : ℕ) (f : Facts) → f .well ≡ true → f .chain ≡ [] → c ≤ relocLimit → refusalOf (allocate-relocatable c) f ≡ emptyNumber c (f .masters) (f .firstSum) (f .largestAfter)
+empty-number c f w g l =
+    rw (w, g, le-leb c relocLimit l) (go (leb (f .masters + addedMasters) mostMasters) (leb addedBytes (f .firstSum)) (leb (relocNeed c) (f .largestAfter)))
+  where
+    go : (t u v : Bool) → first order (cause 1 false ∷ cause 3 false ∷ cause 4 (not t || not u) ∷ cause 5 (not v) ∷ []) ≡ cond (t && u) (cond v 0 5) 4
+    go true true true = refl
+    go true true false = refl
+    go true false v = refl
+    go false u v = refl

@@ -5,7 +5,7 @@
 use mathlib.Core.Bool.{Bool, cond}
 use mathlib.Core.Option.{Option, none, some}
 use mathlib.Core.List.{List, _++_}
-use Prim.Native.Nat.{ℕ, _+_, max}
+use Prim.Native.Nat.{ℕ, _+_, _-_, max}
 
 pub data Bays (B F : Type 0) : Type 0 where
   last : B → Bays B F
@@ -26,6 +26,11 @@ module _ {B F : Type 0} where
   abbrev pub onLowest : (B → Bool) → (B → B) → Bays B F → Bays B F
   onLowest t f (last b) = last (f b)
   onLowest t f (more b x s) = cond (t b) (more (f b) x s) (more b x (onLowest t f s))
+
+  -- the first bay changed
+  abbrev pub onFirst : (B → B) → Bays B F → Bays B F
+  onFirst f (last b) = last (f b)
+  onFirst f (more b x s) = more (f b) x s
 
   -- every bay changed
   abbrev pub mapS : (B → B) → Bays B F → Bays B F
@@ -52,7 +57,7 @@ module _ {B F : Type 0} where
   findF p (last b) = none
   findF p (more b x s) = cond (p x) (some x) (findF p s)
 
-  -- over all bays: the sum, the list, the maximum; the last bay
+  -- over all bays: the sum, the list, the maximum; the first bay and the last
   abbrev pub sumS : (B → ℕ) → Bays B F → ℕ
   sumS μ (last b) = μ b
   sumS μ (more b x s) = μ b + sumS μ s
@@ -64,6 +69,15 @@ module _ {B F : Type 0} where
   abbrev pub maxS : (B → ℕ) → Bays B F → ℕ
   maxS μ (last b) = μ b
   maxS μ (more b x s) = max (μ b) (maxS μ s)
+
+  -- the maximum after n has been taken from the first bay
+  abbrev pub maxLess : (B → ℕ) → ℕ → Bays B F → ℕ
+  maxLess μ n (last b) = μ b - n
+  maxLess μ n (more b x s) = max (μ b - n) (maxS μ s)
+
+  abbrev pub firstS : Bays B F → B
+  firstS (last b) = b
+  firstS (more b x s) = b
 
   abbrev pub lastS : Bays B F → B
   lastS (last b) = b

@@ -141,3 +141,7 @@ module _ {B : Type 0} (all : B → List Item) where
 
   abbrev pub liveCount : State B → ℕ
   liveCount s = sumS (λ b. length (listed (all b))) (s .bays)
+
+  -- m: "relocatable blocks plus chain length"
+  abbrev pub masterCount : State B → ℕ
+  masterCount s = liveCount s + length (s .chain)

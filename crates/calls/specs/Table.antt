@@ -6,10 +6,10 @@ use mathlib.Core.Option.{Option, none, some, Option·getD}
 use Prim.Native.Nat.{ℕ, _+_, _-_, _*_, _%_}
 use lib.ListN.{length}
 use lib.Dec.{eqb, leb}
-use Rattle.block_type.specs.Limits.{relocHeader, relocLimit, fixedLimit, up4, relocNeed, fixedNeed, firstBlock, longestZone, mostMasters, recordSize}
-use Rattle.calls.specs.Bays.{over, maxS}
+use Rattle.block_type.specs.Limits.{relocHeader, relocLimit, fixedLimit, up4, relocNeed, fixedNeed, firstBlock, longestZone, mostMasters, addedMasters, addedBytes, recordSize}
+use Rattle.calls.specs.Bays.{over, maxS, maxLess, firstS}
 use Rattle.kinds.specs.Kinds.{Item}
-use Rattle.calls.specs.State.{State, content, ownSum, liveCount}
+use Rattle.calls.specs.State.{State, content, ownSum, liveCount, masterCount}
 use Rattle.calls.specs.Calls.{Target, by-handle, by-pointer, Call, allocate-relocatable, allocate-fixed, free-handle, free-pointer, resize, size, read, write, view, compact, sums, check, length-of, enlarge, shrink, roster}
 
 -- ---- what the table asks of a zone, or of a ledger
@@ -20,13 +20,17 @@ pub record Facts : Type 0 where
   -- the buffer's length, and L
   pub buf : ℕ
   pub len : ℕ
-  -- the free handles
+  -- the free handles, and m
   pub chain : List ℕ
+  pub masters : ℕ
   -- the data size of the block that is so named, none where there is no such block
   pub size : Target → Option ℕ
   -- the largest bay's sum, and the sum of the bay that has a handle (0 where none has it)
   pub largest : ℕ
   pub own : ℕ → ℕ
+  -- the first bay's sum, and the largest sum after the bytes of eight more masters are taken from the first bay
+  pub firstSum : ℕ
+  pub largestAfter : ℕ
   -- the number of live handles
   pub live : ℕ
 
@@ -37,9 +41,12 @@ factsOf all μ well s = record {
   buf = s .buf;
   len = s .len;
   chain = s .chain;
+  masters = masterCount all s;
   size = λ t. over length (content all t (s .bays));
   largest = maxS μ (s .bays);
   own = λ h. ownSum all μ h (s .bays);
+  firstSum = μ (firstS (s .bays));
+  largestAfter = maxLess μ addedBytes (s .bays);
   live = liveCount all s;
 }
 
@@ -77,15 +84,20 @@ badInitialize buf n m =
 abbrev pub tooLarge : ℕ → ℕ → Cause
 tooLarge limit c = cause 3 (below limit c)
 
--- 4: "allocate relocatable: chain empty"
-abbrev pub chainEmpty : Facts → Cause
-chainEmpty f = cause 4 (isEmpty (f .chain))
+-- 4: "allocate relocatable: chain empty", and (document 02, U3) "m + 8 above 8,188 or the first bay's sum below 32"
+abbrev pub noMaster : Facts → Cause
+noMaster f = cause 4 (isEmpty (f .chain) && (below mostMasters (f .masters + addedMasters) || below (f .firstSum) addedBytes))
 
--- 5: "no bay as required"
-abbrev pub noBay : ℕ → Facts → Cause
-noBay need f = cause 5 (below (f .largest) need)
+-- 5: "no bay as required"; n is the largest sum
+abbrev pub noBay : ℕ → ℕ → Cause
+noBay need n = cause 5 (below n need)
 
--- the same of a resize: "4 + a, but of its own bay a − b, or 0 for a ≤ b", where a is the new data size and b the old (of a handle that
+-- the largest sum that a new relocatable block finds: where the chain is empty, "the block's need is tested against the sums after those 32
+-- bytes are taken" (document 02, U3)
+abbrev pub roomSum : Facts → ℕ
+roomSum f = cond (isEmpty (f .chain)) (f .largestAfter) (f .largest)
+
+-- 5 of a resize: "4 + a, but of its own bay a − b, or 0 for a ≤ b", where a is the new data size and b the old (of a handle that
 -- is not live 6 comes first)
 abbrev pub noBayToResize : ℕ → ℕ → Facts → Cause
 noBayToResize h a f =
@@ -111,8 +123,8 @@ tooShort second n = cause 10 (below (length second) n)
 -- ---- the causes that a call can have, in any order
 
 abbrev pub causes : Call → Facts → List Cause
-causes (allocate-relocatable c) f = notWellFormed f ∷ tooLarge relocLimit c ∷ chainEmpty f ∷ noBay (relocNeed c) f ∷ []
-causes (allocate-fixed c) f = notWellFormed f ∷ tooLarge fixedLimit c ∷ noBay (fixedNeed c) f ∷ []
+causes (allocate-relocatable c) f = notWellFormed f ∷ tooLarge relocLimit c ∷ noMaster f ∷ noBay (relocNeed c) (roomSum f) ∷ []
+causes (allocate-fixed c) f = notWellFormed f ∷ tooLarge fixedLimit c ∷ noBay (fixedNeed c) (f .largest) ∷ []
 causes (free-handle h) f = notWellFormed f ∷ noBlock (by-handle h) f ∷ []
 causes (free-pointer p) f = notWellFormed f ∷ noBlock (by-pointer p) f ∷ []
 causes (resize h c) f = notWellFormed f ∷ tooLarge relocLimit c ∷ noBayToResize h (up4 c) f ∷ noBlock (by-handle h) f ∷ []

@@ -3,6 +3,7 @@ use mathlib.Core.Path.{_≡_, refl, sym, ap, _∙_, subst}
 use mathlib.Core.List.{List, [], _∷_, _++_}
 use mathlib.Core.Bool.{Bool, true, false, cond}
 use Prim.Native.Nat.{ℕ, zero, suc, _+_, _*_, _%_, _<_, _≤_}
+use native.Mathlib.Nat.{zero-add}
 use native.Mathlib.Omega.{arith}
 use lib.Dec.{eqb}
 use borrow.Author.Tests.{eqb-true, eqb-false, eq-eqb, ne-eqb}
@@ -40,6 +41,12 @@ pub length-offsets : (k n : ℕ) → length (offsets k n) ≡ n
 unfolding offsets
 length-offsets k zero = refl
 length-offsets k (suc n) = ap suc (length-offsets (k + masterSize) n)
+
+-- n more offsets, behind the first m
+pub offsets-add : (k m n : ℕ) → offsets k (m + n) ≡ offsets k m ++ offsets (k + masterSize * m) n
+unfolding offsets
+offsets-add k zero n = let e : k + masterSize * 0 ≡ k = omega arith in rw (e, zero-add n)
+offsets-add k (suc m) n = let e : k + masterSize * suc m ≡ k + masterSize + masterSize * m = omega arith in let q : suc m + n ≡ suc (m + n) = omega arith in rw (e, q) (ap (k ∷_) (offsets-add (k + masterSize) m n))
 
 pub occurs-below : (h k n : ℕ) → h < k → occurs h (offsets k n) ≡ 0
 unfolding occurs offsets

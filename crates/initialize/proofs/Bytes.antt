@@ -1,17 +1,16 @@
 -- The bytes written are those of the structure that initialize is to leave.
 use mathlib.Core.Path.{_≡_, refl, sym, ap, ap₂, _∙_}
-use mathlib.Core.Bool.{Bool, true, false, cond, not}
+use mathlib.Core.Bool.{Bool, true, false, not}
 use mathlib.Core.List.{List, [], _∷_, _++_, map, append-assoc, append-nil}
-use Prim.Native.Nat.{ℕ, zero, suc, _+_, _*_, _-_, _/_, _≤_}
+use Prim.Native.Nat.{ℕ, zero, suc, _+_, _*_, _-_, _/_}
 use native.Mathlib.Nat.{add-zero}
 use native.Mathlib.Omega.{arith}
-use lib.Dec.{eqb}
-use borrow.Author.Tests.{eq-eqb, ne-eqb}
+use borrow.Author.Tests.{ne-eqb}
 use lib.ListN.{length, drop, replicate, length-append}
 use Rattle.block_type.specs.Limits.{masterSize, zoneHeader, freeHeader}
 use Rattle.bigendian.specs.BigEndian.{toBE, overwrite}
 use Rattle.format.specs.WellFormed.{offsets}
-use Rattle.structure.specs.Structure.{Block, Structure, sizes, count, start, len, headOf, placeOf, nextOf, value, words, join, header, encode, encodeBlock, handlesOf}
+use Rattle.structure.specs.Structure.{Block, Structure, sizes, count, start, len, placeOf, nextOf, value, words, join, header, encode, encodeBlock, handlesOf}
 use Rattle.calls.specs.Calls.{told}
 use Rattle.bay.specs.Bay.{gap}
 use Rattle.calls.specs.State.{handlesFrom}
@@ -20,25 +19,14 @@ use Rattle.zone.specs.Group.{flatBay}
 use Rattle.zone.specs.Call.{inLine, Result, result, initializeWith, initialize}
 use Rattle.zone.proofs.Handles.{length-handles}
 use Rattle.calls.specs.Table.{Cause, cause, first, order}
-use Rattle.initialize.specs.Fresh.{sizeBytes, headBytes, chainBytes, freeBytes, freshBytes, accepts, Fresh}
-use Rattle.initialize.proofs.Write.{bad-is, accepted, head-long, chain-long, free-long}
+use Rattle.masters.proofs.chain.Chain.{chain-long}
+use Rattle.masters.proofs.chain.Words.{head-handles, words-chain}
+use Rattle.initialize.specs.Fresh.{sizeBytes, headBytes, freeBytes, freshBytes, accepts, Fresh}
+use Rattle.initialize.proofs.Write.{bad-is, accepted, head-long, free-long}
 
 two-zeros : 0 ∷ 0 ∷ [] ≡ toBE 2 0
 unfolding toBE
 two-zeros = refl
-
-head-handles : (h k : ℕ) → headOf (handlesFrom h k) ≡ cond (eqb k 0) 0 h
-head-handles h zero = refl
-head-handles h (suc k) = sym (rw (ne-eqb (suc k) 0 (λ e. omega arith)))
-
--- f is what each master from h on holds
-words-chain : (f : ℕ → ℕ) (h k : ℕ) → ((g : ℕ) → h ≤ g → f g ≡ nextOf g (handlesFrom h k)) → words f (offsets h k) ≡ chainBytes h k
-unfolding words offsets chainBytes nextOf
-words-chain f h zero e = refl
-words-chain f h (suc k) e =
-    ap₂ (λ (v : ℕ) (r : List ℕ). toBE 4 v ++ r)
-    (e h (omega arith) ∙ (rw (eq-eqb h h refl)) ∙ head-handles (h + masterSize) k)
-    (words-chain f (h + masterSize) k (λ g l. e g (omega arith) ∙ (rw (ne-eqb g h (λ x. omega arith)))))
 
 abbrev blocksOf : ℕ → List Block
 blocksOf k = flatBay (gap k []) []

@@ -7,13 +7,15 @@ use native.Mathlib.Omega.{arith}
 use lib.Dec.{eqb, leb}
 use borrow.Author.Tests.{eq-eqb, ne-eqb}
 use lib.ListN.{length, replicate, length-append, length-replicate}
-use Rattle.block_type.specs.Limits.{longestZone, masterSize, mostMasters, relocHeader, zoneHeader, freeHeader, lengthAt, firstAt, mastersAt, chainAt, zerosAt}
+use Rattle.block_type.specs.Limits.{longestZone, masterSize, mostMasters, zoneHeader, freeHeader, lengthAt, firstAt, mastersAt, chainAt, zerosAt}
 use Rattle.bigendian.specs.BigEndian.{toBE, overwrite}
 use Rattle.bigendian.proofs.Laws.{length-toBE}
-use Rattle.bigendian.proofs.Overwrite.{write-none, write-before, write-more}
+use Rattle.bigendian.proofs.Overwrite.{write-none, write-more}
 use Rattle.calls.specs.Table.{Cause, cause, badInitialize, first, order}
 use Rattle.zone.proofs.Initial.{accepted as may-start}
-use Rattle.initialize.specs.Fresh.{sizeBytes, headBytes, chainBytes, freeBytes, freshBytes, accepts, Fresh}
+use Rattle.masters.specs.chain.Chain.{chainBytes}
+use Rattle.masters.proofs.chain.Chain.{chain-long}
+use Rattle.initialize.specs.Fresh.{sizeBytes, headBytes, freeBytes, freshBytes, accepts, Fresh}
 
 -- ---- the arguments
 
@@ -38,11 +40,6 @@ accepted buf n m r e t =
 pub head-long : (n m : ℕ) → length (headBytes n m) ≡ zoneHeader
 unfolding headBytes sizeBytes
 head-long n m = simp (length-append, length-toBE)
-
-pub chain-long : (h k : ℕ) → length (chainBytes h k) ≡ masterSize * k
-unfolding chainBytes
-chain-long h zero = refl
-chain-long h (suc k) = simp (length-append, length-toBE) (omega (arith, chain-long (h + masterSize) k))
 
 pub free-long : (k : ℕ) → k % 4 ≡ 0 → length (freeBytes k) ≡ k
 unfolding freeBytes
@@ -89,55 +86,6 @@ header-done z z₁ z₂ z₃ n m h x eh e₁ e₂ e₃ =
     let p₂ : z₂ ≡ overwrite z 0 (a ++ toBE 2 h) = e₂ ∙ (rw e₁ (write-more z a (toBE 2 h) lengthAt chainAt (omega arith) (omega arith))) in
     let p₃ : z₃ ≡ overwrite z 0 ((a ++ toBE 2 h) ++ toBE 2 0) = e₃ ∙ (rw p₂ (write-more z (a ++ toBE 2 h) (toBE 2 0) lengthAt zerosAt (omega arith) (omega arith))) in
     p₃ ∙ ap (λ (x : List ℕ). overwrite z 0 x) (append-assoc a (toBE 2 h) (toBE 2 0) ∙ ap (λ (y : ℕ). a ++ (toBE 2 y ++ toBE 2 0)) eh)
-
--- ---- chain, from the last of m masters down
-
--- how many masters there are from `at` on
-abbrev pub mastersFrom : ℕ → ℕ → ℕ
-mastersFrom m at = (zoneHeader + masterSize * m - at) / masterSize
-
--- the master at `at`, where there is one
-abbrev pub masterOrNone : ℕ → ℕ → ℕ
-masterOrNone m at = cond (eqb (mastersFrom m at) 0) 0 at
-
-none-from : (m : ℕ) → mastersFrom m (zoneHeader + masterSize * m) ≡ 0
-none-from m = omega arith
-
-pub chain-none : (m : ℕ) → 0 ≡ masterOrNone m (zoneHeader + masterSize * m)
-chain-none m = rw (none-from m)
-
-pub chain-start : (z : List ℕ) (m : ℕ) → z ≡ overwrite z (zoneHeader + masterSize * m) (chainBytes (zoneHeader + masterSize * m) (mastersFrom m (zoneHeader + masterSize * m)))
-unfolding chainBytes
-chain-start z m = rw (none-from m) (sym (write-none z (zoneHeader + masterSize * m)))
-
-module _ (at m : ℕ) (low : zoneHeader < at) (four : at % 4 ≡ 0) (high : at ≤ zoneHeader + masterSize * m) where
-  one-from : mastersFrom m (at - masterSize) ≡ suc (mastersFrom m at)
-  one-from = omega arith
-
-  pub chain-next : at - masterSize ≡ masterOrNone m (at - masterSize)
-  chain-next = rw (ne-eqb (mastersFrom m (at - masterSize)) 0 (λ e. omega arith))
-
-  pub chain-step : (s z z′ : List ℕ) (next : ℕ) → zoneHeader + masterSize * m ≤ length s → next ≡ masterOrNone m at → z ≡ overwrite s at (chainBytes at (mastersFrom m at))
-      → z′ ≡ overwrite z (at - masterSize) (toBE 4 next) → z′ ≡ overwrite s (at - masterSize) (chainBytes (at - masterSize) (mastersFrom m (at - masterSize)))
-  unfolding chainBytes
-  chain-step s z z′ next f en ez e =
-      let k = mastersFrom m at in
-      let a = toBE 4 next in
-      let b = chainBytes at k in
-      let la = length-toBE 4 next in
-      let lb = chain-long at k in
-      let q : at - relocHeader + length a ≡ at = omega arith in
-      let r : at - masterSize + masterSize ≡ at = omega arith in
-      e
-      ∙ ap (λ (x : List ℕ). overwrite x (at - masterSize) a) (ez ∙ ap (λ (i : ℕ). overwrite s i b) (sym q))
-      ∙ write-before s a b (at - masterSize) (omega arith)
-      ∙ (rw (one-from, r, en))
-
-pub chain-end : (s z : List ℕ) (at m : ℕ) → zoneHeader ≤ at → at ≤ zoneHeader → z ≡ overwrite s at (chainBytes at (mastersFrom m at)) → z ≡ overwrite s zoneHeader (chainBytes zoneHeader m)
-chain-end s z at m l h e =
-    let a : at ≡ zoneHeader = omega arith in
-    let k : mastersFrom m zoneHeader ≡ m = omega arith in
-    e ∙ (rw (a, k))
 
 -- ---- the free block
 

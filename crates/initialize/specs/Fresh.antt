@@ -2,11 +2,12 @@
 use mathlib.Core.Path.{_≡_}
 use mathlib.Core.Bool.{Bool, cond, _&&_}
 use mathlib.Core.List.{List, [], _++_}
-use Prim.Native.Nat.{ℕ, zero, suc, _+_, _*_, _-_, _/_, _%_, _≤_}
+use Prim.Native.Nat.{ℕ, _+_, _*_, _-_, _/_, _%_, _≤_}
 use lib.ListN.{replicate}
 use lib.Dec.{eqb, leb}
 use Rattle.bigendian.specs.BigEndian.{toBE}
 use Rattle.block_type.specs.Limits.{firstBlock, longestZone, mostMasters, masterSize, zoneHeader, freeHeader}
+use Rattle.masters.specs.chain.Chain.{chainBytes}
 
 -- length, bkFst, m
 unfoldable pub sizeBytes : ℕ → ℕ → List ℕ
@@ -15,15 +16,6 @@ sizeBytes n m = toBE 4 n ++ (toBE 4 (zoneHeader + masterSize * m) ++ toBE 4 m)
 -- then the chain's head and two zero bytes
 unfoldable pub headBytes : ℕ → ℕ → List ℕ
 headBytes n m = sizeBytes n m ++ (toBE 2 (cond (eqb m 0) 0 zoneHeader) ++ toBE 2 0)
-
--- what the master at h holds, with k masters behind it
-abbrev pub linkAfter : ℕ → ℕ → ℕ
-linkAfter h k = cond (eqb k 0) 0 (h + masterSize)
-
--- k masters from h on
-unfoldable pub chainBytes : ℕ → ℕ → List ℕ
-chainBytes h zero = []
-chainBytes h (suc k) = toBE 4 (linkAfter h k) ++ chainBytes (h + masterSize) k
 
 -- a free block of k bytes, none for 0
 unfoldable pub freeBytes : ℕ → List ℕ

@@ -1,16 +1,17 @@
 // Initialize: header, masters chained upwards, and one free block or none. Each byte of the zone is written once.
 ghost use mathlib.Core.Path.{_≡_};
 ghost use mathlib.Core.Bool.{cond};
-ghost use Prim.Native.Nat.{_+_, _*_, _-_, _%_, _<_, _≤_};
+ghost use Prim.Native.Nat.{_-_, _%_, _<_, _≤_};
 ghost use lib.ListN.{length};
 ghost use lib.Dec.{eqb};
-ghost use Rattle.block_type.specs.Limits.{longestZone, masterSize, mostMasters, zoneHeader, argumentRange};
+ghost use Rattle.block_type.specs.Limits.{longestZone, zoneHeader, argumentRange};
 ghost use Rattle.bigendian.specs.BigEndian.{overwrite};
 ghost use Rattle.calls.specs.Calls.{told};
 ghost use Rattle.zone.specs.Call.{result, initialize};
-ghost use Rattle.initialize.specs.Fresh.{sizeBytes, headBytes, chainBytes, freeBytes, freshBytes, accepts, Fresh};
+ghost use Rattle.initialize.specs.Fresh.{sizeBytes, headBytes, freeBytes, freshBytes, accepts, Fresh};
 use block_type::BlockType;
 use calls::Told;
+use masters::chain;
 
 // Whether a zone of n bytes with m masters can be made in a buffer of `buf` bytes.
 fn is_accepted(buf: usize, n: usize, m: usize) -> bool
@@ -58,20 +59,6 @@ fn put_header(z: &mut [u8], n: usize, m: usize)
     bigendian::put2(z, block_type::ZEROS_AT, 0);
 }
 
-// The masters, from the last one down, each with the offset of the one after it, which was written just before; 0 in the last.
-fn put_chain(z: &mut [u8], m: usize)
-    requires { ⌜ (zoneHeader + masterSize * m ≤ length (now z)) × (m ≤ mostMasters) ⌝ }
-    ensures { λ _. ⌜ now (z .exit) ≡ overwrite (now (z .entry)) zoneHeader (chainBytes zoneHeader m) ⌝ }
-{
-    let mut next = 0;
-    let mut at = block_type::ZONE_HEADER + block_type::MASTER_SIZE * m;
-    while block_type::ZONE_HEADER < at {
-        at -= block_type::MASTER_SIZE;
-        bigendian::put4(z, at, next);
-        next = at as u32;
-    }
-}
-
 // The free block from `first` up to n; none where they are the same.
 fn put_free(z: &mut [u8], first: usize, n: usize)
     requires { ⌜ (first ≤ n) × (n ≤ length (now z)) × (n ≤ longestZone) × ((n - first) % 4 ≡ 0) ⌝ }
@@ -89,7 +76,7 @@ fn make(z: &mut [u8], n: usize, m: usize)
     ensures { λ _. ⌜ now (z .exit) ≡ overwrite (now (z .entry)) 0 (freshBytes n m) ⌝ }
 {
     put_header(z, n, m);
-    put_chain(z, m);
+    chain::put_chain(z, block_type::ZONE_HEADER, m);
     put_free(z, block_type::ZONE_HEADER + block_type::MASTER_SIZE * m, n);
 }
 

@@ -8,16 +8,17 @@ use native.Mathlib.Omega.{arith}
 use lib.ListN.{length}
 use lib.Dec.{leb}
 use borrow.Author.Tests.{leb-false, lt-leb}
-use Rattle.block_type.specs.Limits.{relocHeader, relocLimit, fixedLimit, up4, relocNeed, fixedNeed}
-use Rattle.calls.specs.Bays.{last, more, over, orElse, findS, maxS, sumS}
+use Rattle.block_type.specs.Limits.{relocHeader, relocLimit, fixedLimit, up4, relocNeed, fixedNeed, addedBytes}
+use Rattle.calls.specs.Bays.{last, more, over, orElse, findS, maxS, maxLess, sumS}
 use Rattle.kinds.specs.Kinds.{Item, is}
 use Rattle.calls.specs.State.{get}
-use Rattle.calls.specs.Table.{below, isNone, isEmpty, cause, first, beforeNoBay, order}
+use Rattle.calls.specs.Table.{below, isNone, isEmpty, cause, noMaster, roomSum, first, beforeNoBay, order}
 use Rattle.calls.proofs.Reach.{leb-max}
+use Rattle.calls.proofs.FirstBay.{less-first}
 use Rattle.calls.specs.Counted.{count}
 use Rattle.calls.proofs.Counted.{get-none}
-use Rattle.ledger.specs.Ledger.{Bay, Layout, Ledger, sumOf, stepWith, step}
-use Rattle.ledger.specs.Space.{Request, relocatable, fixed, resized, callOf, resizeNeed, needOf, fits, earlier}
+use Rattle.ledger.specs.Ledger.{Bay, Layout, Ledger, sumOf, less, moreMasters, withMaster, facts, stepWith, step}
+use Rattle.ledger.specs.Space.{Request, relocatable, fixed, resized, callOf, resizeNeed, needOf, fits, baysFor, earlier}
 
 -- how many entries have the handle
 abbrev pub liveIn : ℕ → Layout → ℕ
@@ -103,8 +104,18 @@ fits-reached h c (more b x l) = ap (leb (resizeNeed (up4 c) (get h (b .entries))
 
 -- ---- an allocation or a resize that nothing earlier refuses, where no handle is live twice
 
-pub space : (q : Request) (l : Ledger) → ((h : ℕ) → liveIn h (l .bays) ≤ 1) → earlier q l ≡ 0 → (step (callOf q) l) .answer .number ≡ cond (fits q (l .bays)) 0 5
-space (relocatable c) l o e = rw (fits-all (relocatable c) (relocNeed c) (λ b. refl) (l .bays)) (go (leb c relocLimit) (isEmpty (l .chain)) (leb (relocNeed c) (maxS sumOf (l .bays))) e)
+-- the largest sum that a new relocatable block finds
+room-is : (l : Ledger) → maxS sumOf (withMaster l .bays) ≡ roomSum (facts l)
+room-is l = go (isEmpty (l .chain))
+  where
+    go : (t : Bool) → maxS sumOf ((cond t (moreMasters l) l) .bays) ≡ cond t (maxLess sumOf addedBytes (l .bays)) (maxS sumOf (l .bays))
+    go true = less-first sumOf addedBytes (less addedBytes) (l .bays) (omega arith)
+    go false = refl
+
+pub space : (q : Request) (l : Ledger) → ((h : ℕ) → liveIn h (l .bays) ≤ 1) → earlier q l ≡ 0 → (step (callOf q) l) .answer .number ≡ cond (fits q (baysFor q l)) 0 5
+space (relocatable c) l o e =
+    rw (fits-all (relocatable c) (relocNeed c) (λ b. refl) (withMaster l .bays), room-is l)
+    (go (leb c relocLimit) (noMaster (facts l) .holds) (leb (relocNeed c) (roomSum (facts l))) e)
   where
     go : (t u v : Bool) → first beforeNoBay (cause 1 false ∷ cause 3 (not t) ∷ cause 4 u ∷ cause 5 (not v) ∷ []) ≡ 0
         → (stepWith (first order (cause 1 false ∷ cause 3 (not t) ∷ cause 4 u ∷ cause 5 (not v) ∷ [])) (callOf (relocatable c)) l) .answer .number ≡ cond v 0 5

@@ -7,13 +7,13 @@ use lib.ListN.{length, take}
 use lib.Seq.{sets, length-sets}
 use lib.Dec.{leb, eqb, eqb·suc-zero}
 use borrow.Author.Tests.{eqb-true}
-use Rattle.block_type.specs.Limits.{fixedHeader, relocHeader, fixedNeed, up4}
+use Rattle.block_type.specs.Limits.{fixedHeader, relocHeader, fixedNeed, up4, addedBytes}
 use Rattle.calls.specs.Calls.{Target, by-handle, by-pointer, Call, allocate-relocatable, allocate-fixed, free-handle, free-pointer, resize, size, read, write, view, compact, sums, check, length-of, enlarge, shrink, roster}
-use Rattle.calls.specs.Bays.{last, more, onLowest, mapS, onFixed, onLast, maxS}
+use Rattle.calls.specs.Bays.{last, more, onLowest, onFirst, mapS, onFixed, onLast, maxS}
 use Rattle.calls.specs.State.{Fixed, fsize, pointer, alterFixed, newFixed, cutHigh, joinOver, joinAt, dataOf, ownSum, sized}
-use Rattle.calls.specs.Table.{refusalOf}
+use Rattle.calls.specs.Table.{refusalOf, isEmpty}
 use Rattle.kinds.specs.Kinds.{item}
-use Rattle.ledger.specs.Ledger.{Bay, Ledger, Layout, bay, sumOf, entriesOf, change, enter, onEntries, without, resizeIn, facts, work, stepWith, step}
+use Rattle.ledger.specs.Ledger.{Bay, Ledger, Layout, bay, sumOf, entriesOf, change, less, enter, onEntries, without, resizeIn, moreMasters, withMaster, facts, work, stepWith, step}
 use Rattle.ledger.specs.Space.{Spot, spot, fixedSpots}
 use Rattle.ledger.specs.Still.{Has, first, later}
 
@@ -26,6 +26,10 @@ lowest-spots t f (more b x l) = go (t b) (lowest-spots t f l)
     go : (u : Bool) → fixedSpots (onLowest t f l) ≡ fixedSpots l → fixedSpots (cond u (more (f b) x l) (more b x (onLowest t f l))) ≡ spot (x .place) (fsize x) ∷ fixedSpots l
     go true e = refl
     go false e = ap (spot (x .place) (fsize x) ∷_) e
+
+first-spots : (f : Bay → Bay) (l : Layout) → fixedSpots (onFirst f l) ≡ fixedSpots l
+first-spots f (last b) = refl
+first-spots f (more b x l) = refl
 
 map-spots : (f : Bay → Bay) (l : Layout) → fixedSpots (mapS f l) ≡ fixedSpots l
 map-spots f (last b) = refl
@@ -51,6 +55,9 @@ change-spots (by-pointer p) f e l = fixed l
 either : {A : Type 0} (P : A → Type 0) (t : Bool) (a b : A) → P a → P b → P (cond t a b)
 either P true a b p q = p
 either P false a b p q = q
+
+with-spots : (l : Ledger) → fixedSpots (withMaster l .bays) ≡ fixedSpots (l .bays)
+with-spots l = either (λ (k : Ledger). fixedSpots (k .bays) ≡ fixedSpots (l .bays)) (isEmpty (l .chain)) (moreMasters l) l (first-spots (less addedBytes) (l .bays)) refl
 
 resize-spots : (h a : ℕ) (d : List ℕ) (l : Layout) → fixedSpots (resizeIn h a d l) ≡ fixedSpots l
 resize-spots h a d l =
@@ -91,7 +98,7 @@ strike-has {x} j p (more b y l) ne (later h) = go (eqb p (pointer y)) (strike-ha
 -- ---- each call that nothing refuses
 
 work-has : {x : Spot} (c : Call) (l : Ledger) → (c ≡ free-pointer (x .place + fixedHeader) → ⊥) → Has x (fixedSpots (l .bays)) → Has x (fixedSpots ((work c l) .next .bays))
-work-has (allocate-relocatable c) l ne h = same (lowest-spots _ _ (l .bays)) h
+work-has (allocate-relocatable c) l ne h = same (lowest-spots _ _ (withMaster l .bays) ∙ with-spots l) h
 work-has (allocate-fixed c) l ne h = high-has _ _ (fixedNeed c) (l .len) (l .bays) h
 work-has (free-handle g) l ne h = same (map-spots _ (l .bays)) h
 work-has (free-pointer p) l ne h = strike-has _ p (l .bays) (λ e. ne (ap free-pointer e)) h

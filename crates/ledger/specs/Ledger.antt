@@ -7,13 +7,13 @@ use Prim.Native.Nat.{ℕ, _+_, _-_, _*_, _/_, min}
 use lib.ListN.{length, take, drop}
 use lib.Seq.{sets}
 use lib.Dec.{leb, eqb}
-use Rattle.block_type.specs.Limits.{relocHeader, up4, fixedNeed, relocNeed, zoneHeader, firstBlock}
+use Rattle.block_type.specs.Limits.{relocHeader, up4, fixedNeed, relocNeed, zoneHeader, firstBlock, addedMasters, addedBytes}
 use Rattle.calls.specs.Calls.{Target, by-handle, by-pointer, Call, allocate-relocatable, allocate-fixed, free-handle, free-pointer, resize, size, read, write, view, compact, sums, check, length-of, enlarge, shrink, roster, Answer, toldTwo, shows, refused}
 use Rattle.calls.specs.Roster.{Card, rostered}
-use Rattle.calls.specs.Bays.{Bays, last, onLowest, mapS, onFixed, onLast, concatS, sumS, maxS, lastS}
+use Rattle.calls.specs.Bays.{Bays, last, onLowest, onFirst, mapS, onFixed, onLast, concatS, sumS, maxS, lastS}
 use Rattle.kinds.specs.Kinds.{Item, item, is}
-use Rattle.calls.specs.State.{total, alter, newItem, sized, listed, handlesFrom, Fixed, pointer, alterFixed, State, Out, says, done, withBays, cutHigh, joinAt, dataOf, ownSum, liveCount, top, rest}
-use Rattle.calls.specs.Table.{Facts, factsOf, refusalOf}
+use Rattle.calls.specs.State.{total, alter, newItem, sized, listed, handlesFrom, Fixed, pointer, alterFixed, State, Out, says, done, withBays, cutHigh, joinAt, dataOf, ownSum, liveCount, masterCount, top, rest}
+use Rattle.calls.specs.Table.{Facts, factsOf, refusalOf, isEmpty}
 
 -- ---- "State: L; the buffer's length; free handles as a stack; in address order, bays (capacity, live handles with their bytes)
 -- and fixed blocks (place, size, bytes)"
@@ -76,6 +76,15 @@ resizeIn h a d l =
     (change (by-handle h) (sized a) l)
     (enter (relocHeader + a) (item h (sized a d)) (mapS (onEntries (without h)) l))
 
+-- ---- document 02, U3: "The ledger's first capacity falls by 32 and its stack gains eight" (it is empty here)
+
+abbrev pub moreMasters : Ledger → Ledger
+moreMasters l = record { buf = l .buf; len = l .len; chain = handlesFrom (firstBlock (masterCount entriesOf l)) addedMasters; bays = onFirst (less addedBytes) (l .bays) }
+
+-- "When a relocatable allocation finds the chain empty"
+abbrev pub withMaster : Ledger → Ledger
+withMaster l = cond (isEmpty (l .chain)) (moreMasters l) l
+
 -- ---- the work of each call that nothing refuses: the answer, and the ledger after the call
 
 -- "a relocatable one takes the handle on top of the stack"
@@ -113,7 +122,7 @@ abbrev pub cards : Ledger → List Card
 cards l = byHandle (concatS (λ (b : Bay). listed (b .entries)) (l .bays))
 
 abbrev pub work : Call → Ledger → Out Bay
-work (allocate-relocatable c) l = allocate c l
+work (allocate-relocatable c) l = allocate c (withMaster l)
 work (allocate-fixed c) l = allocateFixed c l
 work (free-handle h) l = freeHandle h l
 work (free-pointer p) l = done 0 (withBays (strike p (l .bays)) l)

@@ -11,7 +11,7 @@ use Rattle.calls.specs.Bays.{last, more}
 use Rattle.kinds.specs.Kinds.{Item}
 use Rattle.calls.specs.State.{get, fsize}
 use Rattle.calls.specs.Table.{first, beforeNoBay, causes}
-use Rattle.ledger.specs.Ledger.{Bay, Layout, Ledger, sumOf, facts}
+use Rattle.ledger.specs.Ledger.{Bay, Layout, Ledger, sumOf, withMaster, facts}
 
 -- ---- where fixed blocks are
 
@@ -62,6 +62,13 @@ needOf (resized h c) b = resizeNeed (up4 c) (get h (b .entries))
 abbrev pub fits : Request → Layout → Bool
 fits q (last b) = leb (needOf q b) (sumOf b)
 fits q (more b x l) = leb (needOf q b) (sumOf b) || fits q l
+
+-- the bays as it would find them: "The block's need is tested against the sums after those 32 bytes are taken .. demand 3's "no space" is read with
+-- those sums" (document 02, U3)
+abbrev pub baysFor : Request → Ledger → Layout
+baysFor (relocatable c) l = withMaster l .bays
+baysFor (fixed c) l = l .bays
+baysFor (resized h c) l = l .bays
 
 -- what refuses it earlier in the table's order than "no bay as required"; 0 for nothing
 abbrev pub earlier : Request → Ledger → ℕ

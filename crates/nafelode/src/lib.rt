@@ -27,7 +27,7 @@ pub fn initialize(zone: &mut [u8], length: u32, m: u32) -> Told
     initialize::initialize(zone, length, m)
 }
 
-// A relocatable block for c data bytes. Answers its handle.
+// A relocatable block for c data bytes; where no master is free, eight are added first. Answers its handle.
 pub fn allocate_relocatable(zone: &mut [u8], c: u32) -> Told
     ensures { λ r. ⌜ Promise (allocate-relocatable c) (now (zone .entry)) (told (r .number) (r .value)) (now (zone .exit)) ⌝ }
 {

@@ -6,6 +6,6 @@ pub mod Data
 pub mod OldPlace
 pub mod Carrying
 pub mod Carried
-pub mod AsZone
+pub mod Found
 pub mod Zone
 pub mod Plan

@@ -23,7 +23,7 @@ use Rattle.bay.proofs.BayBytes.{bay-end}
 use Rattle.slide.specs.ZoneBay.{ownerOf, setOne, setAll, Low, IsLow, is-low}
 use Rattle.slide.specs.Masters.{Owner, owner, Turned}
 
-low-more : (a b : ℕ) (cs : List Cell) → a ≤ b → Low a cs → Low b cs
+pub low-more : (a b : ℕ) (cs : List Cell) → a ≤ b → Low a cs → Low b cs
 low-more a b [] l x = tt
 low-more a b (c ∷ cs) l x = (omega (arith, x .0), low-more a b cs l (x .1))
 

@@ -76,11 +76,11 @@ module _ (s : List ℕ) (to at n k : ℕ) (h : at < length s) (le : to ≤ at) (
       let e : to ≡ at = omega arith in
       keep-used z s (rw e (write-still s at n (st .fits)))
 
-pub gather-done : (s₀ s : List ℕ) (to at : ℕ) → length s ≤ at → at ≤ length s → at % 4 ≡ 0 → to % 4 ≡ 0 → length s ≡ length s₀ → to ≤ at
-    → take to s ++ heldBytes (cellsOf (drop at s)) ≡ heldBytes (cellsOf s₀)
-    → to + baySum (cellsOf s₀) ≡ at + baySum (cellsOf (drop at s)) → Gathered s₀ s to
+pub gather-done : (s₀ s : List ℕ) (from first to at : ℕ) → first ≤ length s₀ → length s ≤ at → at ≤ length s → at % 4 ≡ 0 → to % 4 ≡ 0 → length s ≡ length s₀ → to ≤ at
+    → take to s ++ heldBytes (cellsOf (drop at s)) ≡ take from s₀ ++ heldBytes (cellsOf (drop first s₀))
+    → to + first + baySum (cellsOf (drop first s₀)) ≡ from + at + baySum (cellsOf (drop at s)) → Gathered s₀ from first s to
 unfolding bytesOf
-gather-done s₀ s to at h k qa qt l le inv sum =
+gather-done s₀ s from first to at f h k qa qt l le inv sum =
     record {
       bound = omega arith;
       four = omega arith;
@@ -106,7 +106,7 @@ finish-some s s₁ to h d u e =
 pub finish-none : (s : List ℕ) (to : ℕ) → length s ≤ to → to ≤ length s → s ≡ take to s ++ bytesOf (gap (length s - to) [])
 finish-none s to h k = rw (gap-none (length s - to) (omega arith), append-nil) (sym (take-all to s h))
 
-pub compact-done : (s₀ s₁ s₂ : List ℕ) (to : ℕ) → Gathered s₀ s₁ to → s₂ ≡ take to s₁ ++ bytesOf (gap (length s₁ - to) []) → length s₂ ≡ length s₁ → Compacted s₀ s₂ to
+pub compact-done : (s₀ s₁ s₂ : List ℕ) (to : ℕ) → Gathered s₀ 0 0 s₁ to → s₂ ≡ take to s₁ ++ bytesOf (gap (length s₁ - to) []) → length s₂ ≡ length s₁ → Compacted s₀ s₂ to
 compact-done s₀ s₁ s₂ to g e l =
     let m : length s₁ - to ≡ baySum (cellsOf s₀) = omega (arith, g .sum) in
     record {

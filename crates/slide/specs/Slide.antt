@@ -19,13 +19,13 @@ pub record Passed (s : List ℕ) (to at n : ℕ) (s′ : List ℕ) (r : ℕ) : T
   pub front : take r s′ ++ heldBytes (cellsOf (drop (at + n) s′)) ≡ take to s ++ heldBytes (cellsOf (drop at s))
   pub sum : r + at + baySum (cellsOf (drop at s)) ≡ to + (at + n) + baySum (cellsOf (drop (at + n) s′))
 
--- the held blocks of s₀ stand at the start of s, `to` bytes of them, and the rest is as long as the free blocks
-pub record Gathered (s₀ s : List ℕ) (to : ℕ) : Type 0 where
+-- the held blocks of s₀ from `first` on stand in s from `from` up to `to`, and the rest is as long as the free blocks and what lay between
+pub record Gathered (s₀ : List ℕ) (from first : ℕ) (s : List ℕ) (to : ℕ) : Type 0 where
   pub bound : to ≤ length s
   pub four : (length s - to) % 4 ≡ 0
   pub long : length s ≡ length s₀
-  pub front : take to s ≡ heldBytes (cellsOf s₀)
-  pub sum : to + baySum (cellsOf s₀) ≡ length s
+  pub front : take to s ≡ take from s₀ ++ heldBytes (cellsOf (drop first s₀))
+  pub sum : to + baySum (cellsOf (drop first s₀)) ≡ from + (length s₀ - first)
 
 -- s is the bay of s₀ compacted; its free bytes begin at `to`
 pub record Compacted (s₀ s : List ℕ) (to : ℕ) : Type 0 where

@@ -1,5 +1,6 @@
 // Compacts a bay in place: its held blocks go to its start in old order, one free block holds the rest, and its masters follow.
 pub mod blank;
+pub mod way;
 
 use block_type::BlockType;
 use zone_check::block_check;
@@ -37,13 +38,13 @@ fn keep(s: &mut [u8], to: usize, at: usize, n: usize) -> usize
     to + n
 }
 
-// The held blocks go to the start, in old order. How many bytes they are.
-fn gather(s: &mut [u8]) -> usize
-    requires { ⌜ IsBay (now s) ⌝ }
-    ensures { λ r. ⌜ Gathered (now (s .entry)) (now (s .exit)) r ⌝ }
+// The held blocks from `first` on go to `from` and behind it, in old order. The place after them.
+fn gather(s: &mut [u8], from: usize, first: usize) -> usize
+    requires { ⌜ (from ≤ first) × (first ≤ length (now s)) × (from % 4 ≡ 0) × (first % 4 ≡ 0) × IsBay (drop first (now s)) ⌝ }
+    ensures { λ r. ⌜ Gathered (now (s .entry)) from first (now (s .exit)) r ⌝ }
 {
-    let mut to = 0;
-    let mut at = 0;
+    let mut to = from;
+    let mut at = first;
     while at < s.len() {
         let n = step(s, at);
         to = keep(s, to, at, n);
@@ -68,7 +69,7 @@ pub fn compact_part(s: &mut [u8]) -> usize
     requires { ⌜ IsBay (now s) × (length (now s) ≤ longestZone) ⌝ }
     ensures { λ r. ⌜ Compacted (now (s .entry)) (now (s .exit)) r ⌝ }
 {
-    let to = gather(s);
+    let to = gather(s, 0, 0);
     finish(s, to);
     to
 }

@@ -1,5 +1,5 @@
 -- The masters' values as words, one behind the other: how long they are, the bytes that they are read from, and when two tables are the same.
-use mathlib.Core.Path.{_≡_, refl}
+use mathlib.Core.Path.{_≡_, refl, ap, sym, _∙_}
 use mathlib.Core.List.{List, [], _∷_, _++_, map, append-assoc}
 use Prim.Native.Nat.{ℕ, zero, suc, _+_, _*_, _≤_}
 use native.Mathlib.Nat.{add-zero}
@@ -29,6 +29,11 @@ pub words-same : (f g : ℕ → ℕ) (hs : List ℕ) → All (λ (h : ℕ). f h 
 unfolding words
 words-same f g [] a = refl
 words-same f g (h ∷ hs) a = rw (a .0, words-same f g hs (a .1))
+
+pub words-append : (f : ℕ → ℕ) (a b : List ℕ) → words f (a ++ b) ≡ words f a ++ words f b
+unfolding words
+words-append f [] b = refl
+words-append f (h ∷ a) b = ap (toBE 4 (f h) ++_) (words-append f a b) ∙ sym (append-assoc (toBE 4 (f h)) (words f a) (words f b))
 
 pub length-words : (f : ℕ → ℕ) (hs : List ℕ) → length (words f hs) ≡ masterSize * length hs
 unfolding words

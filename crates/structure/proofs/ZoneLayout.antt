@@ -3,14 +3,15 @@ use mathlib.Core.Path.{_≡_, refl, sym, ap, ap₂, _∙_}
 use mathlib.Core.List.{List, [], _∷_, _++_, map, append-assoc}
 use Prim.Native.Nat.{ℕ, zero, suc, _+_, _*_, _<_}
 use native.Mathlib.Omega.{arith}
-use lib.ListN.{length, set, length-append}
+use lib.ListN.{length, set, drop, length-append}
+use lib.Seq.{drop-at}
 use Rattle.format.specs.WellFormed.{offsets}
-use Rattle.block_type.specs.Limits.{masterSize, zoneHeader, chainAt}
+use Rattle.block_type.specs.Limits.{masterSize, zoneHeader, firstAt, mastersAt, chainAt}
 use Rattle.bigendian.specs.BigEndian.{toBE, overwrite}
 use Rattle.bigendian.proofs.Laws.{length-toBE}
 use Rattle.bigendian.proofs.Overwrite.{write-right, write-mid}
 use Rattle.structure.specs.Structure.{Structure, encodeBlock, count, start, len, headOf, value, words, join, header, encode}
-use Rattle.structure.proofs.Words.{wordsL, words-values, length-words}
+use Rattle.structure.proofs.Words.{wordsL, words-values, words-append, length-words}
 
 -- the fields of the header, what the masters hold, the blocks' bytes
 unfoldable pub lay : ℕ → ℕ → ℕ → ℕ → List ℕ → List ℕ → List ℕ
@@ -37,6 +38,19 @@ lay-chain l f m c c′ vs r =
     let q : length a ≡ chainAt = simp (length-append, length-toBE) in
     let w = write-mid a (toBE 2 c) (toBE 2 c′) (0 ∷ 0 ∷ (wordsL vs ++ r)) chainAt q (length-toBE 2 c ∙ sym (length-toBE 2 c′)) in
     ap (λ (y : List ℕ). overwrite y chainAt (toBE 2 c′)) (front l f m _) ∙ w ∙ sym (front l f m _)
+
+-- bkFst and m
+pub lay-first : (l f m c f′ : ℕ) (vs r : List ℕ) → overwrite (lay l f m c vs r) firstAt (toBE 4 f′) ≡ lay l f′ m c vs r
+unfolding lay
+lay-first l f m c f′ vs r = write-mid (toBE 4 l) (toBE 4 f) (toBE 4 f′) _ firstAt (length-toBE 4 l) (length-toBE 4 f ∙ sym (length-toBE 4 f′))
+
+pub lay-masters : (l f m c m′ : ℕ) (vs r : List ℕ) → overwrite (lay l f m c vs r) mastersAt (toBE 4 m′) ≡ lay l f m′ c vs r
+unfolding lay
+lay-masters l f m c m′ vs r =
+    let t = toBE 2 c ++ (0 ∷ 0 ∷ (wordsL vs ++ r)) in
+    let q : length (toBE 4 l ++ toBE 4 f) ≡ mastersAt = simp (length-append, length-toBE) in
+    let w = write-mid (toBE 4 l ++ toBE 4 f) (toBE 4 m) (toBE 4 m′) t mastersAt q (length-toBE 4 m ∙ sym (length-toBE 4 m′)) in
+    ap (λ (y : List ℕ). overwrite y mastersAt (toBE 4 m′)) (sym (append-assoc (toBE 4 l) (toBE 4 f) (toBE 4 m ++ t))) ∙ w ∙ append-assoc (toBE 4 l) (toBE 4 f) (toBE 4 m′ ++ t)
 
 -- one master
 words-set : (vs r : List ℕ) (i v : ℕ) → i < length vs → overwrite (wordsL vs ++ r) (masterSize * i) (toBE 4 v) ≡ wordsL (set vs i v) ++ r
@@ -67,6 +81,21 @@ unfolding lay
 lay-rest l f m c p vs r x =
     let q : masterSize * length vs + p ≡ length (wordsL vs) + p = omega (arith, length-words (λ (v : ℕ). v) vs) in
     behind l f m c (masterSize * length vs + p) (wordsL vs ++ r) x (wordsL vs ++ overwrite r p x) (rw q (write-right (wordsL vs) r x p))
+
+-- masters more from the front of those bytes
+pub lay-more : (l f m c : ℕ) (vs ws r : List ℕ) → lay l f m c vs (wordsL ws ++ r) ≡ lay l f m c (vs ++ ws) r
+unfolding lay
+lay-more l f m c vs ws r =
+    ap (λ (t : List ℕ). toBE 4 l ++ (toBE 4 f ++ (toBE 4 m ++ (toBE 2 c ++ (0 ∷ 0 ∷ t)))))
+    (sym (append-assoc (wordsL vs) (wordsL ws) r) ∙ ap (_++ r) (sym (words-append (λ (v : ℕ). v) vs ws)))
+
+-- what stands behind header and masters
+pub lay-drop : (l f m c : ℕ) (vs r : List ℕ) → drop (zoneHeader + masterSize * length vs) (lay l f m c vs r) ≡ r
+unfolding lay
+lay-drop l f m c vs r =
+    let a = toBE 4 l ++ (toBE 4 f ++ (toBE 4 m ++ (toBE 2 c ++ (0 ∷ 0 ∷ [])))) in
+    let q : length (a ++ wordsL vs) ≡ zoneHeader + masterSize * length vs = length-append a (wordsL vs) ∙ ap₂ _+_ (simp (length-append, length-toBE)) (length-words (λ (v : ℕ). v) vs) in
+    ap (drop (zoneHeader + masterSize * length vs)) (whole-front l f m c (wordsL vs ++ r) ∙ sym (append-assoc a (wordsL vs) r)) ∙ drop-at (a ++ wordsL vs) r (zoneHeader + masterSize * length vs) q
 
 pub lay-same : {l l′ f f′ m m′ c c′ : ℕ} {vs vs′ r r′ : List ℕ} → l ≡ l′ → f ≡ f′ → m ≡ m′ → c ≡ c′ → vs ≡ vs′ → r ≡ r′ → lay l f m c vs r ≡ lay l′ f′ m′ c′ vs′ r′
 lay-same a b c d e f = rw (a, b, c, d, e, f)

@@ -1,9 +1,9 @@
 -- Two strips whose bays are related by R and whose fixed blocks are related by Q: each function of Bays keeps that, for ANY R and Q.
-use mathlib.Core.Path.{_≡_, refl, ap₂, subst}
+use mathlib.Core.Path.{_≡_, refl, ap, ap₂, subst}
 use mathlib.Core.Bool.{Bool, true, false, cond, true≢false, false≢true}
 use mathlib.Core.Option.{Option, none, some}
-use Prim.Native.Nat.{ℕ, _+_, max}
-use Rattle.calls.specs.Bays.{Bays, last, more, over, orElse, mapS, onFixed, onLast, sumS, maxS, lastS}
+use Prim.Native.Nat.{ℕ, _+_, _-_, max}
+use Rattle.calls.specs.Bays.{Bays, last, more, over, orElse, onFirst, mapS, onFixed, onLast, sumS, maxS, maxLess, firstS, lastS}
 use Rattle.zone.specs.PickBays.{onLow, onHigh, glue, onJoin}
 
 -- both absent, or both present and related
@@ -72,6 +72,14 @@ module _ {B C F G : Type 0} (R : B → C → Type 0) (Q : F → G → Type 0) wh
   onFixed-like f g h (like-last r) = like-last r
   onFixed-like f g h (like-more r e l) = like-more r (h _ _ e) (onFixed-like f g h l)
 
+  pub onFirst-like : (f : B → B) (g : C → C) {s : Bays B F} {s′ : Bays C G} → Like s s′ → R (f (firstS s)) (g (firstS s′)) → Like (onFirst f s) (onFirst g s′)
+  onFirst-like f g (like-last r) q = like-last q
+  onFirst-like f g (like-more r e l) q = like-more q e l
+
+  pub firstS-like : {s : Bays B F} {s′ : Bays C G} → Like s s′ → R (firstS s) (firstS s′)
+  firstS-like (like-last r) = r
+  firstS-like (like-more r e l) = r
+
   pub onLast-like : (f : B → B) (g : C → C) {s : Bays B F} {s′ : Bays C G} → Like s s′ → R (f (lastS s)) (g (lastS s′)) → Like (onLast f s) (onLast g s′)
   onLast-like f g (like-last r) q = like-last q
   onLast-like f g (like-more r e l) q = like-more r e (onLast-like f g l q)
@@ -87,3 +95,7 @@ module _ {B C F G : Type 0} (R : B → C → Type 0) (Q : F → G → Type 0) wh
   pub maxS-like : (μ : B → ℕ) (ν : C → ℕ) → ((b : B) (c : C) → R b c → μ b ≡ ν c) → {s : Bays B F} {s′ : Bays C G} → Like s s′ → maxS μ s ≡ maxS ν s′
   maxS-like μ ν h (like-last r) = h _ _ r
   maxS-like μ ν h (like-more r e l) = ap₂ max (h _ _ r) (maxS-like μ ν h l)
+
+  pub maxLess-like : (μ : B → ℕ) (ν : C → ℕ) (n : ℕ) → ((b : B) (c : C) → R b c → μ b ≡ ν c) → {s : Bays B F} {s′ : Bays C G} → Like s s′ → maxLess μ n s ≡ maxLess ν n s′
+  maxLess-like μ ν n h (like-last r) = ap (_- n) (h _ _ r)
+  maxLess-like μ ν n h (like-more r e l) = ap₂ (λ (j k : ℕ). max (j - n) k) (h _ _ r) (maxS-like μ ν h l)

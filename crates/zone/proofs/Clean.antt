@@ -5,12 +5,12 @@ use mathlib.Core.Option.{Option}
 use mathlib.Core.List.{List, [], _∷_, _++_, map, List·Permᴰ, List·Permᴰ·nil, List·Permᴰ·cons, List·Permᴰ·swap, List·Permᴰ·trans, Permᴰ·symm}
 use Prim.Native.Nat.{ℕ, _+_, _-_, _%_, _≤_}
 use native.Mathlib.Omega.{arith}
-use lib.ListN.{length, take, drop, replicate, length-replicate}
+use lib.ListN.{length, take, replicate, length-replicate}
 use lib.Dec.{leb, eqb}
 use borrow.Author.Tests.{leb-true}
 use Rattle.bigendian.specs.BigEndian.{Bytes}
 use Rattle.bigendian.proofs.Bytes.{bytes-take, bytes-zeros, bytes-append}
-use Rattle.calls.specs.Bays.{Bays, last, more, mapS, onFixed, onLast, lastS, findS}
+use Rattle.calls.specs.Bays.{Bays, last, more, onFirst, mapS, onFixed, onLast, firstS, lastS, findS}
 use Rattle.zone.specs.PickBays.{onLow, onHigh, onJoin}
 use Rattle.kinds.specs.Kinds.{Item, itemSize, is, Written, item, holding}
 use Rattle.kinds.proofs.KindLaws.{bytes-of, written-item, written-holding, is-header}
@@ -59,6 +59,10 @@ module _ {B F : Type 0} {P : B → Type 0} {Q : F → Type 0} where
   pub every-fixed : (f : F → F) → ((x : F) → Q x → Q (f x)) → {s : Bays B F} → Every P Q s → Every P Q (onFixed f s)
   every-fixed f h (e-last p) = e-last p
   every-fixed f h (e-more {x = x} p q e) = e-more p (h x q) (every-fixed f h e)
+
+  pub every-first : (f : B → B) {s : Bays B F} → (P (firstS s) → P (f (firstS s))) → Every P Q s → Every P Q (onFirst f s)
+  every-first f h (e-last p) = e-last (h p)
+  every-first f h (e-more p q e) = e-more (h p) q e
 
   pub every-last : (f : B → B) {s : Bays B F} → (P (lastS s) → P (f (lastS s))) → Every P Q s → Every P Q (onLast f s)
   every-last f h (e-last p) = e-last (h p)

@@ -10,15 +10,15 @@ use Rattle.kinds.specs.Kinds.{Item, itemSize, is}
 use Rattle.calls.specs.State.{alter, get, sized, Fixed, fsize}
 use Rattle.calls.proofs.Counted.{alter-none}
 use Rattle.ledger.specs.Ledger.{Bay, bay, sumOf, onEntries, without, less}
-use Rattle.bay.specs.Bay.{Cell, baySize, baySum, items, gap, joinBays, compactBay, put, takeHigh, release, edit, reshape}
+use Rattle.bay.specs.Bay.{Cell, baySize, baySum, items, gap, joinBays, compactBay, packedLess, put, takeHigh, release, edit, reshape}
 use Rattle.bay.specs.Counted.{count, remove}
 use Rattle.zone.specs.Search.{own}
 use Rattle.bay.proofs.Perm.{perm-total, perm-map, perm-remove, perm-count, perm-get}
 use Rattle.bay.proofs.Holes.{put-keeps}
-use Rattle.bay.proofs.Laws.{bsize-split, bsize-gap, items-gap, bsize-weld, items-weld, tidy-size, tidy-items, cut-less, release-size, release-items, edit-size, edit-items}
+use Rattle.bay.proofs.Laws.{bsize-split, bsize-gap, items-gap, bsize-weld, items-weld, tidy-size, tidy-items, packed-less, cut-less, release-size, release-items, edit-size, edit-items}
 use Rattle.bay.proofs.Resize.{reshape-sound}
 use Rattle.zone.proofs.Own.{own-shaped}
-use Rattle.bay.proofs.Sound.{Block, Sound, s-nil, gap-sound, put-sound, release-sound, edit-sound, cut-sound, weld-sound, tidy-sound}
+use Rattle.bay.proofs.Sound.{Block, Sound, s-nil, gap-sound, put-sound, release-sound, edit-sound, less-sound, cut-sound, weld-sound, tidy-sound}
 
 pub record Fits (b : List Cell) (c : Bay) : Type 0 where
   pub size : baySize b ≡ c .capacity
@@ -76,6 +76,9 @@ module _ {b : List Cell} {c : Bay} (r : Fits b c) where
 
   pub high-fits : (n : ℕ) → n % 4 ≡ 0 → n ≤ baySum b → Fits (takeHigh n b) (less n c)
   high-fits n q h = record { size = omega (arith, cut-less n b h .size, r .size); perm = rw (cut-less n b h .same) (r .perm); sound = cut-sound n q h (r .sound) }
+
+  pub less-fits : (n : ℕ) → n % 4 ≡ 0 → n ≤ baySum b → Fits (packedLess n b) (less n c)
+  less-fits n q h = record { size = omega (arith, packed-less n b h .size, r .size); perm = rw (packed-less n b h .same) (r .perm); sound = less-sound n q (r .sound) }
 
   pub compact-fits : Fits (compactBay b) c
   compact-fits = record { size = tidy-size b ∙ r .size; perm = rw tidy-items (r .perm); sound = tidy-sound (r .sound) }

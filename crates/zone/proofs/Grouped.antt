@@ -12,8 +12,8 @@ use Rattle.structure.specs.Valid.{Tiled, Valid}
 use Rattle.calls.specs.Bays.{Bays, last, more}
 use Rattle.zone.specs.PickBays.{AllS}
 use Rattle.kinds.specs.Kinds.{Item, itemSize}
-use Rattle.calls.specs.State.{Fixed}
-use Rattle.bay.specs.Bay.{Cell, free, held}
+use Rattle.calls.specs.State.{Fixed, masterCount}
+use Rattle.bay.specs.Bay.{Cell, free, held, items}
 use Rattle.bay.proofs.Sound as Sound
 use Rattle.bay.proofs.Sound.{Sound, s-nil, s-end, s-free, s-held}
 use Rattle.bigendian.specs.BigEndian.{Bytes}
@@ -23,7 +23,8 @@ use Rattle.bay.specs.Counted.{live}
 use Rattle.zone.proofs.Handles.{Owns, owns-closed, occurs-once}
 use Rattle.zone.proofs.Places as Places
 use Rattle.zone.proofs.Places.{tile-last, tile-more, Placed, placed-closed}
-use Rattle.zone.proofs.Walk.{work-keeps}
+use Rattle.zone.proofs.Entered.{starts, entered, from-buffer}
+use Rattle.zone.proofs.Walk.{Closed, work-keeps}
 use Rattle.zone.proofs.Clean.{Every, e-last, e-more, i-nil, i-cons, ItemOk, FixedOk, BayOk, Clean, clean-closed}
 use Rattle.zone.proofs.Bounds.{Bounded, bounded-closed, Long, long-closed}
 use Rattle.zone.proofs.Solid.{Sized, Solid, solid-closed}
@@ -31,7 +32,8 @@ use Rattle.zone.specs.Group.{inFront, group}
 use Rattle.zone.proofs.GroupLaws.{flatten-group}
 use Rattle.zone.specs.Work.{Zone, facts, work}
 use Rattle.zone.specs.Call.{inBays, inLine}
-use Rattle.zone.proofs.Keep.{Whole, live-strip, occurs-same, masters-same}
+use Rattle.zone.proofs.Keep.{Whole, live-strip, occurs-same, masters-same, masters-are}
+use Rattle.zone.proofs.MoreMasters.{entered-whole}
 
 pub line-bays : (buf : ℕ) (s : Structure) → inLine (inBays buf s) ≡ s
 line-bays buf s = λ i. record { chain = s .chain; blocks = flatten-group (start s) (s .blocks) i }
@@ -119,16 +121,27 @@ pub single-live : (z : Zone) (w : Whole z) (h : ℕ) → live h (z .bays) ≤ 1
 single-live z w h = omega (arith, w .owned .owns h, occurs-once h zoneHeader (w .m))
 
 module _ (c : Call) (z : Zone) (y : Bytes (secondOf (beside c))) (w : Whole z) (e : refusalOf c (facts true z) ≡ 0) where
+  -- what is kept of the zone that the work starts from
+  keeps : (P : Zone → Type 0) → Closed P → P (entered c z) → P ((work c z) .next)
+  keeps P k g = work-keeps P k c z y (single-live z w) e g
+
   pub work-whole : Whole ((work c z) .next)
-  work-whole = record {
-    m = w .m;
-    few = w .few;
-    owned = work-keeps (Owns (w .m)) (owns-closed (w .m)) c z y (single-live z w) e (w .owned);
-    placed = work-keeps (Placed (w .m)) (placed-closed (w .m)) c z y (single-live z w) e (w .placed);
-    bounded = work-keeps Bounded bounded-closed c z y (single-live z w) e (w .bounded);
-    sound = sound-of (work-keeps Solid solid-closed c z y (single-live z w) e (record { solid = solid-of (w .sound) (w .clean .clean) }) .solid);
-    clean = work-keeps Clean clean-closed c z y (single-live z w) e (w .clean);
-  }
+  work-whole =
+      let v : Whole (entered c z) = entered-whole z w c e in
+      record {
+        m = v .m;
+        few = v .few;
+        owned = keeps (Owns (v .m)) (owns-closed (v .m)) (v .owned);
+        placed = keeps (Placed (v .m)) (placed-closed (v .m)) (v .placed);
+        bounded = keeps Bounded bounded-closed (v .bounded);
+        sound = sound-of (keeps Solid solid-closed (record { solid = solid-of (v .sound) (v .clean .clean) }) .solid);
+        clean = keeps Clean clean-closed (v .clean);
+      }
+
+  -- as many masters as it starts with
+  pub work-masters : masterCount items ((work c z) .next) ≡ masterCount items (entered c z)
+  unfolding work-whole
+  work-masters = masters-are ((work c z) .next) work-whole ∙ sym (masters-are (entered c z) (entered-whole z w c e))
 
   pub work-buffer : ((work c z) .next) .buf ≡ z .buf
-  work-buffer = work-keeps (Long (z .buf)) (long-closed (z .buf)) c z y (single-live z w) e (record { long = refl }) .long
+  work-buffer = keeps (Long (z .buf)) (long-closed (z .buf)) (record { long = from-buffer (starts c z) }) .long

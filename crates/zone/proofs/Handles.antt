@@ -3,11 +3,12 @@ use mathlib.Core.Path.{_≡_, refl, ap, _∙_}
 use mathlib.Core.Bool.{Bool, true, false, cond}
 use mathlib.Core.Option.{Option, none, some}
 use mathlib.Core.List.{List, [], _∷_, _++_, map, append-nil}
-use Prim.Native.Nat.{ℕ, zero, suc, _+_, _≤_, _<_}
+use Prim.Native.Nat.{ℕ, zero, suc, _+_, _*_, _≤_, _<_}
+use native.Mathlib.Nat.{zero-add, suc-add}
 use native.Mathlib.Omega.{arith}
 use lib.Dec.{eqb}
 use lib.ListN.{length}
-use borrow.Author.Tests.{leb-true, eqb-true, eqb-false, ne-eqb}
+use borrow.Author.Tests.{leb-true, eqb-true, eqb-false, eq-eqb, ne-eqb}
 use Rattle.block_type.specs.Limits.{zoneHeader, masterSize}
 use Rattle.calls.specs.Bays.{Bays, last, more, mapS, lastS}
 use Rattle.zone.specs.PickBays.{onLow, AllS}
@@ -54,6 +55,13 @@ occurs-once h k (suc n) = go (eqb h k) refl (occurs-once h (k + masterSize) n)
     go : (t : Bool) → eqb h k ≡ t → occurs h (handlesFrom (k + masterSize) n) ≤ 1 → cond t (suc (occurs h (handlesFrom (k + masterSize) n))) (occurs h (handlesFrom (k + masterSize) n)) ≤ 1
     go true e l = omega (arith, occurs-below h (k + masterSize) n (omega (arith, eqb-true h k e)))
     go false e l = l
+
+-- m handles, and n more behind them
+pub handles-append : (h m n : ℕ) → handlesFrom h (m + n) ≡ handlesFrom h m ++ handlesFrom (h + masterSize * m) n
+handles-append h zero n = let q : h + masterSize * 0 ≡ h = omega arith in rw (zero-add, q)
+handles-append h (suc m) n =
+    let q : h + masterSize + masterSize * m ≡ h + masterSize * suc m = omega arith in
+    rw suc-add (ap (h ∷_) (handles-append (h + masterSize) m n ∙ ap (λ (k : ℕ). handlesFrom (h + masterSize) m ++ handlesFrom k n) q))
 
 -- counts after each change of a bay
 pub count-append : (h : ℕ) (a b : List Item) → count h (a ++ b) ≡ count h a + count h b
@@ -118,6 +126,12 @@ module _ (m : ℕ) where
       all : (s : Bays (List Cell) Fixed) → ((h : ℕ) → AllS (λ (b : List Cell). count h (items b) ≤ 1) s) → AllS (λ (b : List Cell). (h : ℕ) → count h (items b) ≤ 1) s
       all (last b) f = f
       all (more b x s) f = ((λ h. f h .0), all s (λ h. f h .1))
+
+  -- a free handle is a master's offset, and no block's
+  pub chained : (z : Zone) → Owns m z → (h : ℕ) (hs : List ℕ) → z .chain ≡ h ∷ hs → (live h (z .bays) ≡ 0) × (1 ≤ masters m h)
+  chained z g h hs q =
+      let o : occurs h (z .chain) ≡ suc (occurs h hs) = ap (occurs h) q ∙ (rw (eq-eqb h h refl)) in
+      (omega (arith, g .owns h, occurs-once h zoneHeader m, o), omega (arith, g .owns h, o))
 
   -- an item found by its handle
   pub record Found (h : ℕ) (z : Zone) (e : Item) : Type 0 where

@@ -1,4 +1,4 @@
--- What stands in a buffer that holds a zone, read as plain bytes: the length, live masters, the bytes of every block.
+-- What stands in a buffer that holds a zone, read as plain bytes: live masters, the bytes of every block.
 use mathlib.Core.Path.{_≡_, ap, sym, _∙_, subst}
 use mathlib.Core.Bool.{Bool, true}
 use mathlib.Core.List.{List, _++_}
@@ -9,7 +9,7 @@ use lib.Dec.{eqb}
 use borrow.Author.Tests.{eqb-true}
 use Rattle.block_type.specs.Limits.{masterSize, zoneHeader}
 use Rattle.bigendian.specs.BigEndian.{fromBE, slice}
-use Rattle.format.specs.WellFormed.{lengthField, masterAt}
+use Rattle.format.specs.WellFormed.{masterAt}
 use Rattle.structure.specs.Structure.{encode}
 use Rattle.structure.proofs.Round as Round
 use Rattle.structure.proofs.Round.{offset-is}
@@ -26,7 +26,7 @@ use Rattle.bay.specs.Counted.{live}
 use Rattle.zone.proofs.Stands as Old
 use Rattle.zone.proofs.Stands.{AllF}
 use Rattle.zone.proofs.Bytes.{zoneBytes, masterOf, big}
-use Rattle.zone.proofs.Keep.{Whole, valid-line, len-line, count-line, masters-same}
+use Rattle.zone.proofs.Keep.{Whole, valid-line, count-line, masters-same}
 use Rattle.zone.proofs.Run.{Stored}
 use Rattle.zone.proofs.Encoders.{encoders, master-is}
 
@@ -53,10 +53,6 @@ module _ (bs : List ℕ) (z : Zone) (w : Whole z) (s : Stored bs z) where
       ap fromBE (Old.stands-read (in-buffer k) ∙ sym (Old.stands-read (in-line k)))
       ∙ Round.master-is (inLine z) (valid-line z w) h (record { low = o .0; fits = omega (arith, count-line z w, o .1); four = o .2 })
       ∙ sym (master-is z w h)
-
-  -- the header's length
-  pub length-read : lengthField bs ≡ z .len
-  length-read = ap lengthField (s .split) ∙ Round.heads (inLine z) (valid-line z w) (drop (z .len) bs) .is-len ∙ len-line z w
 
   -- a live handle's bytes stand from the offset in its master
   pub live-read : (h : ℕ) → Each (λ (e : Item). slice bs (masterAt bs h) (length (e .bytes)) ≡ e .bytes) (lookup h z)

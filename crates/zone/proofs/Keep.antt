@@ -20,9 +20,8 @@ use Rattle.zone.specs.PickBays.{AllS}
 use Rattle.bay.specs.Counted as Counted
 use Rattle.bay.specs.Counted.{live}
 use Rattle.bay.specs.Bay.{Cell, free, held, baySize, items}
-use Rattle.bay.proofs.Sound as Sound
 use Rattle.bay.proofs.Sound.{Sound, s-nil, s-end, s-free, s-held}
-use Rattle.calls.specs.State.{Fixed, listed, handlesFrom}
+use Rattle.calls.specs.State.{Fixed, listed, handlesFrom, masterCount}
 use Rattle.kinds.specs.Kinds.{is, mastersOf}
 use Rattle.bay.proofs.Perm.{listed-held}
 use Rattle.zone.proofs.Handles as Handles
@@ -134,6 +133,9 @@ module _ (z : Zone) (w : Whole z) where
         length-append (handlesOf (flatten (z .bays))) (z .chain),
         counted (w .m) (handlesOf (flatten (z .bays)) ++ z .chain) (λ h. occurs-append h (handlesOf (flatten (z .bays))) (z .chain) ∙ owns-line h),
       )
+
+  pub masters-are : masterCount items z ≡ w .m
+  masters-are = omega (arith, many-strip (z .bays), count-line)
 
   pub len-line : len (inLine z) ≡ z .len
   len-line = omega (arith, count-line, size-strip (w .placed .tiled))

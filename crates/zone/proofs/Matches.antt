@@ -3,12 +3,13 @@ use mathlib.Core.Path.{_≡_, refl, ap, ap₂, sym}
 use mathlib.Core.Bool.{true, cond}
 use mathlib.Core.Option.{Option, Option·getD}
 use mathlib.Core.List.{List}
-use Prim.Native.Nat.{ℕ, _≤_}
+use Prim.Native.Nat.{ℕ, _+_, _≤_}
 use native.Mathlib.Omega.{arith}
 use lib.ListN.{length}
 use lib.Dec.{eqb}
+use Rattle.block_type.specs.Limits.{addedBytes}
 use Rattle.calls.specs.Calls.{Target, by-handle, by-pointer}
-use Rattle.calls.specs.Bays.{Bays, over, orElse, findS, findF, sumS, maxS}
+use Rattle.calls.specs.Bays.{Bays, over, orElse, findS, findF, sumS, maxS, maxLess, firstS}
 use Rattle.kinds.specs.Kinds.{Item}
 use Rattle.calls.specs.State.{get, listed, Fixed, pointer, content, ownSum}
 use Rattle.ledger.specs.Ledger.{Bay, Ledger, entriesOf, sumOf}
@@ -19,7 +20,7 @@ use Rattle.bay.specs.Counted.{count, live}
 use Rattle.zone.specs.Work as Work
 use Rattle.zone.specs.Work.{Zone}
 use Rattle.bay.proofs.Perm.{perm-live}
-use Rattle.zone.proofs.BaysLaws.{Like, like-last, like-more, maxS-like, sumS-like}
+use Rattle.zone.proofs.BaysLaws.{Like, like-last, like-more, firstS-like, maxS-like, maxLess-like, sumS-like}
 use Rattle.zone.proofs.Fits.{Fits, Equal, same-sum, same-get, same-count}
 
 abbrev pub Paired : Bays (List Cell) Fixed → Bays Bay Fixed → Type 0
@@ -49,6 +50,12 @@ module _ {s : Bays (List Cell) Fixed} {t : Bays Bay Fixed} (l : Paired s t) wher
   pub largest-same : maxS baySum s ≡ maxS sumOf t
   largest-same = maxS-like Fits Equal baySum sumOf (λ b c r. same-sum r) l
 
+  pub first-same : baySum (firstS s) ≡ sumOf (firstS t)
+  first-same = same-sum (firstS-like Fits Equal l)
+
+  pub largest-after-same : maxLess baySum addedBytes s ≡ maxLess sumOf addedBytes t
+  largest-after-same = maxLess-like Fits Equal baySum sumOf addedBytes (λ b c r. same-sum r) l
+
   pub total-same : sumS baySum s ≡ sumS sumOf t
   total-same = sumS-like Fits Equal baySum sumOf (λ b c r. same-sum r) l
 
@@ -76,8 +83,11 @@ facts-same o (matches {buf = buf} {len = len} {chain = chain} k) = λ i. record 
   buf = buf;
   len = len;
   chain = chain;
+  masters = count-same k i + length chain;
   size = λ t. over length (content-same k o t i);
   largest = largest-same k i;
   own = λ h. own-sum-same k o h i;
+  firstSum = first-same k i;
+  largestAfter = largest-after-same k i;
   live = count-same k i;
 }

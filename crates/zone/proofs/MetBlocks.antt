@@ -2,12 +2,12 @@
 use mathlib.Core.Path.{_≡_, refl, ap, ap₂, sym, _∙_}
 use mathlib.Core.Bool.{Bool, true, false, cond, _&&_}
 use mathlib.Core.List.{List, [], _∷_, _++_, map, append-nil, append-assoc}
-use Prim.Native.Nat.{ℕ, _+_, _-_, _*_, _≤_, suc}
+use Prim.Native.Nat.{ℕ, _+_, _-_, suc}
 use native.Mathlib.Omega.{arith}
 use native.Mathlib.Nat.{add-zero, zero-add, add-assoc}
 use lib.ListN.{length, drop}
 use lib.Dec.{eqb}
-use Rattle.block_type.specs.Limits.{freeCode, fixedCode, relocCode, relocHeader, masterSize, zoneHeader, fixedHeader, firstAt}
+use Rattle.block_type.specs.Limits.{freeCode, fixedCode, relocCode, relocHeader, fixedHeader, firstBlock, firstAt}
 use Rattle.bigendian.specs.BigEndian.{fromBE}
 use Rattle.bigendian.proofs.Parts.{slice-take}
 use Rattle.format.specs.WellFormed.{headerOk, lengthField, firstField, mastersField, chainField, typeOf, sizeOf, handleOf, isFree, splitBlocks, zoneOf, isReloc}
@@ -15,10 +15,8 @@ use Rattle.format.specs.OneWalk.{blockOk, blocksOk, bodyOk}
 use Rattle.format.proofs.Bool.{and-left, and-right}
 use Rattle.format.proofs.Walk.{is-good}
 use Rattle.format.proofs.OneWalk.{one-walk}
-use Rattle.format.proofs.Header.{header-facts}
 use Rattle.format.proofs.Live.{body-parts}
 use Rattle.structure.specs.Structure.{Structure, Block, fixed, size, byType, decodeBlock, decodeZone, decode, cell}
-use Rattle.structure.proofs.Round.{heads}
 use Rattle.structure.proofs.Decoded.{by, size-dec}
 use Rattle.calls.specs.Roster.{Card}
 use Rattle.ledger.specs.Space.{Spot, spot}
@@ -29,11 +27,11 @@ use Rattle.kinds.proofs.KindLaws.{Read, is-header}
 use Rattle.calls.specs.State.{Fixed, fsize, card, listed}
 use Rattle.zone.specs.Group.{flatBay, flatten}
 use Rattle.zone.specs.Work.{Zone}
-use Rattle.zone.specs.Call.{inLine}
 use Rattle.zone.specs.Claim.{fixedMet, relocMet, freeMet, fixedIn, relocIn, freeIn}
 use Rattle.zone.proofs.Places.{Tiled, tile-last, tile-more}
-use Rattle.zone.proofs.Keep.{Whole, valid-line, count-line}
+use Rattle.zone.proofs.Keep.{Whole, masters-are}
 use Rattle.zone.proofs.Run.{Stored, stored-well, stored-decode}
+use Rattle.zone.proofs.Fields.{header-fits, first-read}
 use borrow.Author.Tests.{ne-eqb, eq-eqb}
 
 -- place and size of each fixed block, in address order
@@ -168,24 +166,16 @@ cards-strip (more b x s) = cards-bay b (fixed (x .bytes) ∷ flatten s) ∙ ap (
 
 -- ---- the buffer
 
--- bkFst is read alike with and without the bytes beyond the zone
-first-zone : (bs : List ℕ) → firstAt + 4 ≤ lengthField bs → firstField (zoneOf bs) ≡ firstField bs
-first-zone bs l = ap fromBE (slice-take bs (lengthField bs) firstAt 4 l)
-
 module _ (bs : List ℕ) (z : Zone) (w : Whole z) (s : Stored bs z) where
   stored-walk : (headerOk bs && bodyOk (zoneOf bs) (firstField bs) (mastersField bs) (chainField bs)) ≡ true
   stored-walk = sym (one-walk bs) ∙ stored-well bs z w s
 
-  first-is : firstField bs ≡ zoneHeader + masterSize * w .m
-  first-is =
-      ap firstField (s .split)
-      ∙ heads (inLine z) (valid-line z w) (drop (z .len) bs) .is-first
-      ∙ ap (λ (m : ℕ). zoneHeader + masterSize * m) (count-line z w)
+  first-is : firstField bs ≡ firstBlock (w .m)
+  first-is = first-read bs z w s ∙ ap firstBlock (masters-are z w)
 
+  -- bkFst is read alike with and without the bytes beyond the zone
   first-same : firstField (zoneOf bs) ≡ firstField bs
-  first-same =
-      let f = header-facts bs (and-left _ (bodyOk (zoneOf bs) (firstField bs) (mastersField bs) (chainField bs)) stored-walk) in
-      first-zone bs (omega (arith, first-is))
+  first-same = ap fromBE (slice-take bs (lengthField bs) firstAt 4 (omega (arith, header-fits bs z w s)))
 
   blocks-are : map decodeBlock (splitBlocks (drop (firstField bs) (zoneOf bs))) ≡ flatten (z .bays)
   unfolding decode decodeZone

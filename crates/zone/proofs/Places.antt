@@ -7,7 +7,7 @@ use native.Mathlib.Omega.{arith}
 use lib.ListN.{length, length-replicate}
 use lib.Dec.{leb, eqb}
 use borrow.Author.Tests.{leb-true}
-use Rattle.calls.specs.Bays.{Bays, last, more, mapS, onFixed, onLast, lastS}
+use Rattle.calls.specs.Bays.{Bays, last, more, onFirst, mapS, onFixed, onLast, firstS, lastS}
 use Rattle.zone.specs.PickBays.{onLow}
 use Rattle.kinds.specs.Kinds.{Item, itemSize}
 use Rattle.calls.specs.State.{alterFixed, pointer, Fixed, fsize, newItem, newFixed}
@@ -76,6 +76,11 @@ alter-fsize p f q x = cond-one fsize (eqb p (pointer x)) (ap (fixedHeader +_) (q
 last-tiled : (f : List Cell → List Cell) {p end : ℕ} (end′ : ℕ) {s : Bays (List Cell) Fixed} → baySize (f (lastS s)) + end ≡ baySize (lastS s) + end′ → Tiled p s end → Tiled p (onLast f s) end′
 last-tiled f end′ q (tile-last {p = p} {b = b} e) = tile-last {p = p} {end = end′} {b = f b} (omega arith)
 last-tiled f end′ q (tile-more e t) = tile-more e (last-tiled f end′ q t)
+
+-- the first bay gives up bytes, or gets some, at its start
+pub first-tiled : (f : List Cell → List Cell) {p end : ℕ} (p′ : ℕ) {s : Bays (List Cell) Fixed} → baySize (f (firstS s)) + p′ ≡ baySize (firstS s) + p → Tiled p s end → Tiled p′ (onFirst f s) end
+first-tiled f p′ q (tile-last {end = end} {b = b} e) = tile-last {p = p′} {end = end} {b = f b} (omega arith)
+first-tiled f p′ q (tile-more {b = b} {x = x} e t) = tile-more {p = p′} {b = f b} {x = x} (omega arith) t
 
 last-below : {p end : ℕ} {s : Bays (List Cell) Fixed} → Tiled p s end → baySize (lastS s) ≤ end
 last-below (tile-last e) = omega arith

@@ -21,8 +21,8 @@ use Rattle.ledger.specs.Ledger.{Ledger, entriesOf, insert, byHandle}
 use Rattle.ledger.proofs.Sorted.{sorted-long}
 use Rattle.bay.specs.Bay.{Cell, items}
 use Rattle.zone.specs.Work as Work
-use Rattle.zone.specs.Work.{Zone, masterCount, cardIf, cardsOf}
-use Rattle.zone.proofs.Keep.{Whole, many-strip, count-line}
+use Rattle.zone.specs.Work.{Zone, cardIf, cardsOf}
+use Rattle.zone.proofs.Keep.{Whole, masters-are}
 use Rattle.zone.proofs.Grouped.{single-live}
 use Rattle.zone.proofs.Matches.{Matches, matches, handle-same, live-same}
 use Rattle.zone.proofs.Handles.{occurs, masters, occurs-below, occurs-once, count-append}
@@ -150,11 +150,8 @@ module _ {B : Type 0} (all : B → List Item) where
 -- ---- of a zone, and of the ledger that is one with it
 
 module _ (z : Zone) (w : Whole z) where
-  pub masters-are : masterCount z ≡ w .m
-  masters-are = omega (arith, many-strip (z .bays), count-line z w)
-
   pub zone-sorted : Work.cards z ≡ byHandle (concatS (λ (b : List Cell). listed (items b)) (z .bays))
-  zone-sorted = rw masters-are (in-order items (z .bays) (w .m) (λ h. omega (arith, w .owned .owns h)))
+  zone-sorted = rw (masters-are z w) (in-order items (z .bays) (w .m) (λ h. omega (arith, w .owned .owns h)))
 
   -- as many as there are live handles
   pub cards-long : length (Work.cards z) ≡ liveCount items z

@@ -45,7 +45,7 @@ module _ (bs : List ℕ) (z : Zone) (w : Whole z) (s : Stored bs z) where
       ∙ (λ i. cond (stored-well i) (outcome bs (stored-decode i) (work c (stored-bays i))) (result (told 0 0) bs))
 
   pub call-refused : (c : Call) (n : ℕ) → refusalOf c (facts true z) ≡ suc n → call c bs ≡ result (refused c (suc n)) bs
-  call-refused c n e = ap (λ (k : ℕ). callWith k c bs) (number-is c ∙ e) ∙ rw (eqb·suc-zero n)
+  call-refused c n e = ap (λ (k : ℕ). callWith k c bs) (number-is c ∙ e) ∙ rw (eqb·suc-zero n) refl
 
 length-line : (z : Zone) → Whole z → length (encode (inLine z)) ≡ z .len
 length-line z w = length-is (inLine z) (valid-line z w) ∙ len-line z w

@@ -4,7 +4,7 @@ use mathlib.Core.Bool.{Bool, true}
 use mathlib.Core.Option.{Option}
 use Prim.Native.Nat.{ℕ, _+_, _≤_}
 use native.Mathlib.Omega.{arith}
-use Rattle.calls.specs.Bays.{Bays, last, more, mapS, onFixed, onLast, findS, sumS, lastS}
+use Rattle.calls.specs.Bays.{Bays, last, more, onFirst, mapS, onFixed, onLast, findS, sumS, firstS, lastS}
 use Rattle.zone.specs.PickBays.{onLow, onHigh, glue, onJoin, AllS}
 use Rattle.bay.proofs.Each.{Each, nothing, just, each-over, each-cond, each-orElse, each-weaken}
 
@@ -41,6 +41,10 @@ module _ {B F : Type 0} where
   pub mapS-zero : (μ : B → ℕ) (f : B → B) → ((b : B) → μ (f b) ≡ 0) → (s : Bays B F) → sumS μ (mapS f s) ≡ 0
   mapS-zero μ f h (last b) = h b
   mapS-zero μ f h (more b x s) = omega (arith, h b, mapS-zero μ f h s)
+
+  pub onFirst-sum : (μ : B → ℕ) (f : B → B) (s : Bays B F) → μ (f (firstS s)) ≡ μ (firstS s) → sumS μ (onFirst f s) ≡ sumS μ s
+  onFirst-sum μ f (last b) h = h
+  onFirst-sum μ f (more b x s) h = ap (_+ sumS μ s) h
 
   pub onLast-sum : (μ : B → ℕ) (f : B → B) (s : Bays B F) → μ (f (lastS s)) ≡ μ (lastS s) → sumS μ (onLast f s) ≡ sumS μ s
   onLast-sum μ f (last b) h = h

@@ -32,7 +32,8 @@ use Rattle.zone.proofs.BaysLaws.{like-last, like-more}
 use Rattle.zone.proofs.Keep.{Whole}
 use Rattle.zone.proofs.Grouped.{single-live, work-whole, work-buffer}
 use Rattle.zone.proofs.Run.{Stored, stored-well, stored-after, call-worked, call-refused}
-use Rattle.zone.proofs.InBuffer.{live-read, fixed-read, length-read}
+use Rattle.zone.proofs.Fields.{length-read}
+use Rattle.zone.proofs.InBuffer.{live-read, fixed-read}
 use Rattle.zone.proofs.Numbers.{work-number}
 use Rattle.zone.proofs.Initial.{Accepted, accepted, fresh-whole, fresh-stored}
 use Rattle.zone.specs.Claim.{History, stop, then, Never, never-nil, never-cons, Where, nowhere, here, Stands, Claim, TheList}

@@ -8,7 +8,7 @@ use native.Mathlib.Omega.{arith}
 use lib.ListN.{length, take, length-replicate}
 use lib.Seq.{sets, length-sets}
 use lib.Dec.{leb, eqb, eqb·suc-zero}
-use borrow.Author.Tests.{leb-true, eqb-true, not-false}
+use borrow.Author.Tests.{leb-true, eqb-true}
 use Rattle.bigendian.specs.BigEndian.{Bytes}
 use Rattle.bigendian.proofs.Bytes.{bytes-take, bytes-sets}
 use Rattle.block_type.specs.Limits.{relocHeader, relocLimit, fixedLimit, up4, fixedHeader, fixedNeed, relocNeed, longestZone}
@@ -16,16 +16,19 @@ use Rattle.calls.specs.Calls.{Call, allocate-relocatable, allocate-fixed, free-
 use Rattle.calls.specs.Bays.{Bays, over, mapS, onFixed, onLast, findF, lastS, maxS}
 use Rattle.kinds.specs.Kinds.{Item, itemSize}
 use Rattle.calls.specs.State.{Fixed, pointer, withBays, alterFixed, newItem, top, rest, ownSum}
-use Rattle.calls.specs.Table.{below, isNone, isEmpty, refusalOf, causes, holdsIn, order}
-use Rattle.calls.proofs.First.{among, clear, or-left}
+use Rattle.calls.specs.Table.{below, isNone, isEmpty, refusalOf}
+use Rattle.calls.proofs.First.{or-left}
 use Rattle.bay.specs.Bay as Bay
 use Rattle.bay.specs.Bay.{Cell, baySum, items, release, gap, joinBays, put}
 use Rattle.bay.specs.Counted.{live}
 use Rattle.zone.specs.Work as Work
-use Rattle.zone.specs.Work.{Zone, facts, work, freePointer, rewrite}
+use Rattle.zone.specs.Work.{Zone, facts, withMaster, work, freePointer, rewrite}
 use Rattle.zone.specs.Search.{lookup, placeLow, placeHigh, joinAt, resizeIn}
 use Rattle.bay.proofs.Each.{Each, nothing, just, each-some}
 use Rattle.bay.proofs.Sound.{Block}
+use Rattle.zone.proofs.Passed.{passed, not-below}
+use Rattle.zone.proofs.WithMaster.{with-chain, with-room}
+use Rattle.zone.proofs.Entered.{entered}
 use Rattle.zone.proofs.Once.{Named, unnamed, named}
 use Rattle.zone.proofs.Found.{Found, lost, got, low-found, high-found, join-found, resize-found, block-named}
 
@@ -76,9 +79,6 @@ shown f (some a) e = refl
 each-there : {A : Type 0} {R : Type 0} (o : Option A) → isNone o ≡ false → Each (λ (a : A). R) o → R
 each-there none e q = absurd (true≢false e)
 each-there (some a) e (just r) = r
-
-pub not-below : (a n : ℕ) → below a n ≡ false → n ≤ a
-not-below a n e = leb-true n a (not-false (leb n a) e)
 
 pub or-parts : (a b c : Bool) → not a || (not b || not c) ≡ false → (a ≡ true) × (b ≡ true) × (c ≡ true)
 or-parts true true true e = (refl, refl, refl)
@@ -136,15 +136,12 @@ module _ (P : Zone → Type 0) (k : Closed P) (z : Zone) (g : P z) where
   stripped j zero q = g
   stripped j (suc n) q = rw (eqb·suc-zero n) (k .takeHigh z j (suc n) q g)
 
--- the table's cause of number n does not hold
-abbrev passed : (c : Call) (z : Zone) → refusalOf c (facts true z) ≡ 0 → (n : ℕ) → among n order ≡ true → holdsIn n (causes c (facts true z)) ≡ false
-passed c z e n m = clear (causes c (facts true z)) n m e
-
--- EVERY CALL that nothing refuses; a lent second buffer holds bytes, and no handle stands twice
+-- EVERY CALL that nothing refuses, where it holds of the zone that the work starts from; a lent second buffer holds bytes, and no handle stands
+-- twice
 module _ (P : Zone → Type 0) (k : Closed P) where
-  pub work-keeps : (c : Call) (z : Zone) → Bytes (secondOf (beside c)) → ((h : ℕ) → live h (z .bays) ≤ 1) → refusalOf c (facts true z) ≡ 0 → P z → P ((work c z) .next)
+  pub work-keeps : (c : Call) (z : Zone) → Bytes (secondOf (beside c)) → ((h : ℕ) → live h (z .bays) ≤ 1) → refusalOf c (facts true z) ≡ 0 → P (entered c z) → P ((work c z) .next)
   work-keeps (allocate-relocatable c) z y o e g =
-      allocated P k z g c (or-left _ _ (passed (allocate-relocatable c) z e 3 refl)) (or-left _ _ (passed (allocate-relocatable c) z e 4 refl)) (or-left _ _ (passed (allocate-relocatable c) z e 5 refl))
+      allocated P k (withMaster z) g c (or-left _ _ (passed (allocate-relocatable c) z e 3 refl)) (with-chain z) (rw (with-room z true) (or-left _ _ (passed (allocate-relocatable c) z e 5 refl)))
   work-keeps (allocate-fixed c) z y o e g = fixed-allocated P k z g c (or-left _ _ (passed (allocate-fixed c) z e 3 refl)) (or-left _ _ (passed (allocate-fixed c) z e 5 refl))
   work-keeps (free-handle h) z y o e g = handle-freed P k z g h (or-left _ _ (passed (free-handle h) z e 6 refl))
   work-keeps (free-pointer p) z y o e g = pointer-freed P k z g p (or-left _ _ (passed (free-pointer p) z e 7 refl))

@@ -9,23 +9,25 @@ use lib.ListN.{length, take, drop, length-replicate}
 use lib.Seq.{sets, length-sets}
 use lib.Dec.{leb, eqb, eqb·suc-zero}
 use borrow.Author.Tests.{leb-true, eqb-true}
-use Rattle.block_type.specs.Limits.{relocHeader, up4, relocNeed, fixedNeed, longestZone}
+use Rattle.block_type.specs.Limits.{relocHeader, up4, relocNeed, fixedNeed, longestZone, addedBytes}
 use Rattle.calls.specs.Calls.{Target, by-handle, by-pointer, Call, allocate-relocatable, allocate-fixed, free-handle, free-pointer, read, write, size, compact, sums, enlarge, shrink, view, roster, check, length-of, resize, Answer, told, toldTwo, shows}
 use Rattle.calls.specs.Roster.{Card, rostered}
 use Rattle.calls.specs.Bays.{Bays, last, more, over, orElse, onLowest, mapS, onLast, findS, findF, lastS, maxS}
 use Rattle.kinds.specs.Kinds.{Item, itemSize, item}
 use Rattle.calls.specs.State.{get, newItem, sized, alter, Fixed, fsize, pointer, newFixed, alterFixed, Out, dataOf, ownSum, top}
-use Rattle.calls.specs.Table.{below, isNone, refusalOf, causes, holdsIn, order}
-use Rattle.calls.proofs.First.{among, clear, or-left}
+use Rattle.calls.specs.Table.{below, isNone, refusalOf}
+use Rattle.calls.proofs.First.{or-left}
 use Rattle.ledger.specs.Ledger as Book
 use Rattle.ledger.specs.Ledger.{Bay, Ledger, bay, sumOf, entriesOf, onEntries, without, less}
-use Rattle.bay.specs.Bay.{Cell, baySum, items, gap, joinBays, put, takeHigh, release, compactBay, edit, reshape}
+use Rattle.bay.specs.Bay.{Cell, baySum, items, gap, joinBays, put, takeHigh, release, compactBay, packedLess, edit, reshape}
 use Rattle.bay.specs.Counted.{count, live, roomFor}
 use Rattle.zone.specs.Search.{own}
 use Rattle.zone.specs.Work as Work
 use Rattle.zone.specs.Work.{Zone, has}
+use Rattle.zone.proofs.Passed.{passed, Grows, grows}
+use Rattle.zone.proofs.WithMaster.{with-room}
 use Rattle.zone.proofs.Walk.{or-parts, shown}
-use Rattle.zone.proofs.BaysLaws.{Both, present, like-last, like-more, onLow-like, onHigh-like, onJoin-like, mapS-like, onFixed-like, onLast-like, lastS-like}
+use Rattle.zone.proofs.BaysLaws.{Both, present, like-last, like-more, onLow-like, onHigh-like, onJoin-like, mapS-like, onFixed-like, onFirst-like, firstS-like, onLast-like, lastS-like}
 use Rattle.bay.proofs.Sound.{Block, sum-by4}
 use Rattle.zone.proofs.Places.{alter-fsize}
 use Rattle.bay.proofs.Resize.{length-sized, resized-block}
@@ -34,7 +36,7 @@ use Rattle.zone.proofs.Found.{Found, lost, got, low-found, high-found, 
 use Rattle.zone.proofs.Keep.{Whole}
 use Rattle.zone.proofs.Grouped.{single-live}
 use Rattle.zone.proofs.Rosters.{roster-same}
-use Rattle.zone.proofs.Fits.{Fits, Equal, same-sum, put-fits, release-fits, edit-fits, reshape-fits, absent-fits, high-fits, compact-fits, grow-fits, fresh-fits, join-fits}
+use Rattle.zone.proofs.Fits.{Fits, Equal, same-sum, put-fits, release-fits, edit-fits, reshape-fits, absent-fits, high-fits, less-fits, compact-fits, grow-fits, fresh-fits, join-fits}
 use Rattle.zone.proofs.Matches.{Paired, Matches, matches, largest-same, total-same, count-same, content-same, own-sum-same}
 use Rattle.zone.proofs.ResizeMissing.{max-same}
 use Rattle.zone.proofs.Once.{Named, unnamed, named, often, count-get}
@@ -138,6 +140,17 @@ told-same : {a b : Answer} {buf n : ℕ} {hs : List ℕ} {u : Bays (List Cell) F
     → Same (record { answer = a; next = record { buf = buf; len = n; chain = hs; bays = u } }) (record { answer = b; next = record { buf = buf; len = n; chain = hs; bays = v } })
 told-same e p = record { answer = e; next = matches p }
 
+-- an allocation, where a bay has the room
+allocate-same : (c : ℕ) {z : Zone} {k : Ledger} → Matches z k → below (maxS baySum (z .bays)) (relocNeed c) ≡ false → Same (Work.allocate c z) (Book.allocate c k)
+allocate-same c (matches {chain = hs} l) m = told-same refl (low-same l (newItem (top hs) c) (relocNeed c) (new-block (top hs) c) (omega (arith, length-replicate {A = ℕ} (up4 c) 0)) m)
+
+-- more masters before it, where there is none
+with-same : (c : ℕ) {z : Zone} {k : Ledger} → refusalOf (allocate-relocatable c) (Work.facts true z) ≡ 0 → Matches z k → Matches (Work.withMaster z) (Book.withMaster k)
+with-same c {z} e (matches {chain = []} l) =
+    let g : Grows z = grows c z e refl in
+    rw (count-same l) (matches (onFirst-like Fits Equal (packedLess addedBytes) (less addedBytes) l (less-fits (firstS-like Fits Equal l) addedBytes refl (g .room))))
+with-same c e (matches {chain = h ∷ hs} l) = matches l
+
 module _ (buf len : ℕ) (chain : List ℕ) {s : Bays (List Cell) Fixed} {t : Bays Bay Fixed} (l : Paired s t) (o : (h : ℕ) → live h s ≤ 1) where
   abbrev z : Zone
   z = record { buf = buf; len = len; chain = chain; bays = s }
@@ -147,9 +160,6 @@ module _ (buf len : ℕ) (chain : List ℕ) {s : Bays (List Cell) Fixed} {t : Ba
 
   data-same : (q : Target) → dataOf items q z ≡ dataOf entriesOf q k
   data-same q = ap (λ (x : Option (List ℕ)). Option·getD x []) (content-same l o q)
-
-  allocate-same : (c : ℕ) → below (maxS baySum s) (relocNeed c) ≡ false → Same (Work.allocate c z) (Book.allocate c k)
-  allocate-same c m = told-same refl (low-same l (newItem (top chain) c) (relocNeed c) (new-block (top chain) c) (omega (arith, length-replicate {A = ℕ} (up4 c) 0)) m)
 
   fixed-same′ : (c : ℕ) → below (maxS baySum s) (fixedNeed c) ≡ false → Same (Work.allocateFixed c z) (Book.allocateFixed c k)
   fixed-same′ c m = let r = high-same l (fixedNeed c) len (omega arith) m in told-same (ap (λ (x : Fixed). told 0 (pointer x)) (r .0)) (r .1)
@@ -176,13 +186,9 @@ module _ (buf len : ℕ) (chain : List ℕ) {s : Bays (List Cell) Fixed} {t : Ba
       last-same (more b x v) = ap (more b x) (last-same v)
   strip-same (suc n) q m = rw (eqb·suc-zero n) (told-same refl (onLast-like Fits Equal (takeHigh (suc n)) (less (suc n)) l (high-fits (lastS-like Fits Equal l) (suc n) q m)))
 
--- the table's cause of number n does not hold
-abbrev passed : (c : Call) (z : Zone) → refusalOf c (Work.facts true z) ≡ 0 → (n : ℕ) → among n order ≡ true → holdsIn n (causes c (Work.facts true z)) ≡ false
-passed c z e n m = clear (causes c (Work.facts true z)) n m e
-
 -- EVERY CALL that nothing refuses
 pub work-same : (c : Call) {z : Zone} {k : Ledger} → Whole z → refusalOf c (Work.facts true z) ≡ 0 → Matches z k → Same (Work.work c z) (Book.work c k)
-work-same (allocate-relocatable c) {z} i e (matches {buf = x} {len = y} {chain = w} l) = allocate-same x y w l (single-live _ i) c (or-left _ _ (passed (allocate-relocatable c) z e 5 refl))
+work-same (allocate-relocatable c) {z} i e l = allocate-same c (with-same c e l) (rw (with-room z true) (or-left _ _ (passed (allocate-relocatable c) z e 5 refl)))
 work-same (allocate-fixed c) {z} i e (matches {buf = x} {len = y} {chain = w} l) = fixed-same′ x y w l (single-live _ i) c (or-left _ _ (passed (allocate-fixed c) z e 5 refl))
 work-same (free-handle h) i e (matches {buf = x} {len = y} {chain = w} l) = told-same refl (release-same l h)
 work-same (free-pointer p) {z} i e (matches {buf = x} {len = y} {chain = w} l) = told-same refl (join-same l p (shown (λ (x : Fixed). x .bytes) (findF (λ (x : Fixed). eqb p (pointer x)) (z .bays)) (or-left _ _ (passed (free-pointer p) z e 7 refl))))

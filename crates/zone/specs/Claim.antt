@@ -17,7 +17,7 @@ use Rattle.kinds.specs.Kinds.{Item}
 use Rattle.calls.specs.State.{get, Fixed, pointer}
 use Rattle.ledger.specs.Ledger.{Ledger, Bay, byHandle, cards, run, ledgerAfter, initial}
 use Rattle.ledger.specs.Still.{Has, NotFreed}
-use Rattle.ledger.specs.Space.{Spot, spot, fixedSpots, baySums, Request, callOf, earlier, fits}
+use Rattle.ledger.specs.Space.{Spot, spot, fixedSpots, baySums, Request, callOf, baysFor, earlier, fits}
 use Rattle.zone.specs.Promise.{Promise, InitPromise}
 
 -- ---- the list
@@ -106,9 +106,9 @@ pub record Claim (buf n m : ℕ) (b₀ : List ℕ) : Type 0 where
   pub unmoved : (p q : List Call) (u v : List Answer) (mid end : List ℕ) → History b₀ p u mid → History mid q v end
       → (x : Spot) → NotFreed x q → Has x (fixedIn mid) → Has x (fixedIn end)
   -- "Where nothing earlier in the order refuses an allocation or a resize, it gets "no space" exactly when no bay's sum reaches what
-  -- the ledger needs of that bay"
+  -- the ledger needs of that bay" (where the chain is empty, by the sums after the 32 bytes are taken: document 02, U3)
   pub space : (p : List Call) (u : List Answer) (mid next : List ℕ) (r : Request) (a : Answer) → History b₀ p u mid → Promise (callOf r) mid a next
-      → earlier r (ledgerAfter p (initial buf n m)) ≡ 0 → a .number ≡ cond (fits r (ledgerAfter p (initial buf n m) .bays)) 0 5
+      → earlier r (ledgerAfter p (initial buf n m)) ≡ 0 → a .number ≡ cond (fits r (baysFor r (ledgerAfter p (initial buf n m)))) 0 5
 
 -- Of any buffer, any accepted initialization and any list of calls that keep their promises.
 abbrev pub TheList : Type 0

@@ -9,7 +9,9 @@ pub mod OneChoice
 pub mod RosterSays
 pub mod Hardware
 pub mod Claim
+pub mod Growth
 pub mod RigSheet
+pub mod GrowthSheet
 pub mod ReelB
 pub mod PickBays
 pub mod Search

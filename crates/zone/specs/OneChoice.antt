@@ -1,25 +1,34 @@
 -- Document 02, U2, of the calls: "Inside the chosen bay a relocatable allocation takes the smallest free block that is big enough", "Resize into
 -- another bay does the same". Both place a block by `put`, in the lowest bay whose sum reaches its size: `WhichHole` (crate bay) and `LowestBay`
--- (crate calls) say what that is. (Theorems about `work`: nobody has to believe them.)
+-- (crate calls) say what that is. And U3: what the first bay is laid out as before that, where masters are added. (Theorems about `work`: nobody has to believe them.)
 use mathlib.Core.Path.{_≡_}
-use mathlib.Core.List.{List}
+use mathlib.Core.List.{List, [], _∷_}
 use Prim.Native.Nat.{ℕ, _-_, _≤_, _<_}
 use lib.Dec.{leb}
 use lib.ListN.{length}
-use Rattle.block_type.specs.Limits.{up4}
+use Rattle.block_type.specs.Limits.{up4, firstBlock, addedBytes}
 use Rattle.calls.specs.Calls.{by-handle, allocate-relocatable, resize}
-use Rattle.calls.specs.Bays.{Bays, onLowest, mapS}
+use Rattle.calls.specs.Bays.{Bays, last, more, onLowest, mapS}
 use Rattle.kinds.specs.Kinds.{Item, item, itemSize}
-use Rattle.calls.specs.State.{newItem, sized, Fixed, dataOf, ownSum, top}
+use Rattle.calls.specs.State.{newItem, sized, Fixed, dataOf, ownSum, liveCount}
 use Rattle.bay.specs.Bay.{Cell, baySum, items, put, release, reshape}
+use Rattle.bay.specs.Choice.{inOrder}
 use Rattle.zone.specs.Work.{Zone, has, work}
 
 -- the bays with the block e in its place (`placeLow`, spelt out here, so that it cannot mean anything else)
 abbrev pub inLowest : Item → Bays (List Cell) Fixed → Bays (List Cell) Fixed
 inLowest e s = onLowest (λ b. leb (itemSize e) (baySum b)) (put e) s
 
+-- the first bay has given up the bytes of eight masters: its blocks in old order without gaps, and one free block behind them (document 02, U3)
+abbrev pub firstGives : Bays (List Cell) Fixed → Bays (List Cell) Fixed
+firstGives (last b) = last (inOrder (items b) (baySum b - addedBytes))
+firstGives (more b x s) = more (inOrder (items b) (baySum b - addedBytes)) x s
+
 pub record OneChoice : Type 0 where
-  pub allocated : (c : ℕ) (z : Zone) → work (allocate-relocatable c) z .next .bays ≡ inLowest (newItem (top (z .chain)) c) (z .bays)
+  -- where a master is free
+  pub allocated : (c h : ℕ) (hs : List ℕ) (z : Zone) → z .chain ≡ h ∷ hs → work (allocate-relocatable c) z .next .bays ≡ inLowest (newItem h c) (z .bays)
+  -- where none is, and all masters are live: the new handle is behind them (document 02, U3)
+  pub added : (c : ℕ) (z : Zone) → z .chain ≡ [] → work (allocate-relocatable c) z .next .bays ≡ inLowest (newItem (firstBlock (liveCount items z)) c) (firstGives (z .bays))
   -- where its own bay lacks the room; the old place is free by then
   pub moved : (h c : ℕ) (z : Zone) → ownSum items baySum h (z .bays) < up4 c - length (dataOf items (by-handle h) z)
       → work (resize h c) z .next .bays ≡ inLowest (item h (sized (up4 c) (dataOf items (by-handle h) z))) (mapS (release h) (z .bays))

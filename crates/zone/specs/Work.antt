@@ -7,14 +7,14 @@ use Prim.Native.Nat.{ℕ, _+_, _-_, _*_, _/_, min}
 use lib.ListN.{length, take, drop}
 use lib.Seq.{sets}
 use lib.Dec.{leb, eqb}
-use Rattle.block_type.specs.Limits.{up4, fixedNeed, zoneHeader, firstBlock}
+use Rattle.block_type.specs.Limits.{up4, fixedNeed, zoneHeader, firstBlock, addedMasters, addedBytes}
 use Rattle.calls.specs.Calls.{Target, by-handle, by-pointer, Call, allocate-relocatable, allocate-fixed, free-handle, free-pointer, resize, size, read, write, view, compact, sums, check, length-of, enlarge, shrink, roster, toldTwo, shows}
 use Rattle.calls.specs.Roster.{Card, rostered}
-use Rattle.calls.specs.Bays.{Bays, last, onLowest, mapS, onFixed, onLast, findS, sumS, maxS, lastS}
+use Rattle.calls.specs.Bays.{Bays, last, onLowest, onFirst, mapS, onFixed, onLast, findS, sumS, maxS, lastS}
 use Rattle.kinds.specs.Kinds.{Item, item, itemSize}
-use Rattle.calls.specs.State.{get, newItem, sized, card, handlesFrom, Fixed, pointer, alterFixed, State, Out, says, done, withBays, cutHigh, joinAt, dataOf, ownSum, liveCount, top, rest}
-use Rattle.calls.specs.Table.{Facts, factsOf, isNone}
-use Rattle.bay.specs.Bay.{Cell, baySum, items, gap, joinBays, compactBay, put, takeHigh, release, edit, reshape}
+use Rattle.calls.specs.State.{get, newItem, sized, card, handlesFrom, Fixed, pointer, alterFixed, State, Out, says, done, withBays, cutHigh, joinAt, dataOf, ownSum, liveCount, masterCount, top, rest}
+use Rattle.calls.specs.Table.{Facts, factsOf, isNone, isEmpty}
+use Rattle.bay.specs.Bay.{Cell, baySum, items, gap, joinBays, compactBay, packedLess, put, takeHigh, release, edit, reshape}
 
 -- a zone's bay is its blocks in address order
 abbrev pub Zone : Type 0
@@ -23,6 +23,18 @@ Zone = State (List Cell)
 -- what the table asks of it
 abbrev pub facts : Bool → Zone → Facts
 facts well z = factsOf items baySum well z
+
+-- ---- document 02, U3: more masters
+
+-- "eight masters are added: the first bay gives up 32 bytes at its start, its blocks stand right after those in old order without gaps, and
+-- the rest of that bay, if any, is one free block at its end. The new masters are chained ascending" (the chain is empty here, and the first of
+-- them lies where bkFst was)
+abbrev pub moreMasters : Zone → Zone
+moreMasters z = record { buf = z .buf; len = z .len; chain = handlesFrom (firstBlock (masterCount items z)) addedMasters; bays = onFirst (packedLess addedBytes) (z .bays) }
+
+-- "When a relocatable allocation finds the chain empty"
+abbrev pub withMaster : Zone → Zone
+withMaster z = cond (isEmpty (z .chain)) (moreMasters z) z
 
 -- ---- allocate, free, resize
 
@@ -81,10 +93,6 @@ strip n z =
 
 -- ---- roster: "Each once"; "Roster records come by rising handle" (document 02, U1): through the masters, a record for each that has a block
 
--- m: "relocatable blocks plus chain length"
-abbrev pub masterCount : Zone → ℕ
-masterCount z = liveCount items z + length (z .chain)
-
 -- the record of the handle h, where it has a block
 abbrev pub cardIf : ℕ → Option Item → List Card
 cardIf h none = []
@@ -96,12 +104,12 @@ cardsOf f [] = []
 cardsOf f (h ∷ hs) = cardIf h (f h) ++ cardsOf f hs
 
 abbrev pub cards : Zone → List Card
-cards z = cardsOf (λ h. findS (λ (b : List Cell). get h (items b)) (z .bays)) (handlesFrom zoneHeader (masterCount z))
+cards z = cardsOf (λ h. findS (λ (b : List Cell). get h (items b)) (z .bays)) (handlesFrom zoneHeader (masterCount items z))
 
 -- ---- THE WORK OF EACH CALL
 
 abbrev pub work : Call → Zone → Out (List Cell)
-work (allocate-relocatable c) z = allocate c z
+work (allocate-relocatable c) z = allocate c (withMaster z)
 work (allocate-fixed c) z = allocateFixed c z
 work (free-handle h) z = freeHandle h z
 work (free-pointer p) z = done 0 (withBays (freePointer p (z .bays)) z)

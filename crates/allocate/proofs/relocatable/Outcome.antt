@@ -1,15 +1,14 @@
 -- After an accepted allocation the handle that it answers has a block of up4 c zero bytes.
 use mathlib.Core.Path.{_≡_, refl, ap, _∙_}
-use mathlib.Core.Bool.{false, true≢false}
+use mathlib.Core.Bool.{true, false, true≢false}
 use mathlib.Core.Option.{some}
 use mathlib.Core.List.{List, [], _∷_}
-use Prim.Native.Nat.{ℕ, suc}
+use Prim.Native.Nat.{ℕ}
 use native.Mathlib.Omega.{arith}
 use lib.ListN.{length, replicate, length-replicate}
-use borrow.Author.Tests.{eq-eqb}
 use Rattle.bigendian.specs.BigEndian.{Bytes}
 use Rattle.bigendian.proofs.Bytes.{bytes-none}
-use Rattle.block_type.specs.Limits.{up4, zoneHeader}
+use Rattle.block_type.specs.Limits.{up4}
 use Rattle.calls.specs.Calls.{by-handle, Answer, told, shows, Call, allocate-relocatable, size, view}
 use Rattle.calls.specs.Bays.{Bays, over, findS, maxS}
 use Rattle.kinds.specs.Kinds.{Item, itemSize}
@@ -18,11 +17,13 @@ use Rattle.calls.specs.Table.{below, isEmpty}
 use Rattle.calls.proofs.First.{or-left}
 use Rattle.bay.specs.Bay.{Cell, items, baySum, put}
 use Rattle.bay.specs.Counted.{live}
-use Rattle.zone.specs.Work.{Zone, work}
+use Rattle.zone.specs.Work.{Zone, withMaster, work}
 use Rattle.zone.specs.Call.{zoneIn, call}
 use Rattle.zone.proofs.Found.{low-found as total-low}
 use Rattle.zone.proofs.Walk.{each-got}
-use Rattle.zone.proofs.Handles.{occurs, occurs-once}
+use Rattle.zone.proofs.Handles.{chained}
+use Rattle.zone.proofs.WithMaster.{with-chain, with-room}
+use Rattle.zone.proofs.MoreMasters.{with-whole}
 use Rattle.zone.proofs.Run.{well-whole}
 use Rattle.call_laws.proofs.Outcome.{step}
 use Rattle.call_laws.proofs.Accepted.{Accepted, accepted, cleared, answered, after}
@@ -45,30 +46,30 @@ module _ (s : List ℕ) (c : ℕ) (y : Bytes s) (e : (call (allocate-relocatable
   abbrev z : Zone
   z = zoneIn s
 
-  -- the chain's head, and its new block
+  -- the zone with a free master, the chain's head, and its new block
+  abbrev v : Zone
+  v = withMaster z
+
   abbrev h : ℕ
-  h = top (z .chain)
+  h = top (v .chain)
 
   abbrev i : Item
   i = newItem h c
 
-  fresh : live h (z .bays) ≡ 0
-  fresh = go (z .chain) refl (or-left _ _ (cleared a 4 refl))
+  fresh : live h (v .bays) ≡ 0
+  fresh = go (v .chain) refl (with-chain z)
     where
-      go : (hs : List ℕ) → z .chain ≡ hs → isEmpty hs ≡ false → live (top hs) (z .bays) ≡ 0
+      go : (hs : List ℕ) → v .chain ≡ hs → isEmpty hs ≡ false → live (top hs) (v .bays) ≡ 0
       go [] q n = absurd (true≢false n)
-      go (k ∷ ks) q n =
-          let w = well-whole s y (a .well) in
-          let o : occurs k (z .chain) ≡ suc (occurs k ks) = ap (occurs k) q ∙ (rw (eq-eqb k k refl)) in
-          omega (arith, w .owned .owns k, occurs-once k zoneHeader (w .m), o)
+      go (k ∷ ks) q n = let w = with-whole z (well-whole s y (a .well)) c (a .passed) in chained (w .m) v (w .owned) k ks q .0
 
   abbrev next : Zone
   next = (work (allocate-relocatable c) z) .next
 
   found : content items (by-handle h) (next .bays) ≡ some (i .bytes)
   found =
-      let need : below (maxS baySum (z .bays)) (itemSize i) ≡ false = rw (need-is h c) (or-left _ _ (cleared a 5 refl)) in
-      ap (over (λ (i : Item). i .bytes)) (each-got {Q = λ (u : Bays (List Cell) Fixed). findS (λ (b : List Cell). get h (items b)) u ≡ some i} (total-low baySum (itemSize i) (put i) (z .bays)) need (low-found i (z .bays) fresh))
+      let need : below (maxS baySum (v .bays)) (itemSize i) ≡ false = rw (need-is h c, with-room z true) (or-left _ _ (cleared a 5 refl)) in
+      ap (over (λ (i : Item). i .bytes)) (each-got {Q = λ (u : Bays (List Cell) Fixed). findS (λ (b : List Cell). get h (items b)) u ≡ some i} (total-low baySum (itemSize i) (put i) (v .bays)) need (low-found i (v .bays) fresh))
 
   tell : (b : ℕ → Call) → asked c s b ≡ (step (b h) next) .answer
   tell b = ap (λ (g : Answer). (call (b (g .value)) ((call (allocate-relocatable c) s) .bytes)) .answer) (answered a y) ∙ after a y bytes-none (b h)

@@ -47,10 +47,10 @@ use Rattle.room.specs.place.Room.{Room}
 use Rattle.bays.specs.Slot.{Slot, plug, others, blocksBefore, blocksAfter, Under}
 use Rattle.resize.specs.relocate.Relocate.{relocated, itemOf, Carry, CarryIn, carry-in, Carried, Relocate, RelocateIn, relocate-of}
 use Rattle.bays.proofs.Slots.{plug-at, plug-flat, plug-map, plug-all, plug-lowest, plug-tiled, plug-find}
-use Rattle.resize.proofs.relocate.AsZone.{zone-of, back-of, its-data}
+use Rattle.resize.proofs.relocate.Found.{its-data}
 use Rattle.resize.proofs.relocate.Choice.{without, under-freed}
 use Rattle.structure.specs.IsZone.{IsZone}
-use Rattle.structure.proofs.IsZone.{whole-of}
+use Rattle.structure.proofs.IsZone.{whole-of, zone-of, back-of}
 
 module _ (z : List ℕ) (h b a from to at n : ℕ) (t : Bool) (y : RelocateIn z h b a from to at n t) where
   abbrev x : Relocate z h b a from to at n t

@@ -34,7 +34,7 @@ use Rattle.room.proofs.place.RoomLaws.{room-is}
 same-told : {A : Type 0} (f : SiteN → A) (need p : ℕ) (b : List Cell) (v : A) → ((at n : ℕ) (t : Bool) → f (siteN true p (p + baySize b) at n t) ≡ v) → f (siteAt need p b) ≡ v
 same-told f need p b v e = cond-one f (holeFor need p b .found) (e _ _ false) (e _ _ true)
 
-low-is : (need p : ℕ) (s : Bays (List Cell) Fixed) → (lowSite need p s) .found ≡ leb need (maxS baySum s)
+pub low-is : (need p : ℕ) (s : Bays (List Cell) Fixed) → (lowSite need p s) .found ≡ leb need (maxS baySum s)
 low-is need p (last b) = go (leb need (baySum b))
   where
     go : (t : Bool) → (cond t (siteAt need p b) noSite) .found ≡ t

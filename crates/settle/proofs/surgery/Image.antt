@@ -56,7 +56,7 @@ img-rest l f m c p o g r x e =
     let q : o ≡ zoneHeader + (masterSize * length (map g (offsets zoneHeader m)) + p) = omega arith in
     ap (λ (i : ℕ). overwrite (img l f m c g r) i x) q ∙ lay-rest l f m c p (map g (offsets zoneHeader m)) r x
 
-map-same : (f g : ℕ → ℕ) (xs : List ℕ) → ((h : ℕ) → 0 < occurs h xs → f h ≡ g h) → map f xs ≡ map g xs
+pub map-same : (f g : ℕ → ℕ) (xs : List ℕ) → ((h : ℕ) → 0 < occurs h xs → f h ≡ g h) → map f xs ≡ map g xs
 unfolding occurs
 map-same f g [] e = refl
 map-same f g (x ∷ xs) e = ap₂ (λ (a : ℕ) (r : List ℕ). a ∷ r) (e x (omega (arith, one-same x x refl))) (map-same f g xs (λ h l. e h (omega arith)))

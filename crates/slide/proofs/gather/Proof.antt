@@ -12,13 +12,14 @@ use Rattle.slide.proofs.gather.Statement.{statement}
 use Rattle.slide.proofs.gather.Tie as tie
 
 abbrev Inv-loop : tie.InvT-loop
-Inv-loop s₀ to₀ at₀ s to at = (to ≤ at) × (at ≤ length s) × (to % 4 ≡ 0) × (at % 4 ≡ 0) × (length s ≡ length s₀) × IsBay (drop at s) × (take to s ++ heldBytes (cellsOf (drop at s)) ≡ heldBytes (cellsOf s₀)) × (to + baySum (cellsOf s₀) ≡ at + baySum (cellsOf (drop at s)))
+Inv-loop s₀ from first to₀ at₀ s to at =
+    (to ≤ at) × (at ≤ length s) × (to % 4 ≡ 0) × (at % 4 ≡ 0) × (length s ≡ length s₀) × IsBay (drop at s) × (take to s ++ heldBytes (cellsOf (drop at s)) ≡ take from s₀ ++ heldBytes (cellsOf (drop first s₀))) × (to + first + baySum (cellsOf (drop first s₀)) ≡ from + at + baySum (cellsOf (drop at s)))
 
 abbrev μ-loop : tie.MeasureT-loop
-μ-loop s₀ to₀ at₀ s to at = length s - at
+μ-loop s₀ from first to₀ at₀ s to at = length s - at
 
 loop-holds : tie.Need-loop-holds Inv-loop μ-loop
-loop-holds c = (omega arith, omega arith, refl, refl, refl, search needs, refl, refl)
+loop-holds c = (omega arith, omega arith, omega arith, omega arith, refl, search needs, refl, refl)
 
 step-requires : tie.Need-step-requires Inv-loop μ-loop
 step-requires c κs = search needs

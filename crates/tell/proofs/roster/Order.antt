@@ -18,16 +18,16 @@ use Rattle.structure.proofs.IsZone.{whole-of}
 use Rattle.structure.proofs.Table.{count-is}
 use Rattle.access.specs.Edit.{placeIn, dataIn}
 use Rattle.access.proofs.locate.Live.{place-gone, place-live}
-use Rattle.calls.specs.State.{handlesFrom}
+use Rattle.calls.specs.State.{handlesFrom, masterCount}
+use Rattle.bay.specs.Bay.{items}
 use Rattle.zone.specs.Work as Work
-use Rattle.zone.specs.Work.{masterCount}
 use Rattle.zone.specs.Call.{zoneIn}
 use Rattle.zone.proofs.Once.{blockOf, Named, unnamed, named}
 use Rattle.zone.proofs.Found.{block-named}
-use Rattle.zone.proofs.Keep.{Whole, offsets-same, count-line}
+use Rattle.zone.proofs.Keep.{Whole, offsets-same, count-line, masters-are}
 use Rattle.zone.proofs.Grouped.{line-bays}
 use Rattle.zone.proofs.Run.{well-whole}
-use Rattle.zone.proofs.Rosters.{cards-same, masters-are, cards-long}
+use Rattle.zone.proofs.Rosters.{cards-same, cards-long}
 use Rattle.tell.proofs.CheckLaws.{count-live}
 use Rattle.tell.specs.roster.Listed.{blockIn, liveCards, allCards}
 
@@ -61,7 +61,7 @@ module _ (s : List ℕ) (y : Bytes s) (h : wellFormed s ≡ true) where
   unfolding allCards liveCards
   all-cards =
       ap (Work.cardsOf (blockIn (zoneOf s))) (sym (offsets-same zoneHeader (mastersField (zoneOf s))) ∙ ap (handlesFrom zoneHeader) (sym masters-of ∙ sym (masters-are (zoneIn s) w)))
-      ∙ cards-same _ _ block-same (handlesFrom zoneHeader (masterCount (zoneIn s)))
+      ∙ cards-same _ _ block-same (handlesFrom zoneHeader (masterCount items (zoneIn s)))
 
   pub how-many : length (Work.cards (zoneIn s)) ≡ countOf s
   how-many = cards-long (zoneIn s) w ∙ sym (count-live s y h)

@@ -19,16 +19,16 @@ use Rattle.access.specs.Edit.{placeIn, dataIn}
 use Rattle.calls.specs.Calls.{by-handle, Answer, size, roster, told, toldWith}
 use Rattle.calls.specs.Roster.{Card, cardBytes}
 use Rattle.calls.proofs.Roster.{length-bytes, Small, cards-back}
-use Rattle.calls.specs.State.{handlesFrom}
-use Rattle.zone.specs.Work.{cardIf, cardsOf, cards, masterCount}
+use Rattle.calls.specs.State.{handlesFrom, masterCount}
+use Rattle.bay.specs.Bay.{items}
+use Rattle.zone.specs.Work.{cardIf, cardsOf, cards}
 use Rattle.zone.specs.Call.{Result, call, zoneIn}
 use Rattle.zone.specs.RosterSays.{Rising, rise-none, rise-more, In, in-here, in-there, Lists, Says, RosterSays}
 use Rattle.zone.proofs.Once.{blockOf}
 use Rattle.bay.proofs.Each.{Each, each-some}
 use Rattle.zone.proofs.Handles.{occurs, Found, found}
-use Rattle.zone.proofs.Keep.{Whole}
+use Rattle.zone.proofs.Keep.{Whole, masters-are}
 use Rattle.zone.proofs.Run.{well-whole}
-use Rattle.zone.proofs.Rosters.{masters-are}
 use Rattle.tell.specs.roster.Listed as Listed
 use Rattle.tell.specs.roster.Listed.{blockIn, allCards}
 use Rattle.tell.proofs.roster.Entries.{data-small}
@@ -94,7 +94,7 @@ module _ (s : List ℕ) (y : Bytes s) (w : wellFormed s ≡ true) where
   size-found h e q = rw (w, q)
 
   -- what is found has a master
-  mastered : (h : ℕ) (e : Item) → find h ≡ some e → 1 ≤ occurs h (handlesFrom zoneHeader (masterCount (zoneIn s)))
+  mastered : (h : ℕ) (e : Item) → find h ≡ some e → 1 ≤ occurs h (handlesFrom zoneHeader (masterCount items (zoneIn s)))
   mastered h e q =
       let z = zoneIn s in
       let k : Whole z = well-whole s y w in
@@ -102,16 +102,16 @@ module _ (s : List ℕ) (y : Bytes s) (w : wellFormed s ≡ true) where
 
   lists : Lists s (cards (zoneIn s))
   lists = record {
-    rising = cards-rise find 0 zoneHeader (masterCount (zoneIn s)) (omega arith);
+    rising = cards-rise find 0 zoneHeader (masterCount items (zoneIn s)) (omega arith);
     live = λ h n a. there h n a (find h) refl;
-    only = λ h n i. let f = cards-only find h n (handlesFrom zoneHeader (masterCount (zoneIn s))) i in size-found h (f .0) (f .1) ∙ ap (told 0) (f .2);
+    only = λ h n i. let f = cards-only find h n (handlesFrom zoneHeader (masterCount items (zoneIn s))) i in size-found h (f .0) (f .1) ∙ ap (told 0) (f .2);
   }
     where
       there : (h n : ℕ) → (call (size (by-handle h)) s) .answer ≡ told 0 n → (o : Option Item) → find h ≡ o → In h n (cards (zoneIn s))
       there h n a none q = absurd (omega (arith, ap (λ (x : Answer). x .number) (rw (w, q) at a)))
       there h n a (some e) q =
           subst (λ (k : ℕ). In h k (cards (zoneIn s))) (ap (λ (x : Answer). x .value) (sym (size-found h e q) ∙ a))
-          (cards-live find h e q (handlesFrom zoneHeader (masterCount (zoneIn s))) (mastered h e q))
+          (cards-live find h e q (handlesFrom zoneHeader (masterCount items (zoneIn s))) (mastered h e q))
 
 pub roster-says : RosterSays
 roster-says zone after lent left v y p = go (wellFormed zone) refl (leb (recordSize * countOf zone) (length lent)) refl

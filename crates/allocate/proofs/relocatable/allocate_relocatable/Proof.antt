@@ -5,14 +5,14 @@ use borrow.Author.Needs.{needs}
 use Rattle.allocate.proofs.relocatable.allocate_relocatable.Statement.{statement}
 use Rattle.allocate.proofs.relocatable.allocate_relocatable.Tie as tie
 
-slice-relend-prefix-allocate-in : tie.Need-slice-relend-prefix-allocate-in
-slice-relend-prefix-allocate-in c = search frame-fits
+slice-relend-prefix-carry-out : tie.Need-slice-relend-prefix-carry-out
+slice-relend-prefix-carry-out c = search frame-fits
 
-slice-aggregate-allocate-in : tie.Need-slice-aggregate-allocate-in
-slice-aggregate-allocate-in c = search (take-len, frame-fits)
+slice-aggregate-carry-out : tie.Need-slice-aggregate-carry-out
+slice-aggregate-carry-out c = search (take-len, frame-fits)
 
-allocate-in-requires : tie.Need-allocate-in-requires
-allocate-in-requires c κs = search call-goes
+carry-out-requires : tie.Need-carry-out-requires
+carry-out-requires c κs = search call-goes
 
 cast-value : tie.Need-cast-value
 cast-value c = search call-word
@@ -28,9 +28,9 @@ allocate-relocatable-spec =
     tie.close
     (tie.spec
     (λ c κs. search needs)
-    slice-relend-prefix-allocate-in
-    slice-aggregate-allocate-in
-    allocate-in-requires
+    slice-relend-prefix-carry-out
+    slice-aggregate-carry-out
+    carry-out-requires
     cast-value
     (λ c. search needs)
     returns

@@ -1,7 +1,7 @@
 use native.Mathlib.Omega.{arith}
 use Rattle.access.proofs.Checked.{zone-8, zone-14}
 use Rattle.access.proofs.row.Zone.{zone-row, zone-start, zone-short}
-use Rattle.allocate.proofs.relocatable.Zone.{in-0, in-3, in-4, in-5, room-here}
+use Rattle.allocate.proofs.relocatable.Zone.{in-0, in-3, in-5, room-here}
 use borrow.Author.Needs.{needs}
 use Rattle.allocate.proofs.relocatable.plan_in.Statement.{statement}
 use Rattle.allocate.proofs.relocatable.plan_in.Tie as tie
@@ -11,9 +11,6 @@ returns c = search in-3
 
 get2-requires : tie.Need-get2-requires
 get2-requires c κs = search zone-14
-
-returns-2 : tie.Need-returns-2
-returns-2 c = search in-4
 
 get4-requires : tie.Need-get4-requires
 get4-requires c κs = search zone-8
@@ -36,12 +33,12 @@ plan-in-spec =
     (tie.spec
     (λ c κs. search needs)
     returns
+    (λ c. search needs)
+    (λ c. search needs)
+    (λ c. search needs)
     get2-requires
     (λ c. search needs)
     (λ c κs. search needs)
-    returns-2
-    (λ c. search needs)
-    (λ c. search needs)
     (λ c. search needs)
     get4-requires
     (λ c. search needs)

@@ -7,7 +7,7 @@ get4-requires : tie.Need-get4-requires
 get4-requires c κs = search ask-master
 
 returns : tie.Need-returns
-returns c = (refl, refl, search going)
+returns c = (refl, refl, refl, search going)
 
 pub plan-room-spec : {M : Type 1} → statement M
 plan-room-spec =

@@ -1,20 +1,20 @@
 use mathlib.Core.Path.{_≡_, refl}
-use Prim.Native.Nat.{_+_, _*_, _%_, _≤_}
+use Prim.Native.Nat.{_+_, _*_, _-_, _%_, _≤_}
 use native.Mathlib.Omega.{arith}
 use lib.ListN.{length}
-use Rattle.block_type.specs.Limits.{masterSize, zoneHeader}
+use Rattle.block_type.specs.Limits.{masterSize}
 use Rattle.bigendian.specs.BigEndian.{overwrite}
-use Rattle.initialize.specs.Fresh.{chainBytes}
-use Rattle.initialize.proofs.Write.{mastersFrom, masterOrNone, chain-none, chain-start, chain-next, chain-step, chain-end}
-use Rattle.initialize.proofs.put_chain.Statement.{statement}
-use Rattle.initialize.proofs.put_chain.Tie as tie
+use Rattle.masters.specs.chain.Chain.{chainBytes}
+use Rattle.masters.proofs.chain.Chain.{mastersFrom, masterOrNone, chain-none, chain-start, chain-next, chain-step, chain-end}
+use Rattle.masters.proofs.chain.put_chain.Statement.{statement}
+use Rattle.masters.proofs.chain.put_chain.Tie as tie
 
 abbrev Inv-loop : tie.InvT-loop
-Inv-loop z₀ m next₀ at₀ z next at =
-    (zoneHeader ≤ at) × (at % 4 ≡ 0) × (at ≤ zoneHeader + masterSize * m) × (length z ≡ length z₀) × (next ≡ masterOrNone m at) × (z ≡ overwrite z₀ at (chainBytes at (mastersFrom m at)))
+Inv-loop z₀ from n next₀ at₀ z next at =
+    (from ≤ at) × ((at - from) % masterSize ≡ 0) × (at ≤ from + masterSize * n) × (length z ≡ length z₀) × (next ≡ masterOrNone at (from + masterSize * n)) × (z ≡ overwrite z₀ at (chainBytes at (mastersFrom at (from + masterSize * n))))
 
 abbrev μ-loop : tie.MeasureT-loop
-μ-loop z₀ m next₀ at₀ z next at = at
+μ-loop z₀ from n next₀ at₀ z next at = at
 
 mul-at : tie.Need-mul-at Inv-loop μ-loop
 mul-at c = omega arith

@@ -1,0 +1,24 @@
+-- The example of more masters holds: computed from bytes to bytes.
+use mathlib.Core.Path.{refl}
+use Rattle.bigendian.specs.BigEndian.{fromBE, toBE}
+use Rattle.memory.specs.Zeros.{allZero}
+use Rattle.format.specs.WellFormed.{wellFormed, headerOk, zoneRules, blockRules, every, typeOk, sizeOk, tileOk, zerosOk, neighboursOk, handlesOk, chainFrom, typeOf, sizeOf, handleOf, isFree, isReloc, splitFrom, isMaster, relocs, chain, offsets}
+use Rattle.structure.specs.Structure.{encodeBlock, sizes, placeOf, nextOf, words, join, header, encode, decodeBlock, decodeZone, decode, handlesOf}
+use Rattle.zone.specs.GrowthSheet.{GrowthSheet}
+
+pub growth-sheet : GrowthSheet
+unfolding wellFormed headerOk zoneRules blockRules every typeOk sizeOk tileOk zerosOk neighboursOk handlesOk chainFrom typeOf sizeOf handleOf isFree isReloc splitFrom isMaster relocs chain allZero fromBE encode header toBE words join encodeBlock decodeBlock decode decodeZone placeOf nextOf sizes handlesOf offsets
+growth-sheet = record {
+  answers = refl;
+  stands = refl;
+  closed = refl;
+  behind = refl;
+  after-all = refl;
+  no-bay = refl;
+  no-master = refl;
+  after-none = refl;
+  no-bay-none = refl;
+  no-master-none = refl;
+  to-the-limit = refl;
+  beyond-it = refl;
+}
