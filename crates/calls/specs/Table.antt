@@ -92,7 +92,7 @@ noMaster f = cause 4 (isEmpty (f .chain) && (below mostMasters (f .masters + add
 abbrev pub noBay : ℕ → ℕ → Cause
 noBay need n = cause 5 (below n need)
 
--- the largest sum that a new relocatable block finds: where the chain is empty, "the block's need is tested against the sums after those 32
+-- the largest sum that a new relocatable block finds: where the chain is empty, "The block's need is tested against the sums after those 32
 -- bytes are taken" (document 02, U3)
 abbrev pub roomSum : Facts → ℕ
 roomSum f = cond (isEmpty (f .chain)) (f .largestAfter) (f .largest)

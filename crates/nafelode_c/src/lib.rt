@@ -88,7 +88,7 @@ pub extern "C" fn nafelode_initialize(zone: &mut [u8], length: u32, masters: u32
 }
 
 // Allocates a relocatable block for c data bytes, which are zero. The block may slide; its handle stays.
-// Takes the smallest free block of its bay that is big enough, the lowest of equals; the blocks of that bay slide only where none is.
+// Takes the smallest free block of its bay that is big enough, the lowest of equals; for that, the blocks of that bay slide only where none is.
 // Where no master is free, eight are added first: the first bay gives up 32 bytes at its start, and its blocks stand right behind those without gaps.
 // Value: the handle.
 // Refused: 1 zone not well-formed, 3 c above 32760, 4 no master free, and m + 8 above 8188 or less than 32 bytes free in the first bay, 5 no space (after

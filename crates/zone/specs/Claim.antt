@@ -106,7 +106,8 @@ pub record Claim (buf n m : ℕ) (b₀ : List ℕ) : Type 0 where
   pub unmoved : (p q : List Call) (u v : List Answer) (mid end : List ℕ) → History b₀ p u mid → History mid q v end
       → (x : Spot) → NotFreed x q → Has x (fixedIn mid) → Has x (fixedIn end)
   -- "Where nothing earlier in the order refuses an allocation or a resize, it gets "no space" exactly when no bay's sum reaches what
-  -- the ledger needs of that bay" (where the chain is empty, by the sums after the 32 bytes are taken: document 02, U3)
+  -- the ledger needs of that bay" (of a relocatable allocation that finds the chain empty, by the sums after the 32 bytes are taken:
+  -- document 02, U3)
   pub space : (p : List Call) (u : List Answer) (mid next : List ℕ) (r : Request) (a : Answer) → History b₀ p u mid → Promise (callOf r) mid a next
       → earlier r (ledgerAfter p (initial buf n m)) ≡ 0 → a .number ≡ cond (fits r (baysFor r (ledgerAfter p (initial buf n m)))) 0 5
 

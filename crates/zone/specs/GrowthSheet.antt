@@ -1,5 +1,5 @@
 -- Document 02, U3, by example: a zone whose masters grow while one block goes up and another down, byte by byte; where blocks
--- lie after two more growths; and the edges of 4 and 5.
+-- lie after the growth of two other zones; and the edges of 4 and 5.
 use mathlib.Core.Path.{_≡_}
 use mathlib.Core.Bool.{true}
 use mathlib.Core.List.{List, [], _∷_, _++_, map}

@@ -19,7 +19,8 @@ use Rattle.zone.specs.Work.{Zone, has, work}
 abbrev pub inLowest : Item → Bays (List Cell) Fixed → Bays (List Cell) Fixed
 inLowest e s = onLowest (λ b. leb (itemSize e) (baySum b)) (put e) s
 
--- the first bay has given up the bytes of eight masters: its blocks in old order without gaps, and one free block behind them (document 02, U3)
+-- the first bay has given up the bytes of eight masters: its blocks in old order without gaps, and one free block behind them (none for 0; document
+-- 02, U3)
 abbrev pub firstGives : Bays (List Cell) Fixed → Bays (List Cell) Fixed
 firstGives (last b) = last (inOrder (items b) (baySum b - addedBytes))
 firstGives (more b x s) = more (inOrder (items b) (baySum b - addedBytes)) x s

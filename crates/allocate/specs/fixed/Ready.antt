@@ -16,6 +16,6 @@ pub record ReadyIn (z : List ℕ) (c need a e sum tail : ℕ) : Type 0 where
   pub passed : (buf : ℕ) → refusalOf (allocate-fixed c) (facts true (zoneAt buf z)) ≡ 0
   pub site : Site z need a e sum tail
 
--- the plan p of a block for c data bytes in the zone z is withMaster
+-- the plan p of a block for c data bytes in the zone z is ready
 abbrev pub Ready : List ℕ → ℕ → Plan → Type 0
 Ready z c p = ReadyIn z c (p .need) (p .start) (p .end) (p .sum) (p .tail)
