@@ -80,8 +80,8 @@ ALLOWED = [
     ("crates/structure/proofs/Back.antt", rf"\bat-seam {ATOM} {ATOM} (4)\b", "the width of a master's number"),
     ("crates/calls/specs/Roster.antt", r"handle = fromBE \(slice bs 0 4", "the handle is the first number of a record"),
     # the census
-    ("crates/inspect/src/census.rt", r"^ +(?:2|4|8|16|32|64|16384|32768|65536),$", "the table of lower limits, powers of 2"),
-    ("crates/inspect/proofs/census/lower/Proof.antt", r"^limits = .*", "the same table"),
+    ("crates/zone/specs/Formula.antt", r"% 2\b", "an even number"),
+    ("crates/zone/specs/Formula.antt", r"^bits = 32$", "the bits of a number in code, which are named here"),
     # refusal numbers
     ("crates/calls/specs/Table.antt", r"(?<![\w.])[248] ∷", "the order of the refusal numbers"),
     ("crates/stretch/specs/Stretch.antt", r"\(cond \(leb n have\) 0 10\) (8)\b", "a refusal number"),

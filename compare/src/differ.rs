@@ -7,6 +7,7 @@ use crate::holes;
 use crate::model::Picture;
 use crate::pool;
 use crate::random::Random;
+use crate::strata;
 use crate::verdict::{difference, Left};
 use crate::ways;
 use crate::zone::{self, Name};
@@ -78,6 +79,8 @@ pub struct Tally {
     pub rosters_apart: u64,
     pub holes: holes::Counts,
     pub pool: pool::Counts,
+    /// sizes of a free block by stratum
+    pub strata: strata::Counts,
 }
 
 impl Tally {
@@ -109,6 +112,7 @@ impl Tally {
         self.rosters_apart += other.rosters_apart;
         ways::add(&mut self.holes, &other.holes);
         ways::add(&mut self.pool, &other.pool);
+        ways::add(&mut self.strata, &other.strata);
     }
 }
 

@@ -15,6 +15,7 @@ mod model;
 mod pool;
 mod random;
 mod rules;
+mod strata;
 mod verdict;
 #[allow(dead_code)]
 mod ways;
@@ -167,6 +168,19 @@ fn noise(differ: &mut Differ, count: u32) -> Outcome {
     Ok(())
 }
 
+/// A half of the sizes that a free block can have.
+fn half_of_the_sizes(tally: &mut Tally, half: usize, trace: bool) -> Outcome {
+    // only its first bytes are ever written
+    let mut zone = vec![0; zone::LENGTH_LIMIT];
+    for length in strata::lengths(half) {
+        if trace {
+            eprintln!("sizes: census of one free block in a zone of {length} bytes");
+        }
+        tally.strata[strata::of_length(&mut zone, length)?] += 1;
+    }
+    Ok(())
+}
+
 fn everything(differ: &mut Differ) -> Outcome {
     noise(differ, 6_000)?;
     lists(differ, 1_000, 150, 4, 40)?;
@@ -205,31 +219,40 @@ fn print(tally: &Tally) {
     for (way, count) in pool::WAYS.iter().zip(tally.pool) {
         println!("  {way}: {count}");
     }
+    let sizes: u64 = tally.strata.iter().sum();
+    let strata = tally.strata.iter().filter(|&&count| count > 0).count();
+    println!("  sizes of a free block, each by a census of its own: {sizes}, in {strata} strata");
 }
 
-/// Without them the roster's order, the choice between holes, or the pool of
-/// masters that grows, would not have been compared.
+/// Without them the roster's order, the choice between holes, the pool of
+/// masters that grows, or a stratum's formula, would not have been compared.
 fn never_met(tally: &Tally) -> Vec<&'static str> {
     let mut never = [ways::never_met(holes::WAYS, &tally.holes), ways::never_met(pool::WAYS, &tally.pool)].concat();
     if tally.rosters_apart == 0 {
         never.push("rosters of blocks that do not stand by rising handle");
     }
+    // a free block has at least 2 words, so stratum 0 has none
+    if tally.strata[1..].contains(&0) {
+        never.push("one of the strata 1 to 18");
+    }
     never
 }
 
-/// All of it from one seed.
-fn from_seed(seed: u64, trace: bool) -> Result<Tally, String> {
+/// All of it from one seed, and half of the sizes, which need none.
+fn from_seed(seed: u64, half: usize, trace: bool) -> Result<Tally, String> {
     let mut differ = Differ::new(seed, trace);
+    half_of_the_sizes(&mut differ.tally, half, trace)?;
     everything(&mut differ)?;
     Ok(differ.tally)
 }
 
 /// Both seeds, side by side; one after the other when the calls are traced.
 fn both(seeds: [u64; 2], trace: bool) -> [Result<Tally, String>; 2] {
+    let parts = [(seeds[0], 0), (seeds[1], 1)];
     if trace {
-        return seeds.map(|seed| from_seed(seed, true));
+        return parts.map(|(seed, half)| from_seed(seed, half, true));
     }
-    let running = seeds.map(|seed| thread::spawn(move || from_seed(seed, false)));
+    let running = parts.map(|(seed, half)| thread::spawn(move || from_seed(seed, half, false)));
     running.map(|one| one.join().unwrap_or_else(|_| Err("the comparison itself broke down".into())))
 }
 

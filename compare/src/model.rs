@@ -6,6 +6,37 @@ use crate::calls::{Call, Reply};
 use crate::rules;
 use crate::zone::{Name, Stretch};
 
+/// "2^i to 2^(i+1) − 1 words, i from 0 to 18": of each stratum the least and the
+/// largest number of words, written out, so that the formula is held against
+/// another text.
+pub const LIMITS: [(usize, usize); 19] = [
+    (1, 1),
+    (2, 3),
+    (4, 7),
+    (8, 15),
+    (16, 31),
+    (32, 63),
+    (64, 127),
+    (128, 255),
+    (256, 511),
+    (512, 1_023),
+    (1_024, 2_047),
+    (2_048, 4_095),
+    (4_096, 8_191),
+    (8_192, 16_383),
+    (16_384, 32_767),
+    (32_768, 65_535),
+    (65_536, 131_071),
+    (131_072, 262_143),
+    (262_144, 524_287),
+];
+
+/// How many of these numbers of words each stratum has.
+pub fn census(words: &[usize]) -> Vec<u32> {
+    let within = |(least, most)| words.iter().filter(|&&one| least <= one && one <= most).count();
+    LIMITS.map(|stratum| within(stratum) as u32).to_vec()
+}
+
 #[derive(Clone, Debug, PartialEq, Eq)]
 pub enum Item {
     Free(usize),
@@ -448,13 +479,8 @@ impl Picture {
                 vec![live.len() as u32]
             }
             Call::Census => {
-                let mut counts = vec![0; 19];
-                for words in self.items.iter().map(|item| item.free_size() / 2) {
-                    if words > 0 {
-                        counts[words.ilog2() as usize] += 1;
-                    }
-                }
-                counts
+                let words: Vec<usize> = self.items.iter().map(|item| item.free_size() / 2).collect();
+                census(&words)
             }
             Call::WalkerStart => vec![16 + 4 * self.m as u32],
             Call::WalkerStep(offset) => {

@@ -1,8 +1,8 @@
 //! Tests of the zone: the rig sheet to the byte, zone-run's example, the choice
-//! between holes, the pool of masters that grows, every state that small zones
-//! reach, long random lists, zones built at random and broken buffers. Two
-//! models answer beside it: the structured one (`model`) for every byte, and the
-//! ledger (`ledger`) for every answer of a list.
+//! between holes, the pool of masters that grows, the stratum of every size,
+//! every state that small zones reach, long random lists, zones built at random
+//! and broken buffers. Two models answer beside it: the structured one (`model`)
+//! for every byte, and the ledger (`ledger`) for every answer of a list.
 
 #![allow(dead_code)]
 
@@ -297,6 +297,28 @@ fn largest_zone_and_largest_blocks() {
     assert_eq!(zone::shrink(&mut zone, u32::MAX), Ok(0));
     assert_eq!(rules::broken_rule(&zone), None);
     assert_eq!(zone[1_048_576..], [0xEE; 4]);
+}
+
+/// "2^i to 2^(i+1) − 1 words, i from 0 to 18": the model's limits, by which the
+/// formula is judged, are written out.
+#[test]
+fn the_limits_of_the_strata() {
+    let mut power = 1;
+    for (least, most) in model::LIMITS {
+        assert_eq!((least, most), (power, 2 * power - 1));
+        power *= 2;
+    }
+    assert_eq!(power, 524_288, "2^19");
+}
+
+/// Every number of words that a free block can have, and the odd ones between.
+#[test]
+fn the_formula_keeps_the_limits() {
+    for words in 2..=(zone::LENGTH_LIMIT - 16) / 2 {
+        let stratum = zone::stratum(words as u32);
+        let (least, most) = model::LIMITS[stratum];
+        assert!(least <= words && words <= most, "{words} words are not of stratum {stratum}");
+    }
 }
 
 /// A fresh zone of any length and m, within the limits or not.

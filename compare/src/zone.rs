@@ -961,11 +961,11 @@ pub fn roster(zone: &[u8], second: &mut [u8]) -> Answer<u32> {
 
 pub const STRATA: usize = 19;
 
-/// "from a table of lower limits": 2^i words for i from 0 to 18.
-const LOWER_LIMITS: [usize; STRATA] = [
-    1, 2, 4, 8, 16, 32, 64, 128, 256, 512, 1_024, 2_048, 4_096, 8_192, 16_384, 32_768, 65_536,
-    131_072, 262_144,
-];
+/// "The stratum is worked out from the size in words by its leading zeros"
+/// (document 02, U4): those of a number of 32 bits. No free block has 0 words.
+pub fn stratum(words: u32) -> usize {
+    (31 - words.leading_zeros()) as usize
+}
 
 /// "The census counts free blocks by stratum i, of 2^i to 2^(i+1) − 1 words, i
 /// from 0 to 18"; "it answers all nineteen counts together".
@@ -973,9 +973,7 @@ pub fn census(zone: &[u8]) -> Answer<[u32; STRATA]> {
     let layout = open(zone)?;
     let mut counts = [0; STRATA];
     for block in all_blocks(zone, &layout).filter(|block| block.kind == Kind::Free) {
-        let words = block.size / 2;
-        let above = LOWER_LIMITS.iter().take_while(|&&limit| limit <= words).count();
-        counts[above - 1] += 1;
+        counts[stratum((block.size / 2) as u32)] += 1;
     }
     Ok(counts)
 }

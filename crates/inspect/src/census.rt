@@ -2,12 +2,13 @@
 use access::row;
 use zone_check::block_check;
 ghost use mathlib.Core.Path.{_≡_};
-ghost use Prim.Native.Nat.{ℕ, _^_, _<_, _≤_};
+ghost use Prim.Native.Nat.{ℕ, _≤_};
 ghost use lib.ListN.{length, getD, drop};
-ghost use Rattle.block_type.specs.Limits.{longestZone};
+ghost use Rattle.block_type.specs.Limits.{longestZone, zoneHeader};
 ghost use Rattle.access.specs.row.Row.{Row, blocksOf};
-ghost use Rattle.zone.specs.Census.{countsOf, lowerLimits, freeWords, census};
-ghost use Rattle.inspect.specs.census.Tally.{counted, Stratum, adding, CountsIn};
+ghost use Rattle.zone.specs.Census.{strata, countsOf, lowerLimits, freeWords, census};
+ghost use Rattle.zone.specs.Formula.{FreeSize, stratumOf};
+ghost use Rattle.inspect.specs.census.Tally.{counted, adding, CountsIn};
 ghost use Rattle.structure.specs.IsZone.{IsZone};
 
 // The refusal number, 0 for done, and the number of free blocks of each stratum.
@@ -16,56 +17,18 @@ pub struct Counts {
     pub counts: [u32; 19],
 }
 
-impl Counts {
-    // The least number of words of each stratum.
-    pub const LOWER_LIMITS: [u32; 19] = [
-        1,
-        2,
-        4,
-        8,
-        16,
-        32,
-        64,
-        128,
-        256,
-        512,
-        1024,
-        2048,
-        4096,
-        8192,
-        16384,
-        32768,
-        65536,
-        131072,
-        262144,
-    ];
-}
-
-fn lower(i: usize) -> u32
-    requires { ⌜ i < 19 ⌝ }
-    ensures { λ r. ⌜ r ≡ 2 ^ i ⌝ }
-{
-    Counts::LOWER_LIMITS[i]
-}
-
-// The stratum of a number of words.
+// The stratum of a free block by its number of words: the place of the highest bit that is set, counted from 0. Of 32 bits that is
+// 31 less the leading zeros. A free block has 2 words at least, so there is such a bit; 0 words would have 32 leading zeros.
 fn stratum(words: u32) -> usize
-    requires { ⌜ 1 ≤ words ⌝ }
-    ensures { λ r. ⌜ (r < 19) × (Stratum r words) ⌝ }
+    requires { ⌜ FreeSize words ⌝ }
+    ensures { λ r. ⌜ r ≡ stratumOf words ⌝ }
 {
-    let mut i = 0;
-    while i < 18 {
-        if words < lower(i + 1) {
-            return i;
-        }
-        i += 1;
-    }
-    i
+    (31 - u32::leading_zeros(words)) as usize
 }
 
 // The counts `before` with all free blocks of z, from `first` on, added.
 fn count_all(z: &[u8], first: usize, before: [u32; 19]) -> [u32; 19]
-    requires { ⌜ Row (drop first (now z)) × (first ≤ length (now z)) × (length (now z) ≤ longestZone) × (length before ≡ 19) × ((k : ℕ) → getD before k 0 ≤ first) ⌝ }
+    requires { ⌜ Row (drop first (now z)) × (zoneHeader ≤ first) × (first ≤ length (now z)) × (length (now z) ≤ longestZone) × (length before ≡ strata) × ((k : ℕ) → getD before k 0 ≤ first) ⌝ }
     ensures { λ r. ⌜ r ≡ adding before (countsOf lowerLimits (freeWords (blocksOf (drop first (now (z .entry)))))) ⌝ }
 {
     let mut counts = before;

@@ -7,7 +7,7 @@ use native.Mathlib.Omega.{arith}
 use lib.ListN.{length, drop, length-append, length-drop}
 use lib.Seq.{drop-at}
 use lib.Dec.{eqb, leb}
-use borrow.Author.Tests.{leb-true, eqb-true}
+use borrow.Author.Tests.{leb-true, eqb-true, eq-eqb, le-leb}
 use Rattle.block_type.specs.Limits.{firstBlock, longestZone, mostMasters}
 use Rattle.structure.specs.Structure.{encode}
 use Rattle.structure.proofs.Round.{length-is}
@@ -53,6 +53,9 @@ accepted buf n m e =
     go false u v w x a b c d e q = absurd (true≢false q)
 
 module _ (buf n m : ℕ) (a : Accepted buf n m) where
+  pub accepts : first order (badInitialize buf n m ∷ []) ≡ 0
+  accepts = rw (eq-eqb (n % 4) 0 (a .by4), le-leb (firstBlock m) n (a .above), le-leb n buf (a .within), le-leb n longestZone (a .length-limit), le-leb m mostMasters (a .masters-limit)) refl
+
   pub fresh-whole : Whole (fresh buf n m)
   fresh-whole = record {
     m = m;

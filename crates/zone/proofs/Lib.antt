@@ -43,3 +43,4 @@ pub mod Chain
 pub mod GrowthNumber
 pub mod Grew
 pub mod Growth
+pub mod Formula

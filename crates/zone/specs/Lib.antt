@@ -3,6 +3,7 @@ pub mod Group
 pub mod Call
 pub mod View
 pub mod Census
+pub mod Formula
 pub mod Walker
 pub mod Promise
 pub mod OneChoice

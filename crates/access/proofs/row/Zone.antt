@@ -48,6 +48,9 @@ module _ (z : List ℕ) (i : IsZone z) (first : ℕ) (ef : first ≡ firstField 
       let v = valid-zone z w in
       row (s .blocks) (valid-sound s v) (ap₂ (λ (k : ℕ) (y : List ℕ). drop k y) (ef ∙ sym (start-is z w)) (sym (encode-zone z w)) ∙ rest-is s v)
 
+  pub zone-first : zoneHeader ≤ first
+  zone-first = omega (arith, w .begin)
+
   pub zone-start : first ≤ length z
   zone-start = omega (arith, w .within)
 

@@ -13,24 +13,18 @@ use lib.ListN.{length, getD, set, take, drop, replicate, length-set}
 use lib.Seq.{getD-set-same, getD-set-other}
 use mir.Val.{Fits}
 use mir.Syntax.{w8}
-use Rattle.block_type.specs.Limits.{freeCode}
+use Rattle.block_type.specs.Limits.{freeCode, longestZone, zoneHeader}
 use Rattle.format.specs.WellFormed.{isFree, wellFormed, firstField, zoneOf, lengthField}
 use Rattle.structure.specs.Structure.{Block, fixed, size, decode, cell}
 use Rattle.bay.specs.Bay.{free, held}
 use Rattle.access.specs.row.Row.{blocksOf, Stepped, blockAt, freeB}
 use Rattle.access.proofs.row.Laws.{row-end, free-code}
 use Rattle.access.proofs.row.Zone.{blocks-are}
-use Rattle.zone.specs.Census.{limitsFrom, lowerLimits, countIf, countsOf, freeWords, census}
+use Rattle.zone.specs.Census.{strata, limitsFrom, lowerLimits, countIf, countsOf, freeWords, census}
+use Rattle.zone.specs.Formula.{Stratum, FreeSize, stratumOf}
+use Rattle.zone.proofs.Formula.{free-stratum}
 use Rattle.access.proofs.Checked.{is-well}
-use Rattle.inspect.specs.census.Tally.{counted, Stratum, adding, CountsIn, counts-in}
-
--- ---- the stratum
-
-pub stratum-here : (i w v : ℕ) → 2 ^ i ≤ w → v ≡ 2 ^ (i + 1) → w < v → Stratum i w
-stratum-here i w v l e h = record { low = l; high = λ _. rw (← e) h }
-
-pub stratum-last : (i w : ℕ) → 2 ^ i ≤ w → 18 ≤ i → Stratum i w
-stratum-last i w l h = record { low = l; high = λ k. let x : ⊥ = omega arith in absurd x }
+use Rattle.inspect.specs.census.Tally.{counted, adding, CountsIn, counts-in}
 
 -- ---- one block more
 
@@ -89,16 +83,26 @@ record OneMore (cs : List ℕ) (w : ℕ) (ds : List ℕ) : Type 0 where
   same : (ws : List ℕ) → adding ds (countsOf lowerLimits ws) ≡ adding cs (countsOf lowerLimits (w ∷ ws))
   few : (k b : ℕ) → getD cs k 0 ≤ b → getD ds k 0 ≤ b + 1
 
-counts-more : (cs : List ℕ) (w j : ℕ) → length cs ≡ 19 → j < 19 → Stratum j w → OneMore cs w (set cs j (getD cs j 0 + 1))
-counts-more cs w j e l t = record {
+counts-more : (cs : List ℕ) (w j : ℕ) → length cs ≡ strata → Stratum j w → OneMore cs w (set cs j (getD cs j 0 + 1))
+counts-more cs w j e t = record {
   same = λ ws.
       let z : 0 + j ≡ j = omega arith in
-      let f : 0 + suc j ≡ j + 1 = omega arith in
-      rw e at (one-more cs 0 j w ws (omega arith) (rw z (t .low)) (λ k. rw f (t .high (omega arith))));
-  few = λ k b. set-few cs j k b (omega arith);
+      let f : 0 + suc j ≡ suc j = omega arith in
+      rw e at (one-more cs 0 j w ws (omega (arith, t .within)) (rw z (t .low)) (λ k. rw f (t .high)));
+  few = λ k b. set-few cs j k b (omega (arith, t .within));
 }
 
 -- ---- one block
+
+-- a block's size in words is one that a free block can have; its stratum by the formula
+pub free-size : (z : List ℕ) (p n : ℕ) → Stepped z p n → zoneHeader ≤ p → length z ≤ longestZone → FreeSize (n / 2)
+free-size z p n s h u = record { even = omega (arith, s .four); least = omega (arith, s .low); most = omega (arith, s .fits) }
+
+stratum-is : (w j : ℕ) → FreeSize w → j ≡ stratumOf w → Stratum j w
+stratum-is w j f e = rw e (free-stratum w f)
+
+pub stratum-in : (z : List ℕ) (p n j : ℕ) → Stepped z p n → zoneHeader ≤ p → length z ≤ longestZone → j ≡ stratumOf (n / 2) → j < strata
+stratum-in z p n j s h u e = stratum-is (n / 2) j (free-size z p n s h u) e .within
 
 words-free : (b : Block) (bs : List Block) → freeB b ≡ true → freeWords (b ∷ bs) ≡ size b / 2 ∷ freeWords bs
 unfolding freeWords
@@ -114,11 +118,11 @@ words-used (cell (held it)) bs e = refl
 
 -- cs are the counts cs₀ with the free blocks of z from first up to p
 pub record Tally (z : List ℕ) (first p : ℕ) (cs₀ cs : List ℕ) : Type 0 where
-  pub long : length cs ≡ 19
+  pub long : length cs ≡ strata
   pub few : (k : ℕ) → getD cs k 0 ≤ p
   pub same : adding cs (countsOf lowerLimits (freeWords (blocksOf (drop p z)))) ≡ adding cs₀ (countsOf lowerLimits (freeWords (blocksOf (drop first z))))
 
-pub tally-start : (z : List ℕ) (first : ℕ) (cs : List ℕ) → length cs ≡ 19 → ((k : ℕ) → getD cs k 0 ≤ first) → Tally z first first cs cs
+pub tally-start : (z : List ℕ) (first : ℕ) (cs : List ℕ) → length cs ≡ strata → ((k : ℕ) → getD cs k 0 ≤ first) → Tally z first first cs cs
 tally-start z first cs e low = record { long = e; few = low; same = refl }
 
 module _ (z : List ℕ) (first p n : ℕ) (s : Stepped z p n) (f : Bool) (ef : f ≡ isFree (drop p z)) (cs₀ cs ds : List ℕ) (t : Tally z first p cs₀ cs) where
@@ -126,9 +130,9 @@ module _ (z : List ℕ) (first p n : ℕ) (s : Stepped z p n) (f : Bool) (ef : f
   unfolding isFree
   free-is = free-code (blockAt z p) ∙ ap (λ (k : ℕ). eqb k freeCode) (s .kind) ∙ sym ef
 
-  pub tally-free : (j : ℕ) → f ≡ true → j < 19 → Stratum j (n / 2) → ds ≡ set cs j (getD cs j 0 + 1) → Tally z first (p + n) cs₀ ds
-  tally-free j q l i e =
-      let o = counts-more cs (n / 2) j (t .long) l i in
+  pub tally-free : (j : ℕ) → f ≡ true → zoneHeader ≤ p → length z ≤ longestZone → j ≡ stratumOf (n / 2) → ds ≡ set cs j (getD cs j 0 + 1) → Tally z first (p + n) cs₀ ds
+  tally-free j q l u i e =
+      let o = counts-more cs (n / 2) j (t .long) (stratum-is (n / 2) j (free-size z p n s l u) i) in
       rw e record {
         long = length-set cs j (getD cs j 0 + 1) ∙ t .long;
         few = λ k. omega (arith, o .few k p (t .few k), s .low);
@@ -177,16 +181,16 @@ zeros-low (suc n) (suc k) p = zeros-low n k p
 
 pub tally-end : (z : List ℕ) (first p : ℕ) (cs₀ cs : List ℕ) → length z ≤ p → Tally z first p cs₀ cs → cs ≡ adding cs₀ (countsOf lowerLimits (freeWords (blocksOf (drop first z))))
 unfolding freeWords
-tally-end z first p cs₀ cs l t = sym (zeros-added 19 cs) ∙ ap (adding cs) (sym (zero-counts 19 0)) ∙ (rw (row-end z p l) at (t .same))
+tally-end z first p cs₀ cs l t = sym (zeros-added strata cs) ∙ ap (adding cs) (sym (zero-counts strata 0)) ∙ (rw (row-end z p l) at (t .same))
 
 -- ---- the call
 
-pub in-law : (z : List ℕ) (first : ℕ) (cs : List ℕ) → first ≡ firstField z → cs ≡ adding (replicate 19 0) (countsOf lowerLimits (freeWords (blocksOf (drop first z)))) → CountsIn z cs
+pub in-law : (z : List ℕ) (first : ℕ) (cs : List ℕ) → first ≡ firstField z → cs ≡ adding (replicate strata 0) (countsOf lowerLimits (freeWords (blocksOf (drop first z)))) → CountsIn z cs
 in-law z first cs e q =
     let ws = freeWords (blocksOf (drop first z)) in
-    counts-in (rw (← e) (q ∙ adding-zeros 19 (countsOf lowerLimits ws) (length-counts 19 0 ws)))
+    counts-in (rw (← e) (q ∙ adding-zeros strata (countsOf lowerLimits ws) (length-counts strata 0 ws)))
 
-pub census-1 : (s : List ℕ) (ok : Bool) → ok ≡ wellFormed s → not ok ≡ true → counted 1 (replicate 19 0) ≡ census s
+pub census-1 : (s : List ℕ) (ok : Bool) → ok ≡ wellFormed s → not ok ≡ true → counted 1 (replicate strata 0) ≡ census s
 census-1 s ok e q = rw (← e, not-true ok q)
 
 pub census-0 : (s : List ℕ) (ok : Bool) (l : ℕ) (cs : List ℕ) → ok ≡ wellFormed s → not ok ≡ false → l ≡ lengthField s → ((i : ℕ) → Fits w8 (getD s i 0))

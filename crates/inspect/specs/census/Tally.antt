@@ -1,17 +1,12 @@
 -- The counts of a census, met by one walk.
 use mathlib.Core.Path.{_≡_}
 use mathlib.Core.List.{List, [], _∷_}
-use Prim.Native.Nat.{ℕ, _+_, _^_, _<_, _≤_}
+use Prim.Native.Nat.{ℕ, _+_}
 use lib.ListN.{drop}
 use Rattle.format.specs.WellFormed.{firstField}
 use Rattle.access.specs.row.Row.{blocksOf}
 use Rattle.zone.specs.Census.{countsOf, lowerLimits, freeWords}
 pub use Rattle.zone.specs.Census.{counted}
-
--- the stratum of w words: the last has no upper limit
-pub record Stratum (i w : ℕ) : Type 0 where
-  pub low : 2 ^ i ≤ w
-  pub high : i < 18 → w < 2 ^ (i + 1)
 
 -- counts added one by one
 unfoldable pub adding : List ℕ → List ℕ → List ℕ

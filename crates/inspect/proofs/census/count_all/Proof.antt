@@ -3,25 +3,35 @@ use mathlib.Core.Logic.{⊎-elim}
 use native.Mathlib.Omega.{arith}
 use borrow.Author.Needs.{needs}
 use lib.ListN.{length, drop}
+use Rattle.block_type.specs.Limits.{zoneHeader}
 use Rattle.access.specs.row.Row.{Row}
-use Rattle.inspect.proofs.census.Laws.{Tally, tally-start, tally-free, tally-used, tally-end}
+use Rattle.inspect.proofs.census.Laws.{free-size, stratum-in, Tally, tally-start, tally-free, tally-used, tally-end}
 use Rattle.inspect.proofs.census.count_all.Statement.{statement}
 use Rattle.inspect.proofs.census.count_all.Tie as tie
 
 abbrev Inv-loop : tie.InvT-loop
-Inv-loop z first counts₀ p₀ counts p = (p ≤ length z) × Row (drop p z) × Tally z first p counts₀ counts
+Inv-loop z first counts₀ p₀ counts p = (zoneHeader ≤ p) × (p ≤ length z) × Row (drop p z) × Tally z first p counts₀ counts
 
 abbrev μ-loop : tie.MeasureT-loop
 μ-loop z first counts₀ p₀ counts p = length z - p
 
 loop-holds : tie.Need-loop-holds Inv-loop μ-loop
-loop-holds c = (omega arith, search needs, search tally-start)
+loop-holds c = (search needs, omega arith, search needs, search tally-start)
+
+stratum-requires : tie.Need-stratum-requires Inv-loop μ-loop
+stratum-requires c κs = search free-size
+
+array-read-counts : tie.Need-array-read-counts Inv-loop μ-loop
+array-read-counts c = search stratum-in
+
+array-write-counts : tie.Need-array-write-counts Inv-loop μ-loop
+array-write-counts c = search stratum-in
 
 add-counts : tie.Need-add-counts Inv-loop μ-loop
-add-counts c = omega (arith, c .before .before .before .before .before .loop .inv .2 .few (c .stratum .result))
+add-counts c = omega (arith, c .before .before .before .before .before .loop .inv .3 .few (c .stratum .result))
 
 loop-again : tie.Need-loop-again Inv-loop μ-loop
-loop-again c = (omega arith, search needs, ⊎-elim (λ w. search tally-free) (λ w. search tally-used) (c .if1 .came))
+loop-again c = (omega arith, omega arith, search needs, ⊎-elim (λ w. search tally-free) (λ w. search tally-used) (c .if1 .came))
 
 returns : tie.Need-returns Inv-loop μ-loop
 returns c = search tally-end
@@ -36,12 +46,12 @@ count-all-spec =
     (λ c κs. search needs)
     (λ c κs. search needs)
     (λ c. search needs)
-    (λ c κs. search needs)
+    stratum-requires
     (λ c. search needs)
-    (λ c. search needs)
+    array-read-counts
     add-counts
     (λ c. search needs)
-    (λ c. search needs)
+    array-write-counts
     (λ c. search needs)
     (λ c. search needs)
     loop-again

@@ -1,7 +1,8 @@
 use mathlib.Core.Path.{refl}
+use Rattle.zone.specs.Census.{strata}
 use Rattle.inspect.proofs.census.Laws.{in-law, zeros-low}
 use Rattle.access.proofs.Checked.{zone-8}
-use Rattle.access.proofs.row.Zone.{zone-row, zone-start, zone-short}
+use Rattle.access.proofs.row.Zone.{zone-row, zone-first, zone-start, zone-short}
 use borrow.Author.Needs.{needs}
 use Rattle.inspect.proofs.census.count_in.Statement.{statement}
 use Rattle.inspect.proofs.census.count_in.Tie as tie
@@ -10,7 +11,7 @@ get4-requires : tie.Need-get4-requires
 get4-requires c κs = search zone-8
 
 count-all-requires : tie.Need-count-all-requires
-count-all-requires c κs = (search zone-row, search zone-start, search zone-short, refl, λ k. zeros-low 19 k _)
+count-all-requires c κs = (search zone-row, search zone-first, search zone-start, search zone-short, refl, λ k. zeros-low strata k _)
 
 returns : tie.Need-returns
 returns c = search in-law
