@@ -1,22 +1,33 @@
 /* Measures the stack that each function of nafelode.h uses: a random list of calls, each on a stack
  * that was painted before, of which the calls then have changed the upper part. Usage: stack; exit
- * status 0 if none used more than NAFELODE_STACK, every function was accepted at least once, and
- * an allocation added masters. */
+ * status 0 if none used more than NAFELODE_STACK, every function was accepted at least once,
+ * an allocation added masters, and a create dropped pages. */
 #define _XOPEN_SOURCE 700
 #include <stdio.h>
 #include <string.h>
 #include <ucontext.h>
 #include "nafelode.h"
 
-enum { CALLS = 20, LIST = 40000, STACK = 32768, LENGTH = 2048 };
+enum { CALLS = 27, LIST = 40000, STACK = 32768, LENGTH = 2048 };
 static uint8_t zone[LENGTH], second[4096], stack[STACK];
-static uint32_t which, a, b, c, d, walker, number;
+static uint32_t which, a, b, c, d, e, walker, number;
 static ucontext_t here, there;
 
 static uint32_t random_below(uint32_t n) {
     static uint64_t state = 20260311;
     state = state * 6364136223846793005u + 1442695040888963407u;
     return (uint32_t)(state >> 33) % n;
+}
+
+/* by handle, by pointer or by name */
+static uint32_t block(void) { return d % 3 == 0 ? a : d % 3 == 1 ? b : e; }
+
+/* Pages by the walker, which is none of the calls that are measured then. */
+static unsigned pages(void) {
+    unsigned n = 0;
+    uint32_t at = nafelode_walker_start(zone, LENGTH);
+    for (nafelode_step s; at && (s = nafelode_walker_step(zone, LENGTH, &at)).size;) n += s.kind == 3;
+    return n;
 }
 
 #define Z zone, LENGTH
@@ -29,10 +40,10 @@ static void call(void) {
         CASE(3, nafelode_free_handle(Z, a).number);
         CASE(4, nafelode_free_pointer(Z, b).number);
         CASE(5, nafelode_resize(Z, a, c).number);
-        CASE(6, nafelode_size(Z, d % 2, d % 2 ? b : a).number);
-        CASE(7, nafelode_read(Z, d % 2, d % 2 ? b : a, 0, c, second, sizeof second));
-        CASE(8, nafelode_write(Z, d % 2, d % 2 ? b : a, 0, c, second, sizeof second));
-        CASE(9, nafelode_view(Z, d % 2, d % 2 ? b : a, 0, c).length == 0);
+        CASE(6, nafelode_size(Z, d % 3, block()).number);
+        CASE(7, nafelode_read(Z, d % 3, block(), 0, c, second, sizeof second));
+        CASE(8, nafelode_write(Z, d % 3, block(), 0, c, second, sizeof second));
+        CASE(9, nafelode_view(Z, d % 3, block(), 0, c).length == 0);
         CASE(10, nafelode_compact(Z).number);
         CASE(11, nafelode_sum(Z).number);
         CASE(12, nafelode_check(Z).yes == 0);
@@ -43,6 +54,13 @@ static void call(void) {
         CASE(17, nafelode_census(Z).number);
         CASE(18, (walker = nafelode_walker_start(Z)) == 0);
         CASE(19, nafelode_walker_step(Z, &walker).number);
+        CASE(20, nafelode_create_page(Z, e, c).number);
+        CASE(21, nafelode_use_page(Z, e).number);
+        CASE(22, nafelode_set_dirty(Z, e).number);
+        CASE(23, nafelode_clear_dirty(Z, e).number);
+        CASE(24, nafelode_set_lock(Z, e).number);
+        CASE(25, nafelode_clear_lock(Z, e).number);
+        CASE(26, nafelode_drop_page(Z, e).number);
         default: number = 1; /* nothing: what the measuring itself uses */
     }
 }
@@ -61,23 +79,24 @@ static size_t used(void) {
 int main(void) {
     static const char *name[CALLS] = {"initialize", "allocate_relocatable", "allocate_fixed", "free_handle", "free_pointer",
         "resize", "size", "read", "write", "view", "compact", "sum", "check", "length", "enlarge", "shrink", "roster", "census",
-        "walker_start", "walker_step"};
+        "walker_start", "walker_step", "create_page", "use_page", "set_dirty", "clear_dirty", "set_lock", "clear_lock", "drop_page"};
     size_t most[CALLS] = {0}, worst = 0;
-    unsigned accepted[CALLS] = {0}, grown = 0;
+    unsigned accepted[CALLS] = {0}, grown = 0, dropped = 0;
     which = CALLS;
     size_t own = used();
     for (unsigned i = 0; i < LIST; i++) {
         which = i % 1000 ? 1 + random_below(CALLS - 1) : 0;
         a = 16 + 4 * random_below(24), c = random_below(8) ? random_below(60) : random_below(33000);
-        d = 4 + random_below(20), b = 0;
+        d = 4 + random_below(20), b = 0, e = random_below(24);
         uint32_t at = nafelode_walker_start(Z), stop = random_below(30); /* b: the pointer of some fixed block */
         for (uint32_t k = 0; at && k < 60; k++) {
             nafelode_step s = nafelode_walker_step(Z, &at);
             if (s.kind == 1) b = s.offset + 2;
             if (k >= stop && b) break;
         }
-        unsigned masters = zone[11];
+        unsigned masters = zone[11], before = pages();
         size_t n = used();
+        dropped += which == 20 && number == 0 && pages() <= before;
         grown += which == 1 && number == 0 && zone[11] > masters;
         n = n > own ? n - own : 0;
         if (n > most[which]) most[which] = n;
@@ -89,7 +108,7 @@ int main(void) {
         if (most[i] > worst) worst = most[i];
         bad |= accepted[i] == 0;
     }
-    printf("allocations that added masters: %u\n", grown);
+    printf("allocations that added masters: %u; creates that dropped pages: %u\n", grown, dropped);
     printf("at most %zu bytes of stack; the header says %u\n", worst, NAFELODE_STACK);
-    return bad || grown == 0 || worst == 0 || worst > NAFELODE_STACK;
+    return bad || grown == 0 || dropped == 0 || worst == 0 || worst > NAFELODE_STACK;
 }

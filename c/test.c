@@ -230,10 +230,129 @@ static void more_masters(void) {
     TELLS(nafelode_size(Z, NAFELODE_POINTER, 62), 0, 2);
 }
 
+/* Pages: a create stamps, a use stamps anew, the marks stay beside the stamp; size, read, write and view by name. */
+static void page_by_name(void) {
+    TOLD(nafelode_initialize(Z, 80, 0), 0, 0);
+    TOLD(nafelode_create_page(Z, 7, 5), 0, 24);
+    IS(at(zone + 16), 0xC0080000), IS(at(zone + 20), 0x00070001), IS(zone[14], 1); /* type and size, name, status; the clock */
+    TOLD(nafelode_create_page(Z, 9, 12), 0, 40);
+    IS(at(zone + 32), 0xC00A0000), IS(at(zone + 36), 0x00090002), IS(zone[14], 2);
+    TELLS(nafelode_size(Z, NAFELODE_NAME, 7), 0, 8);
+    memcpy(second, "newsprint", 9);
+    WRITES(nafelode_write(Z, NAFELODE_NAME, 9, 1, 9, second, SECOND), 0);
+    IS(memcmp(zone + 40, "\0newsprint\0\0", 12) != 0, 0), IS(at(zone + 36), 0x00090002); /* a write makes no page dirty */
+    READS(nafelode_read(Z, NAFELODE_NAME, 9, 4, 6, second, SECOND), 0);
+    IS(memcmp(second, "sprintint", 9) != 0, 0);
+    nafelode_part part = nafelode_view(Z, NAFELODE_NAME, 9, 2, 4);
+    IS(part.offset, 42), IS(part.length, 4);
+    TOLD(nafelode_use_page(Z, 7), 0, 24);
+    IS(at(zone + 20), 0x00070003), IS(zone[14], 3);
+    TOLD(nafelode_set_dirty(Z, 9), 0, 0);
+    IS(at(zone + 36), 0x00098002);
+    TOLD(nafelode_set_lock(Z, 9), 0, 0);
+    IS(at(zone + 36), 0x0009C002);
+    TOLD(nafelode_clear_dirty(Z, 9), 0, 0);
+    TOLD(nafelode_set_lock(Z, 9), 0, 0);
+    IS(at(zone + 36), 0x00094002), IS(zone[14], 3); /* marks step no clock */
+    TOLD(nafelode_clear_lock(Z, 9), 0, 0);
+    IS(at(zone + 36), 0x00090002);
+    IS(nafelode_check(Z).yes, 1), IS(nafelode_check(Z).count, 0), IS(nafelode_sum(Z).total, 28);
+    TELLS(nafelode_roster(Z, second, SECOND), 0, 0);
+    static const uint32_t kind[3] = {3, 3, 0}, size[3] = {16, 20, 28};
+    uint32_t walker = nafelode_walker_start(Z);
+    for (int i = 0; i < 3; i++) {
+        nafelode_step step = nafelode_walker_step(Z, &walker);
+        IS(step.kind, kind[i]), IS(step.size, size[i]);
+    }
+    TOLD(nafelode_drop_page(Z, 7), 0, 0);
+    IS(at(zone + 16), 8), IS(at(zone + 20), 0); /* free, and zero */
+    TOLD(nafelode_compact(Z), 0, 44);
+    part = nafelode_view(Z, NAFELODE_NAME, 9, 0, 12); /* it slid */
+    IS(part.offset, 24), IS(part.length, 12), IS(memcmp(zone + 25, "newsprint", 9) != 0, 0);
+}
+
+static void refused_11_and_13(void) {
+    TOLD(nafelode_initialize(Z, 80, 0), 0, 0);
+    TOLD(nafelode_create_page(Z, 7, 5), 0, 24);
+    TOLD(nafelode_create_page(Z, 7, 0), 11, 0);
+    TOLD(nafelode_create_page(Z, 7, 32757), 11, 0); /* 11 comes before 3, */
+    TOLD(nafelode_create_page(Z, 8, 32757), 3, 0); /* and 3 before 5 */
+    TOLD(nafelode_create_page(Z, 8, 32756), 5, 0);
+    TOLD(nafelode_use_page(Z, 8), 13, 0);
+    TOLD(nafelode_set_dirty(Z, 8), 13, 0);
+    TOLD(nafelode_clear_dirty(Z, 8), 13, 0);
+    TOLD(nafelode_set_lock(Z, 8), 13, 0);
+    TOLD(nafelode_clear_lock(Z, 8), 13, 0);
+    TOLD(nafelode_drop_page(Z, 8), 13, 0);
+    TELLS(nafelode_size(Z, NAFELODE_NAME, 8), 13, 0);
+    READS(nafelode_read(Z, NAFELODE_NAME, 8, 9, 9, second, 0), 13); /* 13 comes before 8 and 10 */
+    WRITES(nafelode_write(Z, NAFELODE_NAME, 8, 0, 0, second, SECOND), 13);
+    IS(nafelode_view(Z, NAFELODE_NAME, 8, 0, 0).offset, 0);
+    READS(nafelode_read(Z, NAFELODE_NAME, 7, 4, 5, second, SECOND), 8);
+    WRITES(nafelode_write(Z, NAFELODE_NAME, 7, 4, 4, second, 3), 10);
+    TELLS(nafelode_size(Z, NAFELODE_HANDLE, 7), 6, 0);
+    TELLS(nafelode_size(Z, NAFELODE_POINTER, 24), 7, 0); /* a page's data are no fixed block's, */
+    TELLS(nafelode_size(Z, 3, 24), 7, 0); /* and any other kind is a pointer */
+    TOLD(nafelode_free_pointer(Z, 24), 7, 0);
+    TOLD(nafelode_create_page(Z, 0, 0), 0, 40); /* 0 is a name, */
+    TOLD(nafelode_create_page(Z, 0xFFFFFFFF, 0), 0, 48); /* and so is every other number */
+    TELLS(nafelode_size(Z, NAFELODE_NAME, 0xFFFFFFFF), 0, 0);
+}
+
+/* Pages that are not locked go where a create has no space: greatest age first, the smaller name among equals, no dirty one. */
+static void dropping(void) {
+    TOLD(nafelode_initialize(Z, 80, 0), 0, 0);
+    TOLD(nafelode_create_page(Z, 7, 5), 0, 24);
+    TOLD(nafelode_create_page(Z, 9, 12), 0, 40);
+    memcpy(second, "newsprint", 9);
+    WRITES(nafelode_write(Z, NAFELODE_NAME, 9, 1, 9, second, SECOND), 0);
+    TOLD(nafelode_use_page(Z, 7), 0, 24);
+    TOLD(nafelode_set_lock(Z, 9), 0, 0);
+    TOLD(nafelode_allocate_fixed(Z, 28), 5, 0); /* 28 bytes are free: for no other block a page goes */
+    TOLD(nafelode_create_page(Z, 8, 37), 5, 0); /* 44 would be, without the page that is not locked */
+    TOLD(nafelode_create_page(Z, 8, 28), 0, 44);
+    TELLS(nafelode_size(Z, NAFELODE_NAME, 7), 13, 0);
+    IS(at(zone + 16), 0xC00A0000), IS(at(zone + 20), 0x00094002), IS(memcmp(zone + 25, "newsprint", 9) != 0, 0); /* the locked one slid */
+    IS(at(zone + 36), 0xC0120000), IS(at(zone + 40), 0x00080004), IS(zone[14], 4);
+    for (int i = 44; i < 72; i++) IS(zone[i], 0);
+    TOLD(nafelode_set_dirty(Z, 8), 0, 0);
+    TOLD(nafelode_create_page(Z, 7, 4), 12, 8); /* the value is the dirty page's name; nothing is dropped */
+    TOLD(nafelode_create_page(Z, 7, 40), 5, 0); /* 5 comes before 12 */
+    TOLD(nafelode_clear_lock(Z, 9), 0, 0);
+    TOLD(nafelode_create_page(Z, 7, 4), 0, 24); /* 9 is older and clean: its room is enough, and nothing slides */
+    TELLS(nafelode_size(Z, NAFELODE_NAME, 9), 13, 0);
+    TOLD(nafelode_create_page(Z, 1, 20), 12, 8); /* 8 is older than 7 */
+    TOLD(nafelode_use_page(Z, 8), 0, 44);
+    IS(at(zone + 40), 0x00088006);
+    TOLD(nafelode_create_page(Z, 1, 20), 0, 60); /* now 7 is */
+    TELLS(nafelode_size(Z, NAFELODE_NAME, 7), 13, 0);
+    TOLD(nafelode_set_lock(Z, 8), 0, 0);
+    TOLD(nafelode_drop_page(Z, 8), 0, 0); /* neither mark prevents that */
+    IS(nafelode_sum(Z).total, 36), IS(zone[14], 7);
+    TOLD(nafelode_create_page(Z, 5, 4), 0, 24);
+    for (int i = 0; i < 255; i++) TOLD(nafelode_use_page(Z, 1), 0, 60);
+    IS(zone[14], 7); /* the clock went round */
+    TOLD(nafelode_create_page(Z, 4, 4), 0, 36);
+    IS(zone[23], 8), IS(zone[35], 8); /* one age */
+    TOLD(nafelode_set_lock(Z, 1), 0, 0);
+    TOLD(nafelode_create_page(Z, 6, 12), 0, 36); /* 4 goes, whose name is smaller */
+    TELLS(nafelode_size(Z, NAFELODE_NAME, 4), 13, 0);
+    TOLD(nafelode_use_page(Z, 5), 0, 24);
+    IS(nafelode_check(Z).yes, 1);
+}
+
 static void refused_1(void) {
     uint32_t walker = 32;
     FRESH();
-    zone[14] = 1;
+    zone[15] = 1;
+    TOLD(nafelode_create_page(Z, 7, 40000), 1, 0);
+    TOLD(nafelode_use_page(Z, 7), 1, 0);
+    TOLD(nafelode_set_dirty(Z, 7), 1, 0);
+    TOLD(nafelode_clear_dirty(Z, 7), 1, 0);
+    TOLD(nafelode_set_lock(Z, 7), 1, 0);
+    TOLD(nafelode_clear_lock(Z, 7), 1, 0);
+    TOLD(nafelode_drop_page(Z, 7), 1, 0);
+    TELLS(nafelode_size(Z, NAFELODE_NAME, 7), 1, 0);
     TOLD(nafelode_allocate_relocatable(Z, 40000), 1, 0);
     TOLD(nafelode_allocate_fixed(Z, 0), 1, 0);
     TOLD(nafelode_free_handle(Z, 16), 1, 0);
@@ -294,6 +413,8 @@ static void empty(void) {
     IS(nafelode_initialize(NULL, 0, 0, 0).number, 2);
     IS(nafelode_allocate_relocatable(NULL, 0, 4).number, 1);
     IS(nafelode_compact(NULL, 0).number, 1);
+    IS(nafelode_create_page(NULL, 0, 7, 4).number, 1);
+    IS(nafelode_drop_page(NULL, 0, 7).number, 1);
     IS(nafelode_check(NULL, 0).yes, 0);
     IS(nafelode_walker_step(NULL, 0, &walker).number, 1);
     FRESH();
@@ -326,6 +447,21 @@ static void most_masters(void) {
     }
 }
 
+/* The largest page, and as many as there is room for. */
+static void many_pages(void) {
+    static uint8_t big[1048576];
+    IS(nafelode_initialize(big, sizeof big, sizeof big, 0).number, 0);
+    for (uint32_t i = 0; i < 32; i++) IS(nafelode_create_page(big, sizeof big, i, 32756).value, 24 + 32764 * i);
+    IS(nafelode_create_page(big, sizeof big, 32, 32756).value, 24); /* the oldest goes */
+    IS(nafelode_use_page(big, sizeof big, 0).number, 13);
+    IS(nafelode_initialize(big, sizeof big, 65536, 0).number, 0);
+    for (uint32_t i = 0; i < 8190; i++) IS(nafelode_create_page(big, sizeof big, 9000 - i, 0).value, 24 + 8 * i);
+    IS(nafelode_sum(big, sizeof big).total, 0);
+    IS(nafelode_create_page(big, sizeof big, 1, 0).value, 24 + 8 * 7934); /* of those with age 255 the last has the smallest name */
+    IS(nafelode_use_page(big, sizeof big, 9000 - 7934).number, 13);
+    IS(nafelode_check(big, sizeof big).yes, 1);
+}
+
 int main(void) {
     uint8_t *pages = mmap(NULL, 5 * PAGE, PROT_NONE, MAP_PRIVATE | MAP_ANONYMOUS, -1, 0);
     if (pages == MAP_FAILED) return perror("mmap"), 2;
@@ -335,9 +471,10 @@ int main(void) {
         memset(zone_page, 0xA5, PAGE), memset(second_page, 0xA5, PAGE);
         zone = low ? zone_page : zone_page + PAGE - LENGTH;
         second = low ? second_page : second_page + PAGE - SECOND;
-        rig_sheet(), bytes(), roster_order(), tightest_hole(), more_masters(), refused_1(), refused_2_to_10(), empty();
+        rig_sheet(), bytes(), roster_order(), tightest_hole(), more_masters(), page_by_name(), dropping();
+        refused_1(), refused_2_to_10(), refused_11_and_13(), empty();
     }
-    largest(), most_masters();
+    largest(), most_masters(), many_pages();
     printf("%u tests, %u wrong\n", tests, wrong);
     return wrong != 0;
 }

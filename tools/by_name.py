@@ -1,6 +1,6 @@
 #!/usr/bin/env python3
-"""Tests that header lengths, limits, type codes and the places of fields stand by name: no definition, no contract, no proof and no code has one of
-document 01's numbers as digits, but crates/block_type, where they are defined, and what MEANINGS and ALLOWED list with a reason.
+"""Tests that header lengths, limits, type codes and the places of fields stand by name: no definition, no contract, no proof and no code has one of the
+papers' numbers as digits, but crates/block_type, where they are defined, and what MEANINGS and ALLOWED list with a reason.
 
 Every number of the text whose value is one of NUMBERS is looked at, so a new one is a fault until it is named, or listed here. What is listed and allows
 nothing (any more) is a fault too.
@@ -14,23 +14,24 @@ import sources
 ROOT = pathlib.Path(__file__).resolve().parent.parent
 DEFINITIONS = "crates/block_type/"
 
-# each number of document 01, with the names that it has in crates/block_type/specs/Limits.antt
+# each number of the papers, with the names that it has in crates/block_type/specs/Limits.antt
 NUMBERS = {
     2: "fixedHeader, tagAt or relocCode",
     4: "freeHeader, relocHeader, smallestBlock, masterSize, firstAt or amountAt",
-    8: "mastersAt, recordSize or addedMasters",
+    8: "mastersAt, recordSize, addedMasters or pageHeader",
     12: "chainAt",
-    14: "zerosAt",
-    15: "zerosAt + 1",
+    14: "clockAt",
+    15: "zeroAt",
     16: "zoneHeader",
     32: "addedBytes",
     64: "typeByteUnit",
     8188: "mostMasters",
-    16384: "typeUnit",
+    16384: "typeUnit or lockBit",
+    32756: "pageLimit",
     32760: "relocLimit",
     32762: "fixedLimit",
     32764: "largestBlock",
-    32768: "relocCode * typeUnit or firstBlock mostMasters",
+    32768: "relocCode * typeUnit, firstBlock mostMasters or dirtyBit",
     65536: "handleRange",
     1048576: "longestZone",
     4294967296: "argumentRange",
@@ -41,8 +42,8 @@ ATOM = r"(?:[^\s()]+|\((?:[^()]|\((?:[^()]|\((?:[^()]|\((?:[^()]|\([^()]*\))*\))
 
 # smaller numbers that have a name where they stand in such a form: the form, whose group is the number, and the name
 FORMS = [
-    (rf"\b(?:typeOf|code) {ATOM} (?:≡|=) ([01])\b", "freeCode or fixedCode"),
-    (rf"\beqb \((?:typeOf|code) {ATOM}\) ([01])\b", "freeCode or fixedCode"),
+    (rf"\b(?:typeOf|code) {ATOM} (?:≡|=) ([013])\b", "freeCode, fixedCode or pageCode"),
+    (rf"\beqb \((?:typeOf|code) {ATOM}\) ([013])\b", "freeCode, fixedCode or pageCode"),
     (rf"\bk ≡ typeOf {ATOM} → .*\beqb k ([01])\b", "freeCode or fixedCode"),
     (rf"\bslice {ATOM} (0) 4\b", "lengthAt"),
     (r"(?:\boverwrite [^\s()]+|\)) (0) \(toBE 4\b", "lengthAt"),
@@ -63,7 +64,7 @@ MEANINGS = [
     (r"/ 2\b", "bytes to words"),
     (r"\* 2\b", "words to bytes"),
     (r"(?<![\w.])2 \^", "a power of 2"),
-    (r"(?<![\w-])(?:cause|told|refused|holdsIn|number(?: ≡|:| =)|stretchNumber [\w ]+ ≡) ([248])\b", "a refusal number"),
+    (r"(?<![\w-])(?:cause|told|shows|refused|holdsIn|number(?: ≡|:| =)|numberOf c entry ≡|stretchNumber [\w ]+ ≡) ([248]|12)\b", "a refusal number"),
     (r"\bno_growth\([248]\)", "a refusal number"),
 ]
 
@@ -75,15 +76,32 @@ ALLOWED = [
     ("crates/bigendian/", r"\bat \+ [24] ≤", "the width of the number that is read or written"),
     ("crates/bigendian/", r"\bat \+ 2\b(?= ?[)\]])", "the third byte of a number"),
     ("crates/bigendian/", r"[*/] 65536\b", "what the second of four bytes counts"),
-    ("crates/kinds/proofs/KindLaws.antt", r"\bdrop-drop 2\b|\(drop 2\)|\(e \.bytes\) 2\b", "the handle's width"),
-    ("crates/kinds/proofs/KindLaws.antt", r"(?:drop-drop|take-append-drop|\bdrop) 2\b(?= \(?(?:drop )?tagAt)", "the handle's width"),
+    ("crates/kinds/proofs/KindLaws.antt", r"\b(?:drop-drop|take-append-drop|part-small) [24]\b|\(drop [24]\)", "the width of a handle or a status word, and of a name"),
+    ("crates/kinds/proofs/KindLaws.antt", r"(?:\bu|\bd|\(e \.bytes\)) ([24])\b(?= \(length-toBE)", "the same"),
+    ("crates/turn/proofs/rank/Page.antt", r"\bstatusAt \+ (2)\b", "the status word's width"),
     ("crates/structure/proofs/Back.antt", rf"\bat-seam {ATOM} {ATOM} (4)\b", "the width of a master's number"),
     ("crates/calls/specs/Roster.antt", r"handle = fromBE \(slice bs 0 4", "the handle is the first number of a record"),
+    # trees of names
+    ("crates/names/specs/Tree.antt", r"^(?:branches|nameBits) = \d+$", "the names of what a tree of names goes by"),
+    ("crates/names/src/trees.rt", r"^(?:pub )?const (?:BRANCHES|NAME_BITS): usize = (\d+);$", "the same names in code"),
+    ("crates/names/specs/Seen.antt", r"^(?:probes|printRange) = \d+$", "the names of what a table of fingerprints goes by"),
+    ("crates/names/src/seen.rt", r"^const (?:PROBES: usize|PRINT_RANGE: u64) = (\d+);$", "the same names in code"),
+    # a search by halving
+    ("crates/turn/specs/Limit.antt", r"\b2 \* \(high′ - low′\)", "half as far"),
     # the census
     ("crates/zone/specs/Formula.antt", r"% 2\b", "an even number"),
     ("crates/zone/specs/Formula.antt", r"^bits = 32$", "the bits of a number in code, which are named here"),
     # refusal numbers
-    ("crates/calls/specs/Table.antt", r"(?<![\w.])[248] ∷", "the order of the refusal numbers"),
+    ("crates/calls/specs/Table.antt", r"(?<![\w.])(?:[248]|12) ∷", "the order of the refusal numbers"),
+    ("crates/calls/specs/Table.antt", r"\beqb n (12)\b", "a refusal number"),
+    ("crates/calls/proofs/Order.antt", r"(?<![\w.])(?:[248]|12) ∷", "the order of the refusal numbers"),
+    ("crates/calls/proofs/Order.antt", r"\bcond s 0 (12)\b", "a refusal number"),
+    ("crates/nafelode/proofs/Demands.antt", r"\b(?:n ≡|ne-eqb n) (12)\b", "a refusal number"),
+    ("crates/turn/", r"(?:\(isNone \w+\)\)|\beqb number|\bInTurn z need) (12)\b", "a refusal number"),
+    ("crates/zone/proofs/PageDrops.antt", r" 0 (12)$", "a refusal number"),
+    ("crates/zone/proofs/PageSays.antt", r"(?:\bcreateNumber a l e s ≡|\bcond t 0|\bne-eqb \(suc k\)|\bnumberTold \(suc k\) b ≡|\bsuc k ≡) (12)\b", "a refusal number"),
+    ("crates/zone/proofs/PageSays.antt", r"\bc (12) q\b", "the refusal number 13 less one"),
+    ("crates/zone/proofs/PageRead.antt", r"\(facts true z\) ≡ (8)$", "a refusal number"),
     ("crates/stretch/specs/Stretch.antt", r"\(cond \(leb n have\) 0 10\) (8)\b", "a refusal number"),
     ("crates/stretch/proofs/Laws.antt", r"\bIsPart .* have (8)\b", "a refusal number"),
     ("crates/zone/proofs/Initial.antt", r"\bclear \(badInitialize .*\) (2)\b", "a refusal number"),
@@ -106,6 +124,8 @@ ALLOWED = [
     ("crates/records/proofs/Decimal.antt", r"\bdigits-more 8\b", "how many digits are left"),
     ("crates/records/proofs/Example.antt", r"^example = .*", "document 01's example of zone-run"),
     # a walker that is lent
+    ("crates/create/", r"(?:\bnumber|≡|\bcond s 0|\(not s\)) (12)\b", "a refusal number"),
+    ("crates/nafelode_c/", r"\bkind (?:== |≡ )?(2)\b", "the kind of a block that is named by its name"),
     ("crates/walker_run/src/main.rt", r"\bturns = (16384)usize\b", "more steps than a zone of 65,536 bytes has blocks"),
     ("crates/walker_run/proofs/walk/Proof.antt", r"\bturns ≤ 16384\b", "the same"),
     ("crates/inspect/proofs/walker/Walker/advance/Proof.antt", r"! \d+\b|! \([\d ∷]+\[\]\)", WALKED),
@@ -120,6 +140,9 @@ ALLOWED = [
     ("crates/zone/specs/GrowthSheet.antt", r"^ +(?:∷ )?(?:allocate|resize|write)\b.*|^(?:loose|beyond) = .*", "the growth by example: what is asked"),
     ("crates/zone/specs/GrowthSheet.antt", r"^ +(?:\+\+ )?[(]?(?:word \d|\d).*", "the growth by example: the bytes after it"),
     ("crates/zone/specs/GrowthSheet.antt", r"\b(?:answered \d+ \d+ \d+|zone \d+ [12]\)+(?: zoneHeader \d+)?|crowded \d+\)) ≡ .*|\bzone 112 2\b", "the growth by example: the zone, and what is answered"),
+    ("crates/zone/specs/PageSheet.antt", r"^(?:vacant|round|sides|flaggedPages|filled|between|atEnd|growing|brokenZone) = .*", "the pages by example: the zone, and what is asked"),
+    ("crates/zone/specs/PageSheet.antt", r"^ +(?:\+\+ )?[(]?(?:word \d|\d).*", "the pages by example: the bytes after it"),
+    ("crates/zone/specs/PageSheet.antt", r"^ +pub [\w-]+ : .*", "the pages by example: what is asked, what is answered, and bytes"),
     ("crates/zone/specs/ReelB.antt", CALLS, "the customer's list: an argument"),
     ("crates/zone/specs/ReelB.antt", r"\b(?:read|write|view) \([\w-]+ \d+\) \d+ \d+\b", "the customer's list: an offset and a count"),
     ("crates/zone/specs/ReelB.antt", r"\breplicate (?:4|32) 9\b", "the customer's list: a second buffer"),
@@ -187,7 +210,7 @@ def faults(root, meanings=tuple(MEANINGS), allowed=tuple(ALLOWED)):
 
 def main():
     lines = faults(ROOT)
-    print("\n".join(lines) if lines else "every number of document 01 stands by name")
+    print("\n".join(lines) if lines else "every number of the papers stands by name")
     return 1 if lines else 0
 
 

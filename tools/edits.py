@@ -27,6 +27,7 @@ NOT_MET = re.compile(
     r"|`simp`: no equation of the list has an instance in the goal"
     r"|(?:computed as far as they go|as printed), the two (?:types|indices|values) "
     r"|expected type `(?:Path |\S*\bReads\.(?:Post|Asked) )"
+    r"|on the face `\w+ = [01]` this λ's body is "
 )
 # what only waits for something that was refused is passed over
 WAITS = "was not admitted (it has holes or undetermined implicits, or was rejected), so this cannot be checked"
@@ -60,8 +61,9 @@ def fact_of(need, function, message):
     if need.startswith(("loop-again", "loop-holds")):
         return f"the invariant of the loop of `{function}`"
     asked = re.search(r"([A-Za-z_]+)\.Reads\.Asked", message[:200])
-    if need.endswith("-requires"):
-        return f"what `{need[:-9].replace('-', '_')}` requires, in `{function}`"
+    callee = re.fullmatch(r"(.*)-requires(?:-\d+)?", need)
+    if callee:
+        return f"what `{callee.group(1).replace('-', '_')}` requires, in `{function}`"
     if need.endswith("-spec") and asked:
         return f"what `{asked.group(1)}` requires, in `{function}`"
     return None

@@ -44,6 +44,10 @@ class ByName(Trial):
     def test_definition_and_law(self):
         self.noticed_in(DEFINITION, ["x = drop 4 b", "x = 2 + length d", "x = firstBlock m - 16", "x = slice z 12 2", "x = slice (take l s) 8 4", "x = codeOf e * 16384"])
 
+    def test_pages(self):
+        self.noticed_in(DEFINITION, ["x = drop 8 b", "x = getD s 14 0", "x = leb c 32756", "x : typeOf b ≡ 3", "x = leb 32768 w", "x = eqb n 12"])
+        self.passed_in(DEFINITION, ["x = drop pageHeader b", "x = cause 12 (not t)", "x = told 12 v", "x : numberOf c entry ≡ 12 → ⊥", "x = slice b tagAt 4"])
+
     def test_contract(self):
         self.noticed_in(CODE, ["    requires { ⌜ at + 4 ≤ length (now z) ⌝ }", "    ensures { λ r. ⌜ r ≡ cond (eqb m 0) 0 16 ⌝ }"])
 

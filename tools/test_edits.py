@@ -16,6 +16,7 @@ FACTS = [
     (PROOF, "step-requires", "`search`: no proof of `Row`", "what `step` requires, in `find_bay`"),
     (PROOF, "find-bay-spec", "`search`: no proof of `Rattle.access.proofs.row.step.Reads.Asked κs`", "what `step` requires, in `find_bay`"),
     (LAW, "six-first", "computed as far as they go, the two types differ only where one has `6` (expected)", "law `six-first` of `proofs/Order.antt`"),
+    (LAW, "call-refused", "on the face `i = 0` this λ's body is `result (refused c n) bs`", "law `call-refused` of `proofs/Order.antt`"),
     (LAW, "read-left", "as printed, the two types differ only where one has `second` (expected)", "law `read-left` of `proofs/Order.antt`"),
 ]
 

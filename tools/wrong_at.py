@@ -23,8 +23,9 @@ SAID = re.compile(r"(.*): (?:byte (\d+) is (\d+), not (\d+)|(.*), not (.*))")
 
 
 def rust(text):
-    """Rattle's code as Rust: no contract, no private function, and plain data is Copy."""
+    """Rattle's code as Rust: no contract, no private function, plain data is Copy, and a sum that wraps by Rust's name."""
     code = re.sub(r"^[ \t]*ghost use [^;]*;\n", "", sources.masked(text), flags=re.M)
+    code = re.sub(r"\bstd::num::wrapping_(add|sub)_(u\w+)\(", r"\2::wrapping_\1(", code)
     parts, at = [], 0
     for clause in iter(lambda: re.compile(rf"\b(?:{'|'.join(sources.CLAUSES)})\s*\{{").search(code, at), None):
         parts.append(code[at : clause.start()])

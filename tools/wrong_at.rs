@@ -43,7 +43,11 @@ fn lines(zone: &mut [u8], input: &[u8]) -> String {
 /// The block that two words name, with the offset and the count after them, 0 where there is none.
 fn stretch(words: &[&str]) -> Stretch {
     let number = |i: usize| words.get(i).map_or(0, |word| word.parse().expect("a number"));
-    let block = nafelode_c::block_of(u32::from(words[1] != "handle"), number(2));
+    let block = match words[1] {
+        "handle" => nafelode::Target::Handle(number(2)),
+        "pointer" => nafelode::Target::Pointer(number(2)),
+        _ => nafelode::Target::Name(number(2)),
+    };
     Stretch { block, offset: number(3), count: number(4) }
 }
 
@@ -77,6 +81,13 @@ fn call(zone: &mut Vec<u8>, words: &[&str]) -> String {
             let part = nafelode::view(zone, stretch(words));
             format!("{} {}", part.as_ptr() as usize - first, part.len())
         }
+        "create_page" => told(nafelode::create_page(zone, n(1), n(2))),
+        "use_page" => told(nafelode::use_page(zone, n(1))),
+        "set_dirty" => told(nafelode::set_dirty(zone, n(1))),
+        "clear_dirty" => told(nafelode::clear_dirty(zone, n(1))),
+        "set_lock" => told(nafelode::set_lock(zone, n(1))),
+        "clear_lock" => told(nafelode::clear_lock(zone, n(1))),
+        "drop_page" => told(nafelode::drop_page(zone, n(1))),
         "compact" => told(nafelode::compact(zone)),
         "sum" => {
             let sums = nafelode::sum(zone);

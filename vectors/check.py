@@ -4,8 +4,8 @@ usage: vectors/check.py LIBRARY FILE..
 
 The files are read with FORMAT.md's own reader. The package must give every
 answer that it can give, and after each call, on all the bytes, what the
-proved library says: check, blocks, bytes by handle and pointer, sums, census,
-roster. Each list must go the way that its name says.
+proved library says: check, blocks, bytes by handle, pointer and name, sums,
+census, roster. Each list must go the way that its name says.
 """
 
 import os
@@ -42,12 +42,12 @@ def package_answer(zone, call):
     """What the package says to an accepted call that changes nothing, in the file's words."""
     name, words = call[0], call[1:]
     if name in ("size", "read", "view"):
-        handle, number = words[0] == "handle", int(words[1])
-        block = zone.by_handle(number) if handle else zone.by_pointer(number)
+        find = {"handle": zone.by_handle, "pointer": zone.by_pointer, "name": zone.by_name}
+        block = find[words[0]](int(words[1]))
         if name == "size":
             return {"answer": [0, block.data_size]}
         offset, count = int(words[2]), int(words[3])
-        data = (zone.read_handle if handle else zone.read_pointer)(number, offset, count)
+        data = zone.read_block(block, offset, count)
         if name == "view":
             return {"view": [block.data_offset + offset, len(data)]}
         given = unhex(words[4])

@@ -6,7 +6,7 @@
 mod zone;
 
 use std::process::exit;
-use zone::{numbers, Answer, Name, Stretch, Walker};
+use zone::{numbers, Answer, Stretch, Target, Walker};
 
 /// Runs of so many equal bytes are written as runs.
 const RUN: usize = 32;
@@ -42,16 +42,17 @@ fn number(word: &str) -> u32 {
     word.parse().expect("a decimal number of 32 bits")
 }
 
-fn name(words: &[&str]) -> Name {
+fn target(words: &[&str]) -> Target {
     match words[0] {
-        "handle" => Name::Handle(number(words[1])),
-        "pointer" => Name::Pointer(number(words[1])),
+        "handle" => Target::Handle(number(words[1])),
+        "pointer" => Target::Pointer(number(words[1])),
+        "name" => Target::Name(number(words[1])),
         other => panic!("no kind of block: {other}"),
     }
 }
 
 fn stretch(words: &[&str]) -> Stretch {
-    Stretch { block: name(words), offset: number(words[2]), count: number(words[3]) }
+    Stretch { block: target(words), offset: number(words[2]), count: number(words[3]) }
 }
 
 /// The line for a call that answers one value, 0 where none is named.
@@ -82,7 +83,14 @@ fn carry_out(buffer: &mut [u8], words: &[&str]) -> Vec<String> {
         "compact" => one(zone::compact(buffer)),
         "enlarge" => none(zone::enlarge(buffer, argument(1))),
         "shrink" => one(zone::shrink(buffer, argument(1))),
-        "size" => one(zone::size(buffer, name(&words[1..]))),
+        "create_page" => one(zone::create_page(buffer, argument(1), argument(2))),
+        "use_page" => one(zone::use_page(buffer, argument(1))),
+        "set_dirty" => none(zone::set_dirty(buffer, argument(1))),
+        "clear_dirty" => none(zone::clear_dirty(buffer, argument(1))),
+        "set_lock" => none(zone::set_lock(buffer, argument(1))),
+        "clear_lock" => none(zone::clear_lock(buffer, argument(1))),
+        "drop_page" => none(zone::drop_page(buffer, argument(1))),
+        "size" => one(zone::size(buffer, target(&words[1..]))),
         "length" => one(zone::length(buffer)),
         "read" | "write" | "roster" => call_with_second(buffer, words),
         _ => tell(buffer, words),
@@ -133,7 +141,7 @@ fn tell(buffer: &[u8], words: &[&str]) -> Vec<String> {
 fn check_file(path: &str) -> usize {
     let text = std::fs::read_to_string(path).unwrap_or_else(|error| panic!("{path}: {error}"));
     let mut lines = text.lines().enumerate();
-    assert_eq!(lines.next().map(|(_, line)| line), Some("nafelode-vectors 1"), "{path}");
+    assert_eq!(lines.next().map(|(_, line)| line), Some("nafelode-vectors 2"), "{path}");
     let (mut buffer, mut calls) = (Vec::new(), 0);
     while let Some((at, line)) = lines.next() {
         let words: Vec<&str> = line.split_whitespace().collect();

@@ -100,7 +100,7 @@ class Steered:
 
 def main() -> None:
     rng, library = random.Random(int(sys.argv[2])), Library(sys.argv[1])
-    print("nafelode-vectors 1")
+    print("nafelode-vectors 2")
     print(f"# Random lists, made by random_calls.py with seed {sys.argv[2]}.")
     for number, (length, masters, beyond, steps) in enumerate(LISTS, 1):
         print(f"\nlist random_{number}\nbuffer {length + beyond} 165")

@@ -4,7 +4,7 @@ The check uses it to see that the lists of ways.calls and refusals.calls do
 what their names say, and that no way is left out.
 """
 
-from typing import List, Optional, Sequence, Set
+from typing import List, Optional, Sequence, Set, Tuple
 
 from nafelode import Bay, Block, BlockType, Zone
 
@@ -28,29 +28,42 @@ WAYS = (
     "compact_nothing compact_slides compact_bays "
     "enlarge_none enlarge_free_last enlarge_used_last enlarge_no_block "
     "shrink_none shrink_free_last shrink_compacted "
+    "page_exact page_rest page_compacted page_later_hole page_tightest_hole "
+    "page_equal_holes page_higher_bay "
+    "page_drops_one page_drops_several page_drops_apart page_drops_other_bay "
+    "page_drops_smaller_name page_drops_larger_stamp page_passes_lock page_spares_dirty "
+    "page_clock_round use_page use_clock_round "
+    "drop_page_alone drop_page_left drop_page_right drop_page_both drop_page_flagged "
     "empty_bay handle_order high_handle roster_order").split()
 
 # Calls that lay blocks down anew; a write changes data alone.
 CHANGING = ("allocate_relocatable", "allocate_fixed", "free_handle",
-            "free_pointer", "resize", "compact", "enlarge", "shrink")
+            "free_pointer", "resize", "compact", "enlarge", "shrink",
+            "create_page", "use_page", "drop_page")
 
 # "Refused calls", read as: which calls can give which number.
 STRETCH = ["size", "read", "write"]
+BY_NAME = ["use_page", "set_dirty", "clear_dirty", "set_lock", "clear_lock",
+           "drop_page"]
 REFUSALS = {
     1: ["allocate_relocatable", "allocate_fixed", "free_handle",
         "free_pointer", "resize", *STRETCH, "compact", "sum", "length",
-        "enlarge", "shrink", "roster", "census", "walker_step"],
+        "enlarge", "shrink", "roster", "census", "walker_step",
+        "create_page", *BY_NAME],
     2: ["initialize"],
-    3: ["allocate_relocatable", "allocate_fixed", "resize"],
+    3: ["allocate_relocatable", "allocate_fixed", "resize", "create_page"],
     4: ["allocate_relocatable"],
-    5: ["allocate_relocatable", "allocate_fixed", "resize"],
+    5: ["allocate_relocatable", "allocate_fixed", "resize", "create_page"],
     6: ["free_handle", "resize", *STRETCH],
     7: ["free_pointer", *STRETCH],
     8: ["read", "write"],
     9: ["enlarge"],
     10: ["read", "write", "roster"],
+    11: ["create_page"],
+    12: ["create_page"],
+    13: [*BY_NAME, *STRETCH],
 }
-VIEW_TOO = (1, 6, 7, 8)  # a view carries no number; it is refused for these
+VIEW_TOO = (1, 6, 7, 8, 13)  # a view carries no number; it is refused for these
 
 
 # "eight masters are added: the first bay gives up 32 bytes" (document 02, U3).
@@ -164,8 +177,73 @@ def _resize(zone: Zone, handle: int, c: int) -> Set[str]:
     return found | {"resize_move_lowest"} if len(others) > 1 else found
 
 
+def _turn(block: Block) -> Tuple[int, int]:
+    """A page's place in the order of dropping (document 02, U5)."""
+    return -block.page.age, block.page.name
+
+
+def _create(zone: Zone, need: int) -> Set[str]:
+    bay = next((bay for bay in zone.bays if bay.sum >= need), None)
+    if bay is None:
+        return _drops(zone, need)
+    found = {"page_" + way for way in place(bay, need)}
+    return found if bay is zone.bays[0] else found | {"page_higher_bay"}
+
+
+def _drops(zone: Zone, need: int) -> Set[str]:
+    """A create for which pages are dropped: which, and which are not."""
+    pages = sorted((block for block in zone.blocks if block.page), key=_turn)
+    order = [block for block in pages if not block.page.lock]
+    gone: List[Block] = []
+    while max(_sums(zone, gone)) < need:
+        gone.append(order[len(gone)])
+    sums = _sums(zone, gone)
+    bay = zone.bays[sums.index(max(sums))]
+    found = {"page_drops_" + ("one" if len(gone) == 1 else "several")}
+    if _longest(bay, gone) < need:
+        found.add("page_drops_apart")
+    if any(block not in bay.blocks for block in gone):
+        found.add("page_drops_other_bay")
+    if any(block.page.lock and _turn(block) < _turn(gone[-1]) for block in pages):
+        found.add("page_passes_lock")
+    for block in order[len(gone):]:
+        if block.page.age == gone[-1].page.age and block.offset < gone[-1].offset:
+            found.add("page_drops_smaller_name")
+        if block.page.stamp < gone[-1].page.stamp:
+            found.add("page_drops_larger_stamp")
+        if block.page.dirty:
+            found.add("page_spares_dirty")
+    return found
+
+
+def _sums(zone: Zone, gone: Sequence[Block]) -> List[int]:
+    """Each bay's sum without these pages."""
+    return [bay.sum + sum(block.size for block in gone if block in bay.blocks)
+            for bay in zone.bays]
+
+
+def _longest(bay: Bay, gone: Sequence[Block]) -> int:
+    """The longest run of free blocks and of these pages."""
+    longest = run = 0
+    for block in bay.blocks:
+        run = run + block.size if free(block) or block in gone else 0
+        longest = max(longest, run)
+    return longest
+
+
+def _page(zone: Zone, call: str, name: int, c: int) -> Set[str]:
+    if call == "drop_page":
+        block = zone.by_name(name)
+        found = {"drop_page_" + merges(zone, block)}
+        return found | {"drop_page_flagged"} if block.page.flags else found
+    found = {"use_page"} if call == "use_page" else _create(zone, up4(8 + c))
+    if zone.clock == 255:
+        found.add("use_clock_round" if call == "use_page" else "page_clock_round")
+    return found
+
+
 def slides(bay: Bay) -> bool:
-    """Whether a relocatable block stands behind a free one."""
+    """Whether a relocatable block or a page stands behind a free one."""
     return any(free(block) and block is not bay.blocks[-1]
                for block in bay.blocks)
 
@@ -216,6 +294,8 @@ def ways(before: bytes, call: Sequence[str], made: Sequence[int]) -> Set[str]:
         found = {"free_pointer_" + merges(zone, zone.by_pointer(*numbers))}
     elif name == "resize":
         found = _resize(zone, *numbers)
+    elif name.endswith("_page"):
+        found = _page(zone, name, *(numbers + [0])[:2])
     else:
         found = _whole_zone(zone, name, *(numbers or [0]))
     if any(bay.capacity == 0 for bay in zone.bays) and len(zone.bays) > 1:

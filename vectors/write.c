@@ -72,9 +72,10 @@ static int is(const char *name, unsigned arguments) {
     return 1;
 }
 
-static uint32_t kind(void) { /* the two words that name a block */
+static uint32_t kind(void) { /* the two words that say which block */
     if (!strcmp(words[2], "handle")) return NAFELODE_HANDLE;
-    if (strcmp(words[2], "pointer")) fail("'handle' or 'pointer' is wanted");
+    if (!strcmp(words[2], "name")) return NAFELODE_NAME;
+    if (strcmp(words[2], "pointer")) fail("'handle', 'pointer' or 'name' is wanted");
     return NAFELODE_POINTER;
 }
 
@@ -90,6 +91,18 @@ static int changing_call(void) {
     else if (is("compact", 0)) told(nafelode_compact(zone, length));
     else if (is("enlarge", 1)) told(nafelode_enlarge(zone, length, number(2)));
     else if (is("shrink", 1)) told(nafelode_shrink(zone, length, number(2)));
+    else return 0;
+    return 1;
+}
+
+static int page_call(void) {
+    if (is("create_page", 2)) told(nafelode_create_page(zone, length, number(2), number(3)));
+    else if (is("use_page", 1)) told(nafelode_use_page(zone, length, number(2)));
+    else if (is("set_dirty", 1)) told(nafelode_set_dirty(zone, length, number(2)));
+    else if (is("clear_dirty", 1)) told(nafelode_clear_dirty(zone, length, number(2)));
+    else if (is("set_lock", 1)) told(nafelode_set_lock(zone, length, number(2)));
+    else if (is("clear_lock", 1)) told(nafelode_clear_lock(zone, length, number(2)));
+    else if (is("drop_page", 1)) told(nafelode_drop_page(zone, length, number(2)));
     else return 0;
     return 1;
 }
@@ -147,7 +160,7 @@ static void do_line(void) {
         free(p);
     } else if (!strcmp(words[0], "call") && count > 1 && zone) {
         memcpy(before, zone, length);
-        if (!changing_call() && !telling_call() && !call_with_second()) fail("no call of this name");
+        if (!changing_call() && !page_call() && !telling_call() && !call_with_second()) fail("no call of this name");
         tell("zone", zone, length, !memcmp(zone, before, length));
     } else if (strcmp(words[0], "list") && *words[0] != '#') fail("not understood");
 }
@@ -156,7 +169,7 @@ int main(void) {
     char line[LINE], copy[LINE];
     while (fgets(line, sizeof line, stdin)) {
         if (!strchr(line, '\n')) fail("too long, or no line end");
-        if (line_number++ == 0 && strcmp(line, "nafelode-vectors 1\n")) fail("'nafelode-vectors 1' is wanted");
+        if (line_number++ == 0 && strcmp(line, "nafelode-vectors 2\n")) fail("'nafelode-vectors 2' is wanted");
         fputs(line, stdout);
         strcpy(copy, line);
         count = 0;

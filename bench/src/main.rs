@@ -3,6 +3,7 @@
 
 #[path = "../../compare/src/c_interface.rs"]
 mod c_interface;
+mod cache;
 #[allow(dead_code)]
 #[path = "../../compare/src/calls.rs"]
 mod calls;
@@ -138,9 +139,27 @@ fn beside_a_plain_read(zone: &[u8]) {
     );
 }
 
+/// The table of a zone full of pages.
+fn table_of_pages(name: &str, pages: &cache::Pages) {
+    println!("\n### {name}\n");
+    println!("| call | proved library, ns | Rust, ns | ratio |\n|---|---:|---:|---:|");
+    for Row { name, calls, zone } in cache::rows(pages, 12, &mut Random::new(3)) {
+        row(name, &Work { zone: &zone, calls: &calls, each_on_a_copy: true });
+    }
+}
+
 fn main() {
-    for workload in &WORKLOADS {
-        table(workload);
+    // 'pages': their tables alone
+    if std::env::args().nth(1).as_deref() != Some("pages") {
+        for workload in &WORKLOADS {
+            table(workload);
+        }
+    }
+    for (name, pages) in &cache::ZONES {
+        table_of_pages(name, pages);
+    }
+    if std::env::args().nth(1).as_deref() == Some("pages") {
+        return;
     }
     scaling::tables();
 }

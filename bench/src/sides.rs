@@ -4,14 +4,15 @@
 
 use crate::c_interface::*;
 use crate::calls::Call;
-use crate::zone::{self, numbers, Name, Stretch, Walker};
+use crate::zone::{self, numbers, Stretch, Target, Walker};
 
 pub type Side = fn(&mut [u8], &Call, &mut [u8]) -> u32;
 
-fn kind_of(name: Name) -> (u32, u32) {
-    match name {
-        Name::Handle(handle) => (0, handle),
-        Name::Pointer(pointer) => (1, pointer),
+fn kind_of(target: Target) -> (u32, u32) {
+    match target {
+        Target::Handle(handle) => (0, handle),
+        Target::Pointer(pointer) => (1, pointer),
+        Target::Name(name) => (2, name),
     }
 }
 
@@ -40,8 +41,8 @@ pub fn archive(zone: &mut [u8], call: &Call, second: &mut [u8]) -> u32 {
             Call::FreeHandle(handle) => both(nafelode_free_handle(z, n, handle)),
             Call::FreePointer(pointer) => both(nafelode_free_pointer(z, n, pointer)),
             Call::Resize(handle, c) => both(nafelode_resize(z, n, handle, c)),
-            Call::Size(name) => {
-                let (kind, block) = kind_of(name);
+            Call::Size(target) => {
+                let (kind, block) = kind_of(target);
                 both(nafelode_size(z, n, kind, block))
             }
             Call::Read(Stretch { block, offset, count }) => {
@@ -80,6 +81,13 @@ pub fn archive(zone: &mut [u8], call: &Call, second: &mut [u8]) -> u32 {
                 let block = nafelode_walker_step(z, n, &mut walker);
                 block.number ^ block.kind ^ block.offset ^ block.size ^ walker
             }
+            Call::CreatePage(name, c) => both(nafelode_create_page(z, n, name, c)),
+            Call::UsePage(name) => both(nafelode_use_page(z, n, name)),
+            Call::SetDirty(name) => both(nafelode_set_dirty(z, n, name)),
+            Call::ClearDirty(name) => both(nafelode_clear_dirty(z, n, name)),
+            Call::SetLock(name) => both(nafelode_set_lock(z, n, name)),
+            Call::ClearLock(name) => both(nafelode_clear_lock(z, n, name)),
+            Call::DropPage(name) => both(nafelode_drop_page(z, n, name)),
         }
     }
 }
@@ -92,7 +100,7 @@ pub fn rust(zone: &mut [u8], call: &Call, second: &mut [u8]) -> u32 {
         Call::FreeHandle(handle) => done(zone::free_handle(zone, handle)),
         Call::FreePointer(pointer) => done(zone::free_pointer(zone, pointer)),
         Call::Resize(handle, c) => done(zone::resize(zone, handle, c)),
-        Call::Size(name) => value(zone::size(zone, name)),
+        Call::Size(target) => value(zone::size(zone, target)),
         Call::Read(stretch) => done(zone::read(zone, stretch, second)),
         Call::Write(stretch) => done(zone::write(zone, stretch, second)),
         Call::View(stretch) => {
@@ -122,5 +130,12 @@ pub fn rust(zone: &mut [u8], call: &Call, second: &mut [u8]) -> u32 {
             let (number, step) = numbers(answer);
             number ^ step.kind ^ step.offset ^ step.size ^ next.offset
         }
+        Call::CreatePage(name, c) => value(zone::create_page(zone, name, c)),
+        Call::UsePage(name) => value(zone::use_page(zone, name)),
+        Call::SetDirty(name) => done(zone::set_dirty(zone, name)),
+        Call::ClearDirty(name) => done(zone::clear_dirty(zone, name)),
+        Call::SetLock(name) => done(zone::set_lock(zone, name)),
+        Call::ClearLock(name) => done(zone::clear_lock(zone, name)),
+        Call::DropPage(name) => done(zone::drop_page(zone, name)),
     }
 }

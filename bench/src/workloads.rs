@@ -3,7 +3,7 @@
 use crate::calls::Call;
 use crate::model::{Item, Picture};
 use crate::random::Random;
-use crate::zone::{self, Name, Stretch};
+use crate::zone::{self, Stretch, Target};
 use std::borrow::Cow;
 
 pub const KIBIBYTE: usize = 1_024;
@@ -48,7 +48,7 @@ pub fn zone_of(plan: &Plan, random: &mut Random) -> Vec<u8> {
         _ if rest > 0 => items.push(Item::Free(rest)),
         _ => {}
     }
-    let picture = Picture { length: plan.length, m: plan.masters, chain: handles.collect(), items };
+    let picture = Picture { length: plan.length, m: plan.masters, chain: handles.collect(), clock: 0, items };
     let zone = picture.encode();
     assert_eq!(zone::check(&zone), (true, plan.relocatable as u32));
     zone
@@ -89,7 +89,7 @@ pub fn known(zone: &[u8]) -> Known {
     for item in &picture.items {
         known.starts.push(at as u32);
         match item {
-            Item::Free(_) => {}
+            Item::Free(_) | Item::Page(_) => {}
             Item::Fixed(_) => known.pointers.push(at as u32 + 2),
             Item::Relocatable(handle, data) => known.handles.push((*handle, data.len() as u32)),
         }
@@ -161,15 +161,15 @@ fn a_call(zone: &[u8], live: &[u32], plan: &Plan, random: &mut Random) -> Call {
         65..=82 if few => Call::Relocatable(random.below(plan.most_data)),
         65..=82 => Call::FreeHandle(handle),
         83..=93 => Call::Resize(handle, random.below(plan.most_data)),
-        94..=97 => Call::Size(Name::Handle(handle)),
+        94..=97 => Call::Size(Target::Handle(handle)),
         _ => Call::Sum,
     }
 }
 
 /// The first bytes of a block, 64 at most.
 fn a_stretch(zone: &[u8], handle: u32) -> Stretch {
-    let size = zone::size(zone, Name::Handle(handle)).unwrap_or(0);
-    Stretch { block: Name::Handle(handle), offset: 0, count: size.min(64) }
+    let size = zone::size(zone, Target::Handle(handle)).unwrap_or(0);
+    Stretch { block: Target::Handle(handle), offset: 0, count: size.min(64) }
 }
 
 /// A call alone, some times, each on a copy of the zone.
@@ -191,7 +191,7 @@ pub fn alone<'z>(zone: &'z [u8], plan: &Plan, count: usize, random: &mut Random)
     let handle = |random: &mut Random| random.pick(&known.handles);
     let stretch = |random: &mut Random| {
         let (handle, size) = handle(random);
-        Stretch { block: Name::Handle(handle), offset: 0, count: size.min(64) }
+        Stretch { block: Target::Handle(handle), offset: 0, count: size.min(64) }
     };
     add("check", &mut |_| Call::Check);
     add("initialize", &mut |_| Call::Initialize(plan.length as u32, plan.masters as u32));
@@ -206,7 +206,7 @@ pub fn alone<'z>(zone: &'z [u8], plan: &Plan, count: usize, random: &mut Random)
         let (handle, size) = handle(random);
         Call::Resize(handle, size + 8)
     });
-    add("size", &mut |random| Call::Size(Name::Handle(handle(random).0)));
+    add("size", &mut |random| Call::Size(Target::Handle(handle(random).0)));
     add("read 64 bytes", &mut |random| Call::Read(stretch(random)));
     add("write 64 bytes", &mut |random| Call::Write(stretch(random)));
     add("view", &mut |random| Call::View(stretch(random)));
@@ -232,7 +232,7 @@ pub fn alone<'z>(zone: &'z [u8], plan: &Plan, count: usize, random: &mut Random)
         let pointer = |random: &mut Random| random.pick(&known.pointers);
         add("free by pointer", &mut |random| Call::FreePointer(pointer(random)));
         add("read by pointer", &mut |random| {
-            Call::Read(Stretch { block: Name::Pointer(pointer(random)), offset: 0, count: 14 })
+            Call::Read(Stretch { block: Target::Pointer(pointer(random)), offset: 0, count: 14 })
         });
     }
     // right after the allocations that find a free master

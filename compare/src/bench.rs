@@ -83,6 +83,19 @@ fn all_fixed() -> Vec<u8> {
     zone
 }
 
+/// Pages without data alone, as many as a zone can have, no two of one name.
+fn all_pages() -> Vec<u8> {
+    let mut zone = fresh(0);
+    for (i, page) in zone[16..].chunks_exact_mut(8).enumerate() {
+        let name = (i as u32).wrapping_mul(0x9E37_79B1).to_be_bytes();
+        page[..2].copy_from_slice(&[0xC0, 4]);
+        page[2..6].copy_from_slice(&name);
+        page[7] = i as u8;
+    }
+    assert_eq!(zone::check(&zone), (true, 0));
+    zone
+}
+
 fn main() {
     let rounds = std::env::args().nth(1).and_then(|text| text.parse().ok()).unwrap_or(300).max(1);
     let empty = nearly_empty();
@@ -101,6 +114,16 @@ fn main() {
     });
     time("compact, 1 MiB of 262,140 fixed blocks", &fixed, rounds, |zone| {
         black_box(zone::compact(zone)).unwrap();
+    });
+    let pages = all_pages();
+    time("check, 1 MiB of 131,070 pages", &pages, rounds, |zone| {
+        black_box(zone::check(zone));
+    });
+    time("create page 0 among them, one is dropped", &pages, rounds, |zone| {
+        black_box(zone::create_page(zone, 1, 0)).unwrap();
+    });
+    time("create page 32,756 among them, 4,096 are dropped", &pages, rounds, |zone| {
+        black_box(zone::create_page(zone, 1, 32_756)).unwrap();
     });
     let scattered = scattered();
     time("check, 4,094 blocks and as many holes", &scattered, rounds, |zone| {

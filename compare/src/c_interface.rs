@@ -62,5 +62,12 @@ extern "C" {
     pub fn nafelode_roster(zone: *const u8, zone_length: usize, out: *mut u8, out_length: usize) -> Told;
     pub fn nafelode_census(zone: *const u8, zone_length: usize) -> CensusCounts;
     pub fn nafelode_walker_start(zone: *const u8, zone_length: usize) -> u32;
+    pub fn nafelode_create_page(zone: *mut u8, zone_length: usize, name: u32, c: u32) -> Told;
+    pub fn nafelode_use_page(zone: *mut u8, zone_length: usize, name: u32) -> Told;
+    pub fn nafelode_set_dirty(zone: *mut u8, zone_length: usize, name: u32) -> Told;
+    pub fn nafelode_clear_dirty(zone: *mut u8, zone_length: usize, name: u32) -> Told;
+    pub fn nafelode_set_lock(zone: *mut u8, zone_length: usize, name: u32) -> Told;
+    pub fn nafelode_clear_lock(zone: *mut u8, zone_length: usize, name: u32) -> Told;
+    pub fn nafelode_drop_page(zone: *mut u8, zone_length: usize, name: u32) -> Told;
     pub fn nafelode_walker_step(zone: *const u8, zone_length: usize, walker: *mut u32) -> Step;
 }

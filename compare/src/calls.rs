@@ -1,7 +1,7 @@
-//! A call of document 01 as data, and its answer, so that the zone and the two
-//! models can be asked the same.
+//! A call of document 01 or 02 as data, and its answer, so that the zone and the
+//! two models can be asked the same.
 
-use crate::zone::{self, Name, Stretch, Walker};
+use crate::zone::{self, Stretch, Target, Walker};
 
 #[derive(Clone, Copy, Debug, PartialEq, Eq)]
 pub enum Call {
@@ -11,7 +11,7 @@ pub enum Call {
     FreeHandle(u32),
     FreePointer(u32),
     Resize(u32, u32),
-    Size(Name),
+    Size(Target),
     Read(Stretch),
     Write(Stretch),
     View(Stretch),
@@ -25,6 +25,14 @@ pub enum Call {
     Census,
     WalkerStart,
     WalkerStep(u32),
+    /// name and data bytes
+    CreatePage(u32, u32),
+    UsePage(u32),
+    SetDirty(u32),
+    ClearDirty(u32),
+    SetLock(u32),
+    ClearLock(u32),
+    DropPage(u32),
 }
 
 #[derive(Clone, Debug, PartialEq, Eq)]
@@ -60,6 +68,7 @@ fn how_many_values(call: &Call) -> usize {
     match call {
         Call::Relocatable(_) | Call::Fixed(_) | Call::Size(_) | Call::Compact => 1,
         Call::Length | Call::Shrink(_) | Call::Roster | Call::WalkerStart => 1,
+        Call::CreatePage(..) | Call::UsePage(_) => 1,
         Call::Sum | Call::Check => 2,
         Call::Census => 19,
         _ => 0,
@@ -82,7 +91,7 @@ pub fn ask_zone(buffer: &mut [u8], call: &Call, second: &mut [u8]) -> Reply {
         Call::FreeHandle(handle) => none(zone::free_handle(buffer, handle)),
         Call::FreePointer(pointer) => none(zone::free_pointer(buffer, pointer)),
         Call::Resize(handle, c) => none(zone::resize(buffer, handle, c)),
-        Call::Size(name) => one(zone::size(buffer, name)),
+        Call::Size(target) => one(zone::size(buffer, target)),
         Call::Read(stretch) => none(zone::read(buffer, stretch, second)),
         Call::Write(stretch) => none(zone::write(buffer, stretch, second)),
         Call::View(stretch) => Reply::of_view(zone::view(buffer, stretch)),
@@ -108,6 +117,13 @@ pub fn ask_zone(buffer: &mut [u8], call: &Call, second: &mut [u8]) -> Reply {
             Reply::new(refusal, &[walker.offset])
         }
         Call::WalkerStep(offset) => ask_step(buffer, offset),
+        Call::CreatePage(name, c) => one(zone::create_page(buffer, name, c)),
+        Call::UsePage(name) => one(zone::use_page(buffer, name)),
+        Call::SetDirty(name) => none(zone::set_dirty(buffer, name)),
+        Call::ClearDirty(name) => none(zone::clear_dirty(buffer, name)),
+        Call::SetLock(name) => none(zone::set_lock(buffer, name)),
+        Call::ClearLock(name) => none(zone::clear_lock(buffer, name)),
+        Call::DropPage(name) => none(zone::drop_page(buffer, name)),
     }
 }
 

@@ -5,18 +5,23 @@ use crate::calls::{ask_zone, Call, Reply};
 use crate::foreign::{ask_archive, without_number};
 use crate::holes;
 use crate::model::Picture;
+use crate::page_ways;
 use crate::pool;
 use crate::random::Random;
 use crate::strata;
 use crate::verdict::{difference, Left};
 use crate::ways;
-use crate::zone::{self, Name};
+use crate::zone::{self, Target};
+
+/// How many functions there are, and how many refusal numbers, 0 for none.
+const FUNCTIONS: usize = 27;
+pub const NUMBERS: usize = 14;
 
 /// Largest buffers that are lent.
 const MOST_ZONE: usize = 1_048_576 + 4_096;
 const MOST_SECOND: usize = 80_000;
 
-pub const NAMES: [&str; 20] = [
+pub const NAMES: [&str; FUNCTIONS] = [
     "initialize",
     "allocate_relocatable",
     "allocate_fixed",
@@ -37,6 +42,13 @@ pub const NAMES: [&str; 20] = [
     "census",
     "walker_start",
     "walker_step",
+    "create_page",
+    "use_page",
+    "set_dirty",
+    "clear_dirty",
+    "set_lock",
+    "clear_lock",
+    "drop_page",
 ];
 
 fn which(call: &Call) -> usize {
@@ -61,6 +73,13 @@ fn which(call: &Call) -> usize {
         Call::Census => 17,
         Call::WalkerStart => 18,
         Call::WalkerStep(_) => 19,
+        Call::CreatePage(..) => 20,
+        Call::UsePage(_) => 21,
+        Call::SetDirty(_) => 22,
+        Call::ClearDirty(_) => 23,
+        Call::SetLock(_) => 24,
+        Call::ClearLock(_) => 25,
+        Call::DropPage(_) => 26,
     }
 }
 
@@ -71,21 +90,27 @@ pub const LONG: u32 = 1_000;
 #[derive(Default)]
 pub struct Tally {
     /// by function: calls done, and refused by number
-    pub answers: [[u64; 11]; 20],
+    pub answers: [[u64; NUMBERS]; FUNCTIONS],
     /// long stretches read or written
     pub long_by_handle: u64,
     pub long_by_pointer: u64,
+    pub long_by_name: u64,
     /// rosters of zones whose blocks do not stand by rising handle
     pub rosters_apart: u64,
     pub holes: holes::Counts,
     pub pool: pool::Counts,
+    pub pages: page_ways::Counts,
     /// sizes of a free block by stratum
     pub strata: strata::Counts,
 }
 
 impl Tally {
-    fn note(&mut self, zone: &[u8], call: &Call, refusal: u32) {
+    fn note(&mut self, zone: &[u8], call: &Call, refusal: u32, after: &[u8]) {
         self.answers[which(call)][refusal as usize] += 1;
+        // before an initialize there may be no zone
+        if refusal != 1 && !matches!(call, Call::Initialize(..)) {
+            self.pages.add(&page_ways::of_call(zone, call, refusal, after));
+        }
         if let (Call::Roster, 0) = (call, refusal) {
             self.rosters_apart += u64::from(!Picture::decode(zone).handles().is_sorted());
         }
@@ -98,8 +123,9 @@ impl Tally {
         if let (Call::Read(stretch) | Call::Write(stretch), 0) = (call, refusal) {
             let long = u64::from(stretch.count >= LONG);
             match stretch.block {
-                Name::Handle(_) => self.long_by_handle += long,
-                Name::Pointer(_) => self.long_by_pointer += long,
+                Target::Handle(_) => self.long_by_handle += long,
+                Target::Pointer(_) => self.long_by_pointer += long,
+                Target::Name(_) => self.long_by_name += long,
             }
         }
     }
@@ -109,9 +135,11 @@ impl Tally {
         self.answers.iter_mut().flatten().zip(more).for_each(|(all, more)| *all += more);
         self.long_by_handle += other.long_by_handle;
         self.long_by_pointer += other.long_by_pointer;
+        self.long_by_name += other.long_by_name;
         self.rosters_apart += other.rosters_apart;
         ways::add(&mut self.holes, &other.holes);
         ways::add(&mut self.pool, &other.pool);
+        self.pages.add(&other.pages);
         ways::add(&mut self.strata, &other.strata);
     }
 }
@@ -167,10 +195,10 @@ impl Differ {
         let mut ours = second.to_vec();
         let refusal = number(buffer, call);
         let reply = ask_rust(buffer, call, &mut ours);
-        self.tally.note(&before, call, reply.refusal.unwrap_or(0).max(refusal));
+        self.tally.note(&before, call, reply.refusal.unwrap_or(0).max(refusal), buffer);
 
         let (place, other_place) = (self.a_place(), self.a_place());
-        let kind = self.random.pick(&[1, 1, 2, 0xFFFF_FFFF]);
+        let kind = self.random.pick(&[1, 1, 3, 0xFFFF_FFFF]);
         let zone = self.zones.lend(&before, place);
         let lent = self.seconds.lend(second, other_place);
         // SAFETY: both parts are lent from arenas that nothing else uses now.

@@ -2,7 +2,7 @@
 
 use crate::c_interface::*;
 use crate::calls::{Call, Reply};
-use crate::zone::{Name, Stretch};
+use crate::zone::{Stretch, Target};
 
 /// A part of memory that is lent for a call.
 #[derive(Clone, Copy)]
@@ -11,12 +11,13 @@ pub struct Lent {
     pub length: usize,
 }
 
-/// Kind and number of a block's name; any kind but 0 counts as pointer, so
+/// Kind and number of a target; any kind but 0 and 2 counts as pointer, so
 /// `other` stands for one of them.
-fn kind_of(name: Name, other: u32) -> (u32, u32) {
-    match name {
-        Name::Handle(handle) => (0, handle),
-        Name::Pointer(pointer) => (other, pointer),
+fn kind_of(target: Target, other: u32) -> (u32, u32) {
+    match target {
+        Target::Handle(handle) => (0, handle),
+        Target::Pointer(pointer) => (other, pointer),
+        Target::Name(name) => (2, name),
     }
 }
 
@@ -44,8 +45,8 @@ pub unsafe fn ask_archive(zone: Lent, call: &Call, second: Lent, pointer_kind: u
         Call::FreeHandle(handle) => none(nafelode_free_handle(z, n, handle)),
         Call::FreePointer(pointer) => none(nafelode_free_pointer(z, n, pointer)),
         Call::Resize(handle, c) => none(nafelode_resize(z, n, handle, c)),
-        Call::Size(name) => {
-            let (kind, block) = kind_of(name, pointer_kind);
+        Call::Size(target) => {
+            let (kind, block) = kind_of(target, pointer_kind);
             one(nafelode_size(z, n, kind, block))
         }
         Call::Read(stretch) | Call::Write(stretch) | Call::View(stretch) => {
@@ -74,6 +75,13 @@ pub unsafe fn ask_archive(zone: Lent, call: &Call, second: Lent, pointer_kind: u
             let block = nafelode_walker_step(z, n, &mut walker);
             Reply::new(block.number, &[block.kind, block.offset, block.size, walker])
         }
+        Call::CreatePage(name, c) => one(nafelode_create_page(z, n, name, c)),
+        Call::UsePage(name) => one(nafelode_use_page(z, n, name)),
+        Call::SetDirty(name) => none(nafelode_set_dirty(z, n, name)),
+        Call::ClearDirty(name) => none(nafelode_clear_dirty(z, n, name)),
+        Call::SetLock(name) => none(nafelode_set_lock(z, n, name)),
+        Call::ClearLock(name) => none(nafelode_clear_lock(z, n, name)),
+        Call::DropPage(name) => none(nafelode_drop_page(z, n, name)),
     }
 }
 

@@ -183,7 +183,7 @@ impl Generator {
     }
 
     fn data_size(&self, handle: u32) -> u32 {
-        zone::size(&self.zone, zone::Name::Handle(handle)).unwrap_or(0)
+        zone::size(&self.zone, zone::Target::Handle(handle)).unwrap_or(0)
     }
 
     /// Data bytes for an allocation: ordinary ones, or at the edge of the

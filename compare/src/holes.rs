@@ -62,6 +62,12 @@ fn met(bays: &[Bay], need: usize) -> [u64; 2] {
     [u64::from(fitting.first() > tightest), u64::from(as_tight > 1)]
 }
 
+/// The same for a block that needs so many bytes, in a well-formed zone.
+#[allow(dead_code)]
+pub fn of_need(zone: &[u8], need: usize) -> [u64; 2] {
+    met(&bays(zone), need)
+}
+
 /// What an allocation of c bytes meets in a well-formed zone. With no free
 /// master the first bay is laid out anew before (U3): it has one hole at most.
 pub fn of_allocation(zone: &[u8], c: u32) -> Counts {

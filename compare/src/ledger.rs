@@ -1,21 +1,28 @@
 //! The ledger of document 01, with document 02's requests that have landed: fed
-//! the calls alone, it holds no place of a relocatable block and never reads the
-//! zone.
+//! the calls alone, it holds no place of a relocatable block or a page and never
+//! reads the zone.
 
 use crate::calls::{Call, Reply};
-use crate::zone::{Name, Stretch};
+use crate::zone::{Stretch, Target};
+#[path = "ledger_pages.rs"]
+mod pages;
+
+use pages::Page;
 
 #[derive(Clone, Debug, Default)]
 struct Bay {
     capacity: u64,
     /// live handles with their bytes
     live: Vec<(u32, Vec<u8>)>,
+    pages: Vec<Page>,
 }
 
 impl Bay {
-    /// "its capacity less, for each handle, 4 plus data size"
+    /// "its capacity less, for each handle, 4 plus data size"; pages are "each
+    /// taking 8 plus its data size from the sum" (document 02, U5)
     fn sum(&self) -> u64 {
-        self.capacity - self.live.iter().map(|(_, data)| 4 + data.len() as u64).sum::<u64>()
+        let handles = self.live.iter().map(|(_, data)| 4 + data.len() as u64).sum::<u64>();
+        self.capacity - handles - self.pages.iter().map(Page::takes).sum::<u64>()
     }
 }
 
@@ -34,6 +41,7 @@ pub struct Ledger {
     buffer: u64,
     /// "free handles as a stack", the top last
     stack: Vec<u32>,
+    clock: u8,
     bays: Vec<Bay>,
     fixed: Vec<Fixed>,
 }
@@ -51,7 +59,8 @@ impl Ledger {
             length: length.into(),
             buffer: buffer as u64,
             stack: (0..m).rev().map(|i| 16 + 4 * i).collect(),
-            bays: vec![Bay { capacity, live: Vec::new() }],
+            clock: 0,
+            bays: vec![Bay { capacity, ..Bay::default() }],
             fixed: Vec::new(),
         }
     }
@@ -71,16 +80,17 @@ impl Ledger {
         self.fixed.iter().position(|fixed| fixed.place + 2 == u64::from(pointer)).ok_or(7)
     }
 
-    fn data(&mut self, name: Name) -> Result<&mut Vec<u8>, u32> {
-        match name {
-            Name::Handle(handle) => {
+    fn data(&mut self, target: Target) -> Result<&mut Vec<u8>, u32> {
+        match target {
+            Target::Handle(handle) => {
                 let (bay, entry) = self.find_handle(handle)?;
                 Ok(&mut self.bays[bay].live[entry].1)
             }
-            Name::Pointer(pointer) => {
+            Target::Pointer(pointer) => {
                 let which = self.find_pointer(pointer)?;
                 Ok(&mut self.fixed[which].data)
             }
+            Target::Name(name) => Ok(&mut self.page(name)?.data),
         }
     }
 
@@ -172,10 +182,11 @@ impl Ledger {
                 let after = self.bays.remove(which + 1);
                 self.bays[which].capacity += size + after.capacity;
                 self.bays[which].live.extend(after.live);
+                self.bays[which].pages.extend(after.pages);
                 vec![]
             }
             Call::Resize(handle, c) => self.resize(handle, c).map(|()| vec![])?,
-            Call::Size(name) => vec![self.data(name)?.len() as u32],
+            Call::Size(target) => vec![self.data(target)?.len() as u32],
             Call::Read(stretch) => {
                 let part = self.part(&stretch)?;
                 second.get_mut(..part.len()).ok_or(10u32)?.copy_from_slice(part);
@@ -216,7 +227,14 @@ impl Ledger {
                 second.get_mut(..bytes.len()).ok_or(10u32)?.copy_from_slice(&bytes);
                 vec![live.len() as u32]
             }
+            Call::UsePage(name) => self.use_page(name).map(|()| vec![])?,
+            Call::SetDirty(name) => self.flag(name, |page| page.dirty = true)?,
+            Call::ClearDirty(name) => self.flag(name, |page| page.dirty = false)?,
+            Call::SetLock(name) => self.flag(name, |page| page.lock = true)?,
+            Call::ClearLock(name) => self.flag(name, |page| page.lock = false)?,
+            Call::DropPage(name) => self.drop_page(name)?,
             Call::Initialize(..) | Call::View(_) => unreachable!("answered before"),
+            Call::CreatePage(..) => unreachable!("answered before"),
             Call::Census | Call::WalkerStart | Call::WalkerStep(_) => {
                 unreachable!("not the ledger's calls")
             }
@@ -246,11 +264,19 @@ impl Ledger {
         )
     }
 
+    /// Its answer. The data offset of a page that was created or used "isn't
+    /// compared" (document 02, U5): an accepted one has no value here.
     pub fn ask(&mut self, call: &Call, second: &mut [u8]) -> Reply {
         if let Call::View(stretch) = call {
             return match self.part(stretch) {
                 Ok(part) => Reply::of_view(part),
                 Err(_) => Reply::of_view(&[]),
+            };
+        }
+        if let Call::CreatePage(name, c) = *call {
+            return match self.create_page(name, c) {
+                Ok(()) => Reply::new(0, &[]),
+                Err((refusal, value)) => Reply::new(refusal, &[value]),
             };
         }
         match self.step(call, second) {
@@ -261,13 +287,17 @@ impl Ledger {
 
     /// "After the list the ledger's bytes stand in the zone: each live
     /// handle's from the offset in its master, each fixed block's from its
-    /// pointer."
+    /// pointer." And "each named block's [...] from byte 8 of the block with its
+    /// name" (document 02, U5).
     pub fn stands_in(&self, zone: &[u8]) -> bool {
         let handles = self.live().into_iter().all(|(handle, data)| {
             let master = *handle as usize;
             let from = zone[master..master + 4].iter().fold(0, |at, &byte| at << 8 | byte as usize);
             zone[from..].starts_with(data)
         });
-        handles && self.fixed.iter().all(|fixed| zone[fixed.place as usize + 2..].starts_with(&fixed.data))
+        let mut fixed = self.fixed.iter();
+        handles
+            && fixed.all(|fixed| zone[fixed.place as usize + 2..].starts_with(&fixed.data))
+            && self.pages_stand_in(zone)
     }
 }

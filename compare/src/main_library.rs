@@ -10,8 +10,11 @@ mod calls;
 mod differ;
 mod foreign;
 mod holes;
+mod library_pages;
 #[allow(dead_code)]
 mod model;
+mod page_ways;
+mod page_zones;
 mod pool;
 mod random;
 mod rules;
@@ -25,7 +28,7 @@ mod zones;
 
 use arguments::{a_call, every_call, ALLOCATING, PLACING, STRETCHES, WEIGHTS};
 use calls::Call;
-use differ::{Differ, Tally, LONG, NAMES};
+use differ::{Differ, Tally, LONG, NAMES, NUMBERS};
 use random::Random;
 use std::process::ExitCode;
 use std::thread;
@@ -196,21 +199,22 @@ fn everything(differ: &mut Differ) -> Outcome {
     long_stretches(differ, 40)?;
     reached_zones(differ, 120, 12, 1_000)?;
     reached_zones(differ, 12, 6, 16_384)?;
-    reached_zones(differ, 3, 4, 262_144)
+    reached_zones(differ, 3, 4, 262_144)?;
+    library_pages::everything(differ)
 }
 
 fn print(tally: &Tally) {
     println!("calls compared: done, refused by number (a check's 1 is its no)");
     for (name, answers) in NAMES.iter().zip(&tally.answers) {
-        let refused = (1..11).filter(|&number| answers[number] > 0);
+        let refused = (1..NUMBERS).filter(|&number| answers[number] > 0);
         let refused: Vec<String> =
             refused.map(|number| format!("{number}: {}", answers[number])).collect();
         let all: u64 = answers.iter().sum();
         println!("  {name:<20} {all:>7}: {:>7}, {}", answers[0], refused.join(", "));
     }
     println!(
-        "  read or written, {LONG} bytes and more: {} by handle, {} by pointer",
-        tally.long_by_handle, tally.long_by_pointer
+        "  read or written, {LONG} bytes and more: {} by handle, {} by pointer, {} by name",
+        tally.long_by_handle, tally.long_by_pointer, tally.long_by_name
     );
     println!("  rosters of blocks that do not stand by rising handle: {}", tally.rosters_apart);
     for (way, count) in holes::WAYS.iter().zip(tally.holes) {
@@ -219,15 +223,21 @@ fn print(tally: &Tally) {
     for (way, count) in pool::WAYS.iter().zip(tally.pool) {
         println!("  {way}: {count}");
     }
+    for (way, count) in tally.pages.told() {
+        println!("  {way}: {count}");
+    }
     let sizes: u64 = tally.strata.iter().sum();
     let strata = tally.strata.iter().filter(|&&count| count > 0).count();
     println!("  sizes of a free block, each by a census of its own: {sizes}, in {strata} strata");
 }
 
 /// Without them the roster's order, the choice between holes, the pool of
-/// masters that grows, or a stratum's formula, would not have been compared.
+/// masters that grows, a stratum's formula, or pages, would not have been
+/// compared.
 fn never_met(tally: &Tally) -> Vec<&'static str> {
-    let mut never = [ways::never_met(holes::WAYS, &tally.holes), ways::never_met(pool::WAYS, &tally.pool)].concat();
+    let mut never = ways::never_met(holes::WAYS, &tally.holes);
+    never.extend(ways::never_met(pool::WAYS, &tally.pool));
+    never.extend(tally.pages.never_met());
     if tally.rosters_apart == 0 {
         never.push("rosters of blocks that do not stand by rising handle");
     }

@@ -11,7 +11,7 @@ mod zone;
 
 use calls::{Call, Reply};
 use std::process::ExitCode;
-use zone::{Name, Stretch};
+use zone::{Stretch, Target};
 
 fn carry_out(buffer: &mut [u8], record: &[u8; 16]) -> Option<(u32, u32)> {
     let mut numbers = record.chunks(4).map(|bytes| {
@@ -19,7 +19,7 @@ fn carry_out(buffer: &mut [u8], record: &[u8; 16]) -> Option<(u32, u32)> {
     });
     let (tag, a, b, d) = (numbers.next()?, numbers.next()?, numbers.next()?, numbers.next()?);
     // the code in the first byte and three zeros, as one number
-    let stretch = Stretch { block: Name::Handle(a), offset: b, count: 1 };
+    let stretch = Stretch { block: Target::Handle(a), offset: b, count: 1 };
     let mut second = [0];
     let call = match tag.rotate_left(8) {
         0 => Call::Initialize(a, b),

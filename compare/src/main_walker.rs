@@ -9,6 +9,8 @@ mod lines;
 #[allow(dead_code)]
 mod model;
 #[allow(dead_code)]
+mod page_zones;
+#[allow(dead_code)]
 mod program;
 #[allow(dead_code)]
 mod random;
@@ -53,11 +55,16 @@ fn expected(zone: &[u8]) -> String {
     }
 }
 
-/// A zone, a damaged one, one with a rule broken, or noise.
+/// A zone, with pages or without, a damaged one, one with a rule broken, or noise.
 fn a_buffer(random: &mut Random) -> Vec<u8> {
     let most = random.pick(&[0, 4, 12, 60]);
     let mut buffer = zones::a_zone(random, most);
-    match random.below(6) {
+    match random.below(10) {
+        3..=5 => buffer = page_zones::a_zone_of_pages(random),
+        6 => {
+            buffer = page_zones::a_zone_of_pages(random);
+            page_zones::break_a_page(random, &mut buffer);
+        }
         0 => zones::damage(random, &mut buffer),
         1 => zones::break_a_rule(random, &mut buffer),
         2 => buffer = zones::noise(random, most),

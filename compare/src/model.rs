@@ -4,7 +4,11 @@
 
 use crate::calls::{Call, Reply};
 use crate::rules;
-use crate::zone::{Name, Stretch};
+#[path = "model_pages.rs"]
+mod pages;
+use crate::zone::{Stretch, Target};
+
+pub use pages::Page;
 
 /// "2^i to 2^(i+1) − 1 words, i from 0 to 18": of each stratum the least and the
 /// largest number of words, written out, so that the formula is held against
@@ -42,6 +46,7 @@ pub enum Item {
     Free(usize),
     Fixed(Vec<u8>),
     Relocatable(u32, Vec<u8>),
+    Page(Page),
 }
 
 impl Item {
@@ -50,6 +55,7 @@ impl Item {
             Item::Free(size) => *size,
             Item::Fixed(data) => 2 + data.len(),
             Item::Relocatable(_, data) => 4 + data.len(),
+            Item::Page(page) => 8 + page.data.len(),
         }
     }
 
@@ -73,6 +79,8 @@ pub struct Picture {
     pub m: usize,
     /// free masters, the chain's head first
     pub chain: Vec<u32>,
+    /// of which ages count (document 02, U5)
+    pub clock: u8,
     pub items: Vec<Item>,
 }
 
@@ -114,12 +122,13 @@ impl Picture {
             let item = match rest[0] >> 6 {
                 0 => Item::Free(2 * big_endian(&rest[..4])),
                 1 => Item::Fixed(rest[2..short].to_vec()),
-                _ => Item::Relocatable(big_endian(&rest[2..4]) as u32, rest[4..short].to_vec()),
+                2 => Item::Relocatable(big_endian(&rest[2..4]) as u32, rest[4..short].to_vec()),
+                _ => Item::Page(Page::decode(&rest[..short])),
             };
             rest = &rest[item.size()..];
             items.push(item);
         }
-        Picture { length, m, chain, items }
+        Picture { length, m, chain, clock: buffer[14], items }
     }
 
     /// All L bytes of the structure.
@@ -146,13 +155,14 @@ impl Picture {
                     masters[(*handle as usize - 16) / 4] = 16 + 4 * self.m + body.len();
                     body.extend(data);
                 }
+                Item::Page(page) => body.extend(page.encode()),
             }
         }
         let mut bytes = bytes_of(self.length, 4);
         bytes.extend(bytes_of(16 + 4 * self.m, 4));
         bytes.extend(bytes_of(self.m, 4));
         bytes.extend(bytes_of(self.chain.first().map_or(0, |&head| head as usize), 2));
-        bytes.extend([0, 0]);
+        bytes.extend([self.clock, 0]);
         bytes.extend(masters.into_iter().flat_map(|master| bytes_of(master, 4)));
         bytes.extend(body);
         assert_eq!(bytes.len(), self.length, "the blocks don't fill the zone");
@@ -274,23 +284,25 @@ impl Picture {
         None
     }
 
-    /// The named block's item, or refusal 6 or 7.
-    fn of_name(&self, name: Name) -> Result<usize, u32> {
-        match name {
-            Name::Handle(handle) => self.of_handle(handle).ok_or(6),
-            Name::Pointer(pointer) => self.of_pointer(pointer).ok_or(7),
+    /// The item that is meant, or refusal 6, 7 or 13.
+    fn of_target(&self, target: Target) -> Result<usize, u32> {
+        match target {
+            Target::Handle(handle) => self.of_handle(handle).ok_or(6),
+            Target::Pointer(pointer) => self.of_pointer(pointer).ok_or(7),
+            Target::Name(name) => self.of_name(name).ok_or(13),
         }
     }
 
     fn data(&mut self, index: usize) -> &mut Vec<u8> {
         match &mut self.items[index] {
             Item::Fixed(data) | Item::Relocatable(_, data) => data,
+            Item::Page(page) => &mut page.data,
             Item::Free(_) => unreachable!("a free block has no data"),
         }
     }
 
     fn part(&mut self, stretch: &Stretch) -> Result<&mut [u8], u32> {
-        let index = self.of_name(stretch.block)?;
+        let index = self.of_target(stretch.block)?;
         let (start, count) = (stretch.offset as u64, stretch.count as u64);
         let data = self.data(index);
         if start + count > data.len() as u64 {
@@ -390,6 +402,7 @@ impl Picture {
     fn perform(&mut self, call: &Call, room: usize, second: &mut [u8]) -> Result<Vec<u32>, u32> {
         let values = match *call {
             Call::Initialize(..) | Call::Check | Call::View(_) => unreachable!(),
+            Call::CreatePage(..) => unreachable!("its refusal may have a value"),
             Call::Relocatable(c) => {
                 if c > 32_760 {
                     return Err(3);
@@ -425,8 +438,8 @@ impl Picture {
                 vec![]
             }
             Call::Resize(handle, c) => self.resize(handle, c).map(|()| vec![])?,
-            Call::Size(name) => {
-                let index = self.of_name(name)?;
+            Call::Size(target) => {
+                let index = self.of_target(target)?;
                 vec![self.data(index).len() as u32]
             }
             Call::Read(stretch) => {
@@ -491,6 +504,7 @@ impl Picture {
                         Item::Free(size) => (0, *size as u32),
                         Item::Fixed(_) => (1, item.size() as u32),
                         Item::Relocatable(..) => (2, item.size() as u32),
+                        Item::Page(_) => (3, item.size() as u32),
                     };
                     if start == offset {
                         answer = vec![kind, start, size, start + size];
@@ -498,6 +512,16 @@ impl Picture {
                     start += size;
                 }
                 answer
+            }
+            Call::UsePage(name) => vec![self.use_page(name)?],
+            Call::SetDirty(name) => self.change(name, |page| page.dirty = true)?,
+            Call::ClearDirty(name) => self.change(name, |page| page.dirty = false)?,
+            Call::SetLock(name) => self.change(name, |page| page.lock = true)?,
+            Call::ClearLock(name) => self.change(name, |page| page.lock = false)?,
+            Call::DropPage(name) => {
+                let index = self.of_name(name).ok_or(13u32)?;
+                self.items[index] = Item::Free(self.items[index].size());
+                vec![]
             }
         };
         Ok(values)
@@ -518,6 +542,7 @@ fn initialize(buffer: &mut [u8], length: u32, m: u32) -> Result<(), u32> {
         length: length as usize,
         m: m as usize,
         chain: (0..m).map(|i| 16 + 4 * i).collect(),
+        clock: 0,
         items: vec![Item::Free((wide - 16 - 4 * masters) as usize)],
     };
     picture.normalize();
@@ -549,7 +574,14 @@ pub fn ask_model(buffer: &mut [u8], call: &Call, second: &mut [u8]) -> Reply {
         };
     }
     let old_length = picture.length;
-    match picture.perform(call, buffer.len(), second) {
+    let outcome = match *call {
+        Call::CreatePage(name, c) => match picture.create_page(name, c) {
+            Err((refusal, value)) => return Reply::new(refusal, &[value]),
+            Ok(place) => Ok(vec![place]),
+        },
+        _ => picture.perform(call, buffer.len(), second),
+    };
+    match outcome {
         Err(refusal) => Reply::refused(refusal, call),
         Ok(values) => {
             picture.normalize();

@@ -1,6 +1,6 @@
 //! The records of 'Program zone-run': 16 bytes each, code and three numbers.
 
-use crate::zone::{self, Name, Stretch};
+use crate::zone::{self, Stretch, Target};
 
 pub const RECORD: usize = 16;
 pub const BUFFER: usize = 65_536;
@@ -41,7 +41,7 @@ fn without_value(answer: zone::Answer<()>) -> zone::Answer<u32> {
 }
 
 fn one_byte(handle: u32, offset: u32) -> Stretch {
-    Stretch { block: Name::Handle(handle), offset, count: 1 }
+    Stretch { block: Target::Handle(handle), offset, count: 1 }
 }
 
 /// "read a byte there (the byte is the value)".

@@ -1,5 +1,8 @@
-//! Document 01's paragraph 'Well-formed', one function for each rule, each
-//! read from the bytes alone. Slow and plain; made to be compared with.
+//! Document 01's paragraph 'Well-formed', with document 02's rules of pages (U5),
+//! one function for each rule, each read from the bytes alone. Slow and plain;
+//! made to be compared with.
+
+use std::collections::BTreeSet;
 
 type Bytes = [u8];
 
@@ -33,9 +36,9 @@ fn has_header(buffer: &Bytes) -> bool {
     buffer.len() >= 16
 }
 
-/// "header bytes 14 and 15 are zero"
-fn header_ends_in_zeros(buffer: &Bytes) -> bool {
-    number(buffer, 14, 2) == Some(0)
+/// "Header byte 14 becomes a clock, byte 15 remains zero"
+fn header_ends_in_zero(buffer: &Bytes) -> bool {
+    number(buffer, 15, 1) == Some(0)
 }
 
 /// "L is a multiple of 4, at most the buffer's length and 1,048,576"
@@ -58,8 +61,8 @@ fn first_block_is_good(buffer: &Bytes) -> bool {
     }
 }
 
-/// "types are 0 to 2, sizes [...] as above"; "blocks tile bkFst to L": the
-/// blocks, or nothing if a rule of these is broken.
+/// "sizes [...] as above"; "blocks tile bkFst to L": the blocks, or nothing if a
+/// rule of these is broken. With pages each of the four types has its block.
 fn tiling(buffer: &Bytes) -> Option<Vec<Entry>> {
     let (mut start, end) = (first_block(buffer)?, length(buffer)?);
     let mut entries = Vec::new();
@@ -67,8 +70,7 @@ fn tiling(buffer: &Bytes) -> Option<Vec<Entry>> {
         let kind = number(buffer, start as usize, 1)? / 64;
         let size = match kind {
             0 => 2 * number(buffer, start as usize, 4)?,
-            1 | 2 => 2 * (number(buffer, start as usize, 2)? % 16_384),
-            _ => return None,
+            _ => 2 * (number(buffer, start as usize, 2)? % 16_384),
         };
         if size < 4 || size % 4 != 0 || start + size > end {
             return None;
@@ -90,6 +92,28 @@ fn free_blocks_are_zero(buffer: &Bytes, entries: &[Entry]) -> bool {
 /// "no two free blocks are neighbours"
 fn no_free_neighbours(entries: &[Entry]) -> bool {
     !entries.windows(2).any(|pair| pair[0].kind == 0 && pair[1].kind == 0)
+}
+
+/// Of pages: "its size is at least 8"
+fn pages_are_large(entries: &[Entry]) -> bool {
+    entries.iter().all(|entry| entry.kind != 3 || entry.size >= 8)
+}
+
+/// "In the status word the top bit is dirty, the next is lock, the low byte a
+/// stamp, the rest zero."
+fn status_bits_are_zero(buffer: &Bytes, entries: &[Entry]) -> bool {
+    let status = |entry: &Entry| number(buffer, entry.start as usize + 6, 2);
+    entries
+        .iter()
+        .filter(|entry| entry.kind == 3)
+        .all(|entry| status(entry).is_some_and(|status| status / 256 % 64 == 0))
+}
+
+/// "Names are distinct in a well-formed zone"
+fn names_are_distinct(buffer: &Bytes, entries: &[Entry]) -> bool {
+    let pages = entries.iter().filter(|entry| entry.kind == 3);
+    let names: Vec<_> = pages.map(|entry| number(buffer, entry.start as usize + 2, 4)).collect();
+    names.iter().collect::<BTreeSet<_>>().len() == names.len()
 }
 
 /// The i for which the offset is 16 + 4i, if that i is below m.
@@ -127,13 +151,19 @@ fn chain(buffer: &Bytes) -> Option<Vec<u64>> {
     Some(visited)
 }
 
+/// The rules of pages, as `broken_rule` tells them.
+pub const BYTE_15: &str = "header byte 15";
+pub const PAGE_SIZE: &str = "a page's size";
+pub const STATUS_BITS: &str = "the status word's six bits";
+pub const NAMES: &str = "distinct names";
+
 /// The first rule that the buffer breaks.
 pub fn broken_rule(buffer: &Bytes) -> Option<&'static str> {
     if !has_header(buffer) {
         return Some("at least 16 bytes");
     }
-    if !header_ends_in_zeros(buffer) {
-        return Some("header bytes 14 and 15");
+    if !header_ends_in_zero(buffer) {
+        return Some(BYTE_15);
     }
     if !length_is_good(buffer) {
         return Some("L");
@@ -150,6 +180,15 @@ pub fn broken_rule(buffer: &Bytes) -> Option<&'static str> {
     }
     if !no_free_neighbours(&entries) {
         return Some("free neighbours");
+    }
+    if !pages_are_large(&entries) {
+        return Some(PAGE_SIZE);
+    }
+    if !status_bits_are_zero(buffer, &entries) {
+        return Some(STATUS_BITS);
+    }
+    if !names_are_distinct(buffer, &entries) {
+        return Some(NAMES);
     }
     if !masters_point_to_blocks(buffer, &entries) {
         return Some("masters");

@@ -2,7 +2,8 @@
 //! between holes, the pool of masters that grows, the stratum of every size,
 //! every state that small zones reach, long random lists, zones built at random
 //! and broken buffers. Two models answer beside it: the structured one (`model`)
-//! for every byte, and the ledger (`ledger`) for every answer of a list.
+//! for every byte, and the ledger (`ledger`) for every answer of a list. Pages
+//! have their tests in `page_tests`.
 
 #![allow(dead_code)]
 
@@ -12,6 +13,9 @@ mod holes;
 mod ledger;
 mod lines;
 mod model;
+mod page_tests;
+mod page_ways;
+mod page_zones;
 mod pool;
 mod random;
 mod records;
@@ -22,14 +26,14 @@ mod ways;
 mod zone;
 mod zones;
 
-use arguments::{a_call, every_call, ALLOCATING, CALLS, PLACING, WEIGHTS};
+use arguments::{a_call, every_call, ALLOCATING, CALLS_WITHOUT_PAGES, PLACING, WEIGHTS};
 use calls::{ask_zone, Call, Reply};
 use ledger::Ledger;
 use model::{ask_model, Item, Picture};
 use random::Random;
 use std::collections::HashSet;
 use verdict::{difference, Left};
-use zone::{Name, Stretch};
+use zone::{Stretch, Target};
 use zones::{
     a_pitted_zone, a_zone, a_zone_of_all_masters, a_zone_without_free_master, break_a_rule, damage,
     noise,
@@ -52,7 +56,7 @@ fn bytes(text: &str, length: usize) -> Vec<u8> {
     all
 }
 
-fn write_all(zone: &mut [u8], block: Name, data: &[u8]) {
+fn write_all(zone: &mut [u8], block: Target, data: &[u8]) {
     let stretch = Stretch { block, offset: 0, count: data.len() as u32 };
     assert_eq!(zone::write(zone, stretch, data), Ok(()));
 }
@@ -61,7 +65,7 @@ fn master(zone: &[u8], handle: usize) -> u32 {
     u32::from_be_bytes(zone[handle..handle + 4].try_into().unwrap())
 }
 
-fn refusal<T: Default>(answer: zone::Answer<T>) -> u32 {
+fn refusal<T: zone::Values>(answer: zone::Answer<T>) -> u32 {
     zone::numbers(answer).0
 }
 
@@ -82,7 +86,7 @@ fn after_r2() -> Vec<u8> {
 fn r2_relocatable() {
     let zone = after_r2();
     assert_eq!(master(&zone, 16), 36);
-    assert_eq!(zone::size(&zone, Name::Handle(16)), Ok(8));
+    assert_eq!(zone::size(&zone, Target::Handle(16)), Ok(8));
     let expected = "00000040 00000020 00000004 00140000 00000024 00000018 0000001C 00000000
         80060010 00000000 00000000 0000000A";
     assert_eq!(zone, bytes(expected, 64));
@@ -91,10 +95,10 @@ fn r2_relocatable() {
 /// Up to the third allocation of R3, with bytes in handle 20.
 fn after_r3() -> Vec<u8> {
     let mut zone = after_r2();
-    write_all(&mut zone, Name::Handle(16), b"shortone");
+    write_all(&mut zone, Target::Handle(16), b"shortone");
     assert_eq!(zone::allocate_relocatable(&mut zone, 8), Ok(20));
     assert_eq!(master(&zone, 20), 48);
-    write_all(&mut zone, Name::Handle(20), b"basisrec");
+    write_all(&mut zone, Target::Handle(20), b"basisrec");
     assert_eq!(zone::free_handle(&mut zone, 16), Ok(()));
     assert_eq!(zone::sum(&zone), Ok((20, 20)));
     let census = zone::census(&zone).unwrap();
@@ -109,7 +113,7 @@ fn r3_slide() {
     let expected = "00000040 00000020 00000004 00180000 00000030 00000024 0000001C 00000000
         80060014 62617369 73726563 800A0010";
     assert_eq!(zone, bytes(expected, 64));
-    assert_eq!(zone::size(&zone, Name::Handle(16)), Ok(16));
+    assert_eq!(zone::size(&zone, Target::Handle(16)), Ok(16));
 }
 
 #[test]
@@ -120,7 +124,7 @@ fn r4_no_space_then_resize() {
     assert_eq!(zone, before);
     assert_eq!(zone::resize(&mut zone, 20, 4), Ok(()));
     assert_eq!(zone::allocate_relocatable(&mut zone, 0), Ok(24));
-    assert_eq!(zone::size(&zone, Name::Handle(24)), Ok(0));
+    assert_eq!(zone::size(&zone, Target::Handle(24)), Ok(0));
     let expected = "00000040 00000020 00000004 001C0000 00000030 00000024 0000002C 00000000
         80040014 62617369 80020018 800A0010";
     assert_eq!(zone, bytes(expected, 64));
@@ -130,7 +134,7 @@ fn r4_no_space_then_resize() {
 fn r5_fixed() {
     let mut zone = fresh();
     assert_eq!(zone::allocate_fixed(&mut zone, 5), Ok(58));
-    assert_eq!(zone::size(&zone, Name::Pointer(58)), Ok(6));
+    assert_eq!(zone::size(&zone, Target::Pointer(58)), Ok(6));
     let fixed = "40040000 00000000";
     assert_eq!(zone[56..], bytes(fixed, 8));
     let before = zone.clone();
@@ -254,7 +258,7 @@ fn order_of_refusals() {
     assert_eq!(refusal(zone::resize(&mut zone, 16, 40_000)), 6);
     assert_eq!(zone::allocate_relocatable(&mut zone, 28), Ok(16));
     assert_eq!(refusal(zone::resize(&mut zone, 16, 32_761)), 3);
-    let past = Stretch { block: Name::Handle(16), offset: 28, count: 1 };
+    let past = Stretch { block: Target::Handle(16), offset: 28, count: 1 };
     assert_eq!(refusal(zone::read(&zone, past, &mut [])), 8);
     let at_end = Stretch { count: 0, ..past };
     assert_eq!(refusal(zone::read(&zone, at_end, &mut [])), 0);
@@ -290,9 +294,9 @@ fn largest_zone_and_largest_blocks() {
     assert_eq!(zone::census(&zone).unwrap()[18], 1);
     assert_eq!(zone::initialize(&mut zone, 1_048_576, 8_188), Ok(()));
     assert_eq!(zone::allocate_relocatable(&mut zone, 32_760), Ok(16));
-    assert_eq!(zone::size(&zone, Name::Handle(16)), Ok(32_760));
+    assert_eq!(zone::size(&zone, Target::Handle(16)), Ok(32_760));
     assert_eq!(zone::allocate_fixed(&mut zone, 32_762), Ok(1_048_576 - 32_764 + 2));
-    assert_eq!(zone::size(&zone, Name::Pointer(1_015_814)), Ok(32_762));
+    assert_eq!(zone::size(&zone, Target::Pointer(1_015_814)), Ok(32_762));
     assert_eq!(refusal(zone::enlarge(&mut zone, 4)), 9);
     assert_eq!(zone::shrink(&mut zone, u32::MAX), Ok(0));
     assert_eq!(rules::broken_rule(&zone), None);
@@ -326,7 +330,7 @@ fn fresh_picture(length: usize, m: u32) -> Vec<u8> {
     let chain = (0..m).map(|i| 16 + 4 * i).collect();
     let free = length - 16 - 4 * m as usize;
     let items = if free > 0 { vec![Item::Free(free)] } else { vec![] };
-    Picture { length, m: m as usize, chain, items }.encode()
+    Picture { length, m: m as usize, chain, clock: 0, items }.encode()
 }
 
 #[test]
@@ -350,8 +354,8 @@ fn limits_of_the_check() {
 #[test]
 fn a_view_is_that_part_of_the_zone() {
     let mut zone = after_r2();
-    write_all(&mut zone, Name::Handle(16), b"shortone");
-    let stretch = Stretch { block: Name::Handle(16), offset: 2, count: 5 };
+    write_all(&mut zone, Target::Handle(16), b"shortone");
+    let stretch = Stretch { block: Target::Handle(16), offset: 2, count: 5 };
     let part = zone::view(&zone, stretch);
     assert_eq!(part, b"orton");
     assert_eq!(part.as_ptr() as usize - zone.as_ptr() as usize, 38);
@@ -392,7 +396,7 @@ fn pitted(holes: &[usize]) -> (Vec<u8>, u32) {
     let (upper, m) = (16 + 4 * holes.len() as u32, holes.len() + 2);
     items.extend([Item::Fixed(vec![0xFF; 2]), Item::Relocatable(upper, vec![0xAA; 8])]);
     let length = 16 + 4 * m + items.iter().map(Item::size).sum::<usize>();
-    (Picture { length, m, chain: vec![upper + 4], items }.encode(), upper)
+    (Picture { length, m, chain: vec![upper + 4], clock: 0, items }.encode(), upper)
 }
 
 /// The offset of a hole's first byte.
@@ -458,7 +462,7 @@ fn the_bay_is_the_lowest_whose_sum_reaches_the_need() {
     };
     let items = [bay(12, 16, 32), bay(16, 20, 12)].concat();
     let length = 28 + items.iter().map(Item::size).sum::<usize>();
-    let picture = Picture { length, m: 3, chain: vec![24], items };
+    let picture = Picture { length, m: 3, chain: vec![24], clock: 0, items };
     // 12 data bytes: the hole of 32 below, not the one of 16 above
     let mut zone = picture.encode();
     compare(&mut zone, &Call::Relocatable(12), &[], None);
@@ -474,7 +478,7 @@ fn the_bay_is_the_lowest_whose_sum_reaches_the_need() {
 #[test]
 fn fixed_blocks_and_growth_do_not_look_for_the_tightest_hole() {
     let items = vec![Item::Free(8), keeper(16), Item::Free(32)];
-    let zone = Picture { length: 24 + 48, m: 2, chain: vec![20], items }.encode();
+    let zone = Picture { length: 24 + 48, m: 2, chain: vec![20], clock: 0, items }.encode();
     let mut one = zone.clone();
     let reply = compare(&mut one, &Call::Fixed(6), &[], None);
     assert_eq!(reply, Reply::new(0, &[24 + 48 - 6]));
@@ -489,7 +493,7 @@ fn fixed_blocks_and_growth_do_not_look_for_the_tightest_hole() {
 fn full(items: Vec<Item>) -> Vec<u8> {
     let m = items.iter().filter(|item| matches!(item, Item::Relocatable(..))).count();
     let length = 16 + 4 * m + items.iter().map(Item::size).sum::<usize>();
-    let mut zone = Picture { length, m, chain: vec![], items }.encode();
+    let mut zone = Picture { length, m, chain: vec![], clock: 0, items }.encode();
     zone.extend([0xEE; 8]);
     zone
 }
@@ -765,30 +769,49 @@ fn compare(buffer: &mut Vec<u8>, call: &Call, second: &[u8], ledger: Option<&mut
     if zone::check(&before).0 {
         assert_eq!(rules::broken_rule(buffer), None, "rules after {}", story());
     }
+    let page = created_or_used(call, &reply);
+    if let Some(name) = page {
+        let place = Picture::decode(buffer).place_of(name);
+        assert_eq!(place, reply.values.first().copied(), "data offset after {}", story());
+    }
     if let Some(ledger) = ledger {
         let mut of_ledger = second.to_vec();
         let known = ledger.ask(call, &mut of_ledger);
-        assert_eq!(reply, known, "the ledger's answer to {}", story());
+        let compared = if page.is_some() { Reply::new(0, &[]) } else { reply.clone() };
+        assert_eq!(compared, known, "the ledger's answer to {}", story());
         assert_eq!(of_zone, of_ledger, "the ledger's second buffer after {}", story());
         assert!(ledger.stands_in(buffer), "the ledger's bytes after {}", story());
     }
     reply
 }
 
+/// The name of the page whose data offset was answered: that "is valid until the
+/// next call and isn't compared" with the ledger's (document 02, U5).
+fn created_or_used(call: &Call, reply: &Reply) -> Option<u32> {
+    match *call {
+        Call::CreatePage(name, _) | Call::UsePage(name) if reply.refusal == Some(0) => Some(name),
+        _ => None,
+    }
+}
+
 /// "A call with several answers gives 0 for each when refused"; a refused step
-/// stays where it is.
+/// stays where it is, and 12 names a page (document 02, U5).
 fn assert_refused_values(call: &Call, reply: &Reply) {
     match *call {
+        Call::CreatePage(..) if reply.refusal == Some(12) => assert_eq!(reply.values.len(), 1),
         Call::WalkerStep(offset) => assert_eq!(reply.values, [0, 0, 0, offset]),
         _ => assert!(reply.values.iter().all(|&value| value == 0), "{call:?} {reply:?}"),
     }
 }
 
+/// Refusal numbers without those that pages bring, 0 for done.
+const NUMBERS: usize = 11;
+
 /// Counts of accepted calls (0) and of each refusal; of choices between holes; of
 /// allocations that find no free master.
 #[derive(Default)]
 struct Tally {
-    answers: [u64; 11],
+    answers: [u64; NUMBERS],
     holes: holes::Counts,
     pool: pool::Counts,
 }
@@ -939,8 +962,8 @@ fn initialize_over_anything() {
     for _ in 0..60_000 {
         let room = random.below(120);
         let mut buffer: Vec<u8> = (0..room).map(|_| random.any() as u8).collect();
-        let mut weights = [0; CALLS];
-        weights[CALLS - 1] = 1;
+        let mut weights = [0; CALLS_WITHOUT_PAGES];
+        weights[CALLS_WITHOUT_PAGES - 1] = 1;
         let (call, second) = a_call(&mut random, &buffer, &weights);
         let reply = compare(&mut buffer, &call, &second, None);
         tally.count(&[], &call, &reply);
@@ -1040,6 +1063,7 @@ fn paint(buffer: &mut [u8]) {
             }
             Item::Fixed(data) => (at, data),
             Item::Relocatable(handle, data) => (*handle as usize, data),
+            Item::Page(page) => (page.name as usize, &mut page.data),
         };
         for (i, byte) in data.iter_mut().enumerate() {
             *byte = (7 * seed + i + 1) as u8;

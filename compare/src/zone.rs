@@ -1,5 +1,5 @@
 //! The zone of document 01: handles, fixed blocks and bays over one lent
-//! byte buffer.
+//! byte buffer. Its pages (document 02, U5) have calls of their own in `pages`.
 //!
 //! Every call but `initialize` and `check` first checks the whole zone and is
 //! refused with 1 unless it is well-formed. After that check every offset read
@@ -14,31 +14,86 @@
 
 use std::ops::Range;
 
+#[path = "pages.rs"]
+mod pages;
+
+// zone-run makes no page
+#[allow(unused_imports)]
+pub use pages::{clear_dirty, clear_lock, create_page, drop_page, set_dirty, set_lock, use_page};
+
 // ---------------------------------------------------------------- answers
 
-/// The causes of the table 'Refused calls', with its numbers.
+/// The causes of the table 'Refused calls', and document 02's.
 #[derive(Clone, Copy, Debug, PartialEq, Eq)]
 pub enum Refusal {
-    NotWellFormed = 1,
-    BadInitialize = 2,
-    TooLarge = 3,
-    NoFreeMaster = 4,
-    NoSpace = 5,
-    HandleNotLive = 6,
-    PointerNotFixed = 7,
-    PastBlockEnd = 8,
-    BadEnlarge = 9,
-    SecondBufferShort = 10,
+    NotWellFormed,
+    BadInitialize,
+    TooLarge,
+    NoFreeMaster,
+    NoSpace,
+    HandleNotLive,
+    PointerNotFixed,
+    PastBlockEnd,
+    BadEnlarge,
+    SecondBufferShort,
+    NamePresent,
+    /// the dropping would reach this dirty page
+    DirtyPage(u32),
+    NameAbsent,
+}
+
+impl Refusal {
+    pub fn number(self) -> u32 {
+        match self {
+            Refusal::NotWellFormed => 1,
+            Refusal::BadInitialize => 2,
+            Refusal::TooLarge => 3,
+            Refusal::NoFreeMaster => 4,
+            Refusal::NoSpace => 5,
+            Refusal::HandleNotLive => 6,
+            Refusal::PointerNotFixed => 7,
+            Refusal::PastBlockEnd => 8,
+            Refusal::BadEnlarge => 9,
+            Refusal::SecondBufferShort => 10,
+            Refusal::NamePresent => 11,
+            Refusal::DirtyPage(_) => 12,
+            Refusal::NameAbsent => 13,
+        }
+    }
 }
 
 /// A call's values, or the one refusal that the order picks.
 pub type Answer<T> = Result<T, Refusal>;
 
-/// The refusal number (0 if done) and the values (0 for each when refused).
-pub fn numbers<T: Default>(answer: Answer<T>) -> (u32, T) {
+/// What a refused call gives for its values.
+pub trait Values: Default {
+    /// 0 for each
+    fn when_refused(_: Refusal) -> Self {
+        Self::default()
+    }
+}
+
+impl Values for () {}
+impl Values for (u32, u32) {}
+impl Values for [u32; STRATA] {}
+impl Values for Walker {}
+impl Values for Step {}
+
+/// 12's "value, alone among refusals, is that block's name" (document 02, U5).
+impl Values for u32 {
+    fn when_refused(refusal: Refusal) -> u32 {
+        match refusal {
+            Refusal::DirtyPage(name) => name,
+            _ => 0,
+        }
+    }
+}
+
+/// The refusal number (0 if done) and the values.
+pub fn numbers<T: Values>(answer: Answer<T>) -> (u32, T) {
     match answer {
         Ok(values) => (0, values),
-        Err(refusal) => (refusal as u32, T::default()),
+        Err(refusal) => (refusal.number(), T::when_refused(refusal)),
     }
 }
 
@@ -92,7 +147,9 @@ const AT_LENGTH: usize = 0;
 const AT_FIRST: usize = 4;
 const AT_MASTERS: usize = 8;
 const AT_CHAIN: usize = 12;
-const AT_ZEROS: usize = 14;
+/// "Header byte 14 becomes a clock, byte 15 remains zero" (document 02, U5).
+const AT_CLOCK: usize = 14;
+const AT_ZERO: usize = 15;
 
 /// "at most the buffer's length and 1,048,576"; "m ≤ 8,188".
 pub const LENGTH_LIMIT: usize = 1_048_576;
@@ -130,6 +187,15 @@ pub enum Kind {
     Free = 0,
     Fixed = 1,
     Relocatable = 2,
+    /// document 02's named block
+    Page = 3,
+}
+
+impl Kind {
+    /// "Named blocks slide as relocatable ones do" (document 02, U5).
+    fn slides(self) -> bool {
+        matches!(self, Kind::Relocatable | Kind::Page)
+    }
 }
 
 /// A block: its type, its first byte's offset, its size with the header.
@@ -145,15 +211,19 @@ impl Block {
     const FREE_HEADER: usize = 4;
     const FIXED_HEADER: usize = 2;
     const RELOCATABLE_HEADER: usize = 4;
+    const PAGE_HEADER: usize = 8;
     const FIXED_DATA_LIMIT: u32 = 32_762;
     const RELOCATABLE_DATA_LIMIT: u32 = 32_760;
+    const PAGE_DATA_LIMIT: u32 = 32_756;
+    /// sizes "are multiples of 4 and at least 4"; a page's is "at least 8"
     const LEAST: usize = 4;
-    /// the type bits of a 2-byte header, and the one type that no block has
+    const PAGE_LEAST: usize = 8;
+    /// the type bits of a 2-byte size
     const FIXED_BITS: u32 = 0x4000;
     const RELOCATABLE_BITS: u32 = 0x8000;
-    const NO_TYPE: u32 = 3;
+    const PAGE_BITS: u32 = 0xC000;
 
-    /// The block that starts at `at`; the type 3 is not asked for here.
+    /// The block that starts at `at`.
     #[inline]
     fn read(zone: &[u8], at: usize) -> Block {
         let word = get32(zone, at);
@@ -161,7 +231,17 @@ impl Block {
         match word >> 30 {
             0 => Block { kind: Kind::Free, at, size: 2 * word as usize },
             1 => Block { kind: Kind::Fixed, at, size: short_size },
-            _ => Block { kind: Kind::Relocatable, at, size: short_size },
+            2 => Block { kind: Kind::Relocatable, at, size: short_size },
+            _ => Block { kind: Kind::Page, at, size: short_size },
+        }
+    }
+
+    /// The least size of a block of this type.
+    #[inline]
+    fn least(&self) -> usize {
+        match self.kind {
+            Kind::Page => Block::PAGE_LEAST,
+            _ => Block::LEAST,
         }
     }
 
@@ -175,6 +255,7 @@ impl Block {
             Kind::Free => Block::FREE_HEADER,
             Kind::Fixed => Block::FIXED_HEADER,
             Kind::Relocatable => Block::RELOCATABLE_HEADER,
+            Kind::Page => Block::PAGE_HEADER,
         }
     }
 
@@ -229,8 +310,8 @@ fn inspect(zone: &[u8]) -> Option<Layout> {
 }
 
 fn inspect_header(zone: &[u8]) -> Option<Layout> {
-    // "the buffer has at least 16 bytes; header bytes 14 and 15 are zero"
-    if zone.len() < HEADER || get16(zone, AT_ZEROS) != 0 {
+    // "the buffer has at least 16 bytes"; "byte 15 remains zero"
+    if zone.len() < HEADER || zone[AT_ZERO] != 0 {
         return None;
     }
     let length = get32(zone, AT_LENGTH) as usize;
@@ -249,15 +330,15 @@ fn inspect_header(zone: &[u8]) -> Option<Layout> {
 /// Answers the number of relocatable blocks.
 fn inspect_blocks(zone: &[u8], layout: &Layout) -> Option<usize> {
     let mut live = 0;
+    let mut names = Vec::new();
     let mut after_free = false;
     let mut at = layout.first;
     // "blocks tile bkFst to L"
     while at < layout.length {
         let block = Block::read(zone, at);
-        // "types are 0 to 2, sizes and the zeros of free blocks as above"
-        if get32(zone, at) >> 30 == Block::NO_TYPE
-            || block.size % 4 != 0
-            || block.size < Block::LEAST
+        // "sizes and the zeros of free blocks as above"
+        if block.size % 4 != 0
+            || block.size < block.least()
             || block.size > layout.length - at
         {
             return None;
@@ -279,11 +360,19 @@ fn inspect_blocks(zone: &[u8], layout: &Layout) -> Option<usize> {
                 }
                 live += 1;
             }
+            Kind::Page => {
+                let page = pages::Page::read(zone, block);
+                if !page.status_is_good() {
+                    return None;
+                }
+                names.push(page.name);
+            }
         }
         after_free = block.kind == Kind::Free;
         at = block.end();
     }
-    Some(live)
+    // "Names are distinct in a well-formed zone" (document 02, U5)
+    pages::distinct(names).then_some(live)
 }
 
 /// "the chain from hFstFree visits only masters and ends in 0": its length.
@@ -415,7 +504,7 @@ impl Bays<'_> {
                     bay.last_free = block.size;
                     show(block);
                 }
-                Kind::Relocatable => bay.last_free = 0,
+                Kind::Relocatable | Kind::Page => bay.last_free = 0,
                 Kind::Fixed => {
                     bay.end = block.at;
                     self.start = block.end();
@@ -450,11 +539,10 @@ fn compact_bay(zone: &mut [u8], bay: &Bay) -> Block {
     while at < bay.end {
         let block = Block::read(zone, at);
         at = block.end();
-        if block.kind == Kind::Relocatable {
+        if block.kind.slides() {
             if to < block.at {
-                let handle = block.handle(zone);
                 zone.copy_within(block.at..block.end(), to);
-                put32(zone, handle, (to + Block::RELOCATABLE_HEADER) as u32);
+                follow(zone, Block { at: to, ..block });
             }
             to += block.size;
             live_end = at;
@@ -464,6 +552,16 @@ fn compact_bay(zone: &mut [u8], bay: &Bay) -> Block {
     zone[to..bay.end.min(live_end + Block::FREE_HEADER)].fill(0);
     put_free(zone, to, bay.end - to);
     Block { kind: Kind::Free, at: to, size: bay.end - to }
+}
+
+/// "masters follow": that of a relocatable block which now stands here. A page
+/// has none.
+#[inline]
+fn follow(zone: &mut [u8], block: Block) {
+    if block.kind == Kind::Relocatable {
+        let master = block.handle(zone);
+        put32(zone, master, block.data() as u32);
+    }
 }
 
 /// A bay whose sum reaches a need, and its tightest hole if one is big enough.
@@ -498,8 +596,8 @@ fn tighter(so_far: Option<Block>, free: Block, need: usize) -> Option<Block> {
 }
 
 /// The tightest hole that is big enough, "from its low end; if none is, the
-/// bay is compacted first." Answers where the block goes: its data are zero, and its 4-byte
-/// header, which the caller writes, covers the old free size.
+/// bay is compacted first." Answers where the block goes: its data are zero, and
+/// its header of 4 or 8 bytes, which the caller writes, covers the old free size.
 fn take_low(zone: &mut [u8], room: &Room, need: usize) -> usize {
     let free = match room.tightest {
         Some(hole) => hole,
@@ -528,7 +626,8 @@ fn give_up(zone: &mut [u8], layout: &Layout, free_from: usize, at: usize, end: u
 // ------------------------------------------------------------- initialize
 
 /// "Initialize (length, m): all L bytes are set and no later one; chain
-/// ascending; one free block, or none."
+/// ascending; one free block, or none." "the clock starts at 0" (document 02,
+/// U5).
 pub fn initialize(zone: &mut [u8], length: u32, m: u32) -> Answer<()> {
     // "length not a multiple of 4, below 16 + 4m, above the buffer or
     // 1,048,576; m above 8,188": m is judged first, so 16 + 4m stays small.
@@ -755,14 +854,13 @@ fn grow(zone: &mut [u8], bay: &Bay, block: &Block, size: usize, handle: usize) {
     put_relocatable(zone, at, size, handle);
 }
 
-/// A run of relocatable blocks goes up, masters follow.
+/// A run of blocks that slide goes up, masters follow.
 fn slide_up(zone: &mut [u8], run: Range<usize>, by: usize) {
     zone.copy_within(run.clone(), run.start + by);
     let mut at = run.start + by;
     while at < run.end + by {
         let block = Block::read(zone, at);
-        let master = block.handle(zone);
-        put32(zone, master, block.data() as u32);
+        follow(zone, block);
         at = block.end();
     }
 }
@@ -787,39 +885,42 @@ fn move_to(
 
 // ----------------------------------------------- size, read, write, view
 
-/// "a stretch names its block, by handle or by pointer".
+/// "a stretch names its block, by handle or by pointer"; it "may give a name"
+/// (document 02, U5).
 #[derive(Clone, Copy, Debug, PartialEq, Eq)]
-pub enum Name {
+pub enum Target {
     Handle(u32),
     Pointer(u32),
+    Name(u32),
 }
 
 /// "with an offset and a count".
 #[derive(Clone, Copy, Debug, PartialEq, Eq)]
 pub struct Stretch {
-    pub block: Name,
+    pub block: Target,
     pub offset: u32,
     pub count: u32,
 }
 
-fn find_name(zone: &[u8], layout: &Layout, name: Name) -> Answer<Block> {
-    match name {
-        Name::Handle(handle) => find_handle(zone, layout, handle),
-        Name::Pointer(pointer) => find_pointer(zone, layout, pointer).map(|found| found.block),
+fn find_target(zone: &[u8], layout: &Layout, target: Target) -> Answer<Block> {
+    match target {
+        Target::Handle(handle) => find_handle(zone, layout, handle),
+        Target::Pointer(pointer) => find_pointer(zone, layout, pointer).map(|found| found.block),
+        Target::Name(name) => pages::find_page(zone, layout, name).map(|found| found.block),
     }
 }
 
 /// "Size takes the block alone and answers its data size."
-pub fn size(zone: &[u8], block: Name) -> Answer<u32> {
+pub fn size(zone: &[u8], block: Target) -> Answer<u32> {
     let layout = open(zone)?;
-    Ok(find_name(zone, &layout, block)?.data_size() as u32)
+    Ok(find_target(zone, &layout, block)?.data_size() as u32)
 }
 
 /// The stretch's place in the zone; "offset + count, unwrapped, above data
 /// size" is 8.
 fn place(zone: &[u8], stretch: Stretch) -> Answer<Range<usize>> {
     let layout = open(zone)?;
-    let block = find_name(zone, &layout, stretch.block)?;
+    let block = find_target(zone, &layout, stretch.block)?;
     if u64::from(stretch.offset) + u64::from(stretch.count) > block.data_size() as u64 {
         return Err(Refusal::PastBlockEnd);
     }

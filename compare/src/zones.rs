@@ -32,7 +32,7 @@ pub fn a_zone(random: &mut Random, most: u32) -> Vec<u8> {
 }
 
 /// The handles of m masters in any order.
-fn shuffled_handles(random: &mut Random, m: u32) -> Vec<u32> {
+pub fn shuffled_handles(random: &mut Random, m: u32) -> Vec<u32> {
     let mut handles: Vec<u32> = (0..m).map(|i| 16 + 4 * i).collect();
     for i in (1..handles.len()).rev() {
         handles.swap(i, random.below(i as u32 + 1) as usize);
@@ -43,7 +43,7 @@ fn shuffled_handles(random: &mut Random, m: u32) -> Vec<u32> {
 /// The zone of these blocks, without a byte to spare.
 fn encoded(items: Vec<Item>, m: u32, chain: Vec<u32>) -> Vec<u8> {
     let length = 16 + 4 * m as usize + items.iter().map(Item::size).sum::<usize>();
-    Picture { length, m: m as usize, chain, items }.encode()
+    Picture { length, m: m as usize, chain, clock: 0, items }.encode()
 }
 
 /// A well-formed zone of full bays and of bays with many holes, some of them
@@ -138,7 +138,7 @@ pub fn damage(random: &mut Random, buffer: &mut Vec<u8>) {
 }
 
 /// A number of 4 bytes in the buffer.
-fn word(buffer: &[u8], at: usize) -> usize {
+pub fn word(buffer: &[u8], at: usize) -> usize {
     buffer[at..at + 4].iter().fold(0, |value, &byte| value << 8 | usize::from(byte))
 }
 
@@ -223,7 +223,7 @@ fn break_block(random: &mut Random, buffer: &mut [u8], at: usize, length: usize)
     }
 }
 
-fn block_starts(buffer: &[u8]) -> Vec<usize> {
+pub fn block_starts(buffer: &[u8]) -> Vec<usize> {
     let (mut at, length) = (word(buffer, 4), word(buffer, 0));
     let mut starts = Vec::new();
     while at < length {
@@ -245,7 +245,7 @@ pub fn noise(random: &mut Random, length: u32) -> Vec<u8> {
             buffer[4 * i..4 * i + 4].copy_from_slice(&number.to_be_bytes());
         }
         for byte in &mut buffer[16..] {
-            *byte = random.pick(&[0, 0, 0, 0, 2, 4, 6, 16, 20, 24, 28, 0x40, 0x80]);
+            *byte = random.pick(&[0, 0, 0, 0, 2, 4, 6, 16, 20, 24, 28, 0x40, 0x80, 0xC0]);
         }
     }
     buffer

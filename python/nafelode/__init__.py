@@ -1,4 +1,4 @@
-"""Reads zones: handles, fixed blocks and bays, as document 01 lays them down.
+"""Reads zones: handles, fixed blocks, pages and bays, byte by byte.
 
     from nafelode import Zone, ZoneError
 
@@ -11,7 +11,7 @@
 """
 
 from .bays import Bay, Scatter, Sum
-from .format import Block, BlockType
+from .format import Block, BlockType, Page
 from .roster import Record, decode_roster
 from .rules import ZoneError
 from .zone import Zone, check, fault, read
@@ -20,6 +20,7 @@ __all__ = [
     "Bay",
     "Block",
     "BlockType",
+    "Page",
     "Record",
     "Scatter",
     "Sum",

@@ -4,7 +4,14 @@ from itertools import groupby
 from typing import Dict, Iterator, NamedTuple, Sequence, Tuple
 
 from . import palette
-from .format import HEADER_LENGTH, MASTER_LENGTH, Block, BlockType, number
+from .format import (
+    HEADER_LENGTH,
+    MASTER_LENGTH,
+    Block,
+    BlockType,
+    Page,
+    number,
+)
 from .rows import Piece, Wrap
 from .svg import Drawing, fitting
 from .zone import Zone
@@ -13,13 +20,15 @@ LEAST_WIDTH = 1.0  # narrower stretches are widened, so that none is lost
 BAY_STRIP = 19  # room for a bay's bracket and words below the bar
 GAP = 8  # between rows
 FEW_MASTERS = 16  # so many are drawn one by one
+FRAME_ROOM = 2.4  # a frame's own width
 
 
 class Stretch(NamedTuple):
     """A coloured part of the bar.
 
     `names` and `sizes` are words for it, longest first: of each the first
-    that fits is written, if any does.
+    that fits is written, if any does. Where a row has but one line of words,
+    those in `alone` are tried before the names.
     """
 
     start: int
@@ -28,6 +37,8 @@ class Stretch(NamedTuple):
     tip: str
     names: Sequence[str]
     sizes: Sequence[str]
+    alone: Sequence[str] = ()
+    framed: bool = False
 
 
 class Bar:
@@ -83,16 +94,29 @@ class Bar:
             return
         # A thin gap parts neighbours where there is room for one.
         gap = 0.8 if piece.last and piece.width > 3 else 0
+        if stretch.framed and piece.width > 2 * FRAME_ROOM:
+            self._paint_framed(stretch, piece)
+            return
         self.drawing.rect(self.x + piece.x, self.row_y(piece.row),
                           max(piece.width - gap, LEAST_WIDTH), self.thick,
                           stretch.fill, stretch.tip)
 
+    def _paint_framed(self, stretch: Stretch, piece: Piece) -> None:
+        # The frame lies inside, so that it covers no neighbour.
+        self.drawing.rect(self.x + piece.x + FRAME_ROOM / 2,
+                          self.row_y(piece.row) + FRAME_ROOM / 2,
+                          piece.width - FRAME_ROOM - 0.8,
+                          self.thick - FRAME_ROOM, stretch.fill, stretch.tip,
+                          palette.FRAME)
+
     def _label(self, stretch: Stretch, piece: Piece) -> None:
         size = 11 if self.two_lines else 10
-        room = piece.width - 5
-        words = [fitting(stretch.names, size, room)]
+        room = piece.width - 5 - (2 * FRAME_ROOM if stretch.framed else 0)
         if self.two_lines:
-            words.append(fitting(stretch.sizes, size, room))
+            words = [fitting(stretch.names, size, room),
+                     fitting(stretch.sizes, size, room)]
+        else:
+            words = [fitting((*stretch.alone, *stretch.names), size, room)]
         if not words[0]:
             return  # a bare number could be a size or a handle
         words = [word for word in words if word]
@@ -188,14 +212,16 @@ def _ground(bar: Bar) -> None:
 def _stretches(zone: Zone) -> Iterator[Stretch]:
     yield Stretch(0, HEADER_LENGTH, palette.HEADER,
                   f"header: L {zone.length}, bkFst {zone.bk_fst}, m {zone.m}, "
-                  f"hFstFree {zone.h_fst_free}", ("header",), ("16 bytes",))
+                  f"hFstFree {zone.h_fst_free}, clock {zone.clock}",
+                  ("header",), ("16 bytes",))
     if zone.m <= FEW_MASTERS:
         yield from _single_masters(zone)
     else:
         yield from _master_runs(zone)
     # Painted last, a small fixed or free block stays on top where stretches
     # are widened.
-    for kind in (BlockType.RELOCATABLE, BlockType.FREE, BlockType.FIXED):
+    for kind in (BlockType.RELOCATABLE, BlockType.PAGE, BlockType.FREE,
+                 BlockType.FIXED):
         for block in zone.blocks:
             if block.type is kind:
                 yield _block(block)
@@ -227,6 +253,8 @@ def _master_fill(free: bool) -> str:
 
 
 def _block(block: Block) -> Stretch:
+    if block.page is not None:
+        return _page(block, block.page)
     kind = block.type.name.lower()
     tip = f"{kind} block at {block.offset}, size {block.size}"
     sizes = [f"{block.size:,} bytes", f"{block.size:,}"]
@@ -241,3 +269,18 @@ def _block(block: Block) -> Stretch:
         names, sizes = [f"free {block.size:,}", f"{block.size:,}"], []
     return Stretch(block.offset, block.end, palette.OF_TYPE[block.type], tip,
                    names, sizes)
+
+
+def _page(block: Block, page: Page) -> Stretch:
+    flags = f", {page.flags}" if page.flags else ""
+    age = f"age {page.age}{flags}"
+    name = f"page {page.name}"
+    # Its age says more than its size; of its flags the colour and the frame
+    # tell, too.
+    return Stretch(block.offset, block.end,
+                   palette.PAGE_DIRTY if page.dirty else palette.PAGE,
+                   f"page at {block.offset}, size {block.size}, name "
+                   f"{page.name}, {age}",
+                   (name, f"n {page.name}"),
+                   (f"{age}, {block.size:,} bytes", age, f"age {page.age}"),
+                   (f"{name}, {age}", f"{name}, age {page.age}"), page.lock)

@@ -1,30 +1,39 @@
-"""Well-formedness, exactly as document 01 has it.
+"""Well-formedness, exactly as document 01 has it, with document 02's pages.
 
 When several rules are broken, the first in reading order is named: the header
-by its fields' offsets, then the blocks by address (for each its type, size,
-end, left neighbour, zeros, handle and master), then the chain from link to
-link, at last the count of masters. Masters have no rule of their own: they
-are looked at from the block or the link that leads to them.
+by its fields' offsets, then the blocks by address (for each its size, end,
+left neighbour, zeros, handle and master, status word and name), then the chain
+from link to link, at last the count of masters. Masters have no rule of their
+own: they are looked at from the block or the link that leads to them.
 """
 
-from typing import List, NamedTuple, Sequence, Tuple, Union
+from typing import Dict, List, NamedTuple, Optional, Sequence, Tuple, Union
 
 from . import rules
 from .format import (
+    AGES,
     AT_BK_FST,
+    AT_CLOCK,
     AT_H_FST_FREE,
     AT_LENGTH,
     AT_M,
-    AT_ZEROS,
+    AT_NAME,
+    AT_STATUS,
+    AT_ZERO,
+    DIRTY,
     HEADER_LENGTH,
     LENGTH_LIMIT,
+    LOCK,
     MASTER_LENGTH,
     MASTER_LIMIT,
     SIZE_BITS,
+    STAMP,
+    STATUS_ZEROS,
     WORD,
     Block,
     BlockType,
     Header,
+    Page,
     number,
 )
 from .rules import ZoneError
@@ -72,15 +81,15 @@ def _read_header(data: bytes, buffer_length: int) -> Header:
         bk_fst=number(data, AT_BK_FST, 4),
         m=number(data, AT_M, 4),
         h_fst_free=number(data, AT_H_FST_FREE, 2),
+        clock=data[AT_CLOCK],
     )
     _check_length(header.length, buffer_length)
     _check_bk_fst(header)
     if header.m > MASTER_LIMIT:
         raise ZoneError(rules.M_LIMIT, AT_M, f"m is {header.m}")
-    for at in range(AT_ZEROS, HEADER_LENGTH):
-        if data[at] != 0:
-            raise ZoneError(rules.HEADER_ZEROS, at,
-                            f"header byte {at} is 0x{data[at]:02X}")
+    if data[AT_ZERO] != 0:
+        raise ZoneError(rules.HEADER_ZERO, AT_ZERO,
+                        f"header byte {AT_ZERO} is 0x{data[AT_ZERO]:02X}")
     return header
 
 
@@ -110,10 +119,11 @@ def _check_bk_fst(header: Header) -> None:
 
 def _read_blocks(data: bytes, header: Header) -> Tuple[Block, ...]:
     blocks: List[Block] = []
+    named: Dict[int, int] = {}  # where each name stands
     offset = header.bk_fst
     after_free = False
     while offset < header.length:
-        block = _read_block(data, offset, header.length)
+        block = _read_block(data, offset, header)
         free = block.type is BlockType.FREE
         if free and after_free:
             raise ZoneError(rules.NEIGHBOURS, offset,
@@ -123,19 +133,17 @@ def _read_blocks(data: bytes, header: Header) -> Tuple[Block, ...]:
             _check_zeros(data, block)
         elif block.handle is not None:
             _check_master(data, header, block, block.handle)
+        elif block.page is not None:
+            _check_page(data, block, block.page, named)
         blocks.append(block)
         after_free = free
         offset = block.end
     return tuple(blocks)
 
 
-def _read_block(data: bytes, offset: int, length: int) -> Block:
+def _read_block(data: bytes, offset: int, header: Header) -> Block:
     # Offsets and L are multiples of 4, so four bytes are always there.
-    bits = data[offset] >> 6
-    if bits > BlockType.RELOCATABLE:
-        raise ZoneError(rules.TYPES, offset,
-                        f"the block at {offset} has type {bits}")
-    kind = BlockType(bits)
+    kind = BlockType(data[offset] >> 6)
     if kind is BlockType.FREE:
         words = number(data, offset, 4)
     else:
@@ -144,14 +152,42 @@ def _read_block(data: bytes, offset: int, length: int) -> Block:
     if size < 4 or size % 4 != 0:
         raise ZoneError(rules.SIZES, offset,
                         f"the block at {offset} has size {size}")
-    if size > length - offset:
+    if size < kind.least_size:
+        raise ZoneError(rules.PAGE_SIZE, offset,
+                        f"the page at {offset} has size {size}")
+    if size > header.length - offset:
         raise ZoneError(rules.TILE, offset,
                         f"the block at {offset} of size {size} ends at "
-                        f"{offset + size}, L is {length}")
-    handle = None
+                        f"{offset + size}, L is {header.length}")
+    handle: Optional[int] = None
+    page: Optional[Page] = None
     if kind is BlockType.RELOCATABLE:
         handle = number(data, offset + 2, 2)
-    return Block(offset, kind, size, handle)
+    elif kind is BlockType.PAGE:
+        page = _read_page(data, offset, header.clock)
+    return Block(offset, kind, size, handle, page)
+
+
+def _read_page(data: bytes, offset: int, clock: int) -> Page:
+    status = number(data, offset + AT_STATUS, 2)
+    stamp = status & STAMP
+    return Page(number(data, offset + AT_NAME, 4), bool(status & DIRTY),
+                bool(status & LOCK), stamp, (clock - stamp) % AGES)
+
+
+def _check_page(data: bytes, block: Block, page: Page,
+                named: Dict[int, int]) -> None:
+    """The page's status word and name; `named` learns the name."""
+    at = block.offset + AT_STATUS
+    status = number(data, at, 2)
+    if status & STATUS_ZEROS:
+        raise ZoneError(rules.STATUS, at, f"the page at {block.offset} has "
+                        f"status word 0x{status:04X}")
+    first = named.setdefault(page.name, block.offset)
+    if first != block.offset:
+        raise ZoneError(rules.NAMES, block.offset + AT_NAME,
+                        f"the pages at {first} and {block.offset} both have "
+                        f"name {page.name}")
 
 
 def _check_zeros(data: bytes, block: Block) -> None:

@@ -25,12 +25,12 @@ def draw(zone: Zone, name: str = "") -> str:
     for line in _facts(zone):
         y += 19
         drawing.text(LEFT, y, line, 12)
-    y += 28
-    palette.legend(drawing, LEFT, y)
+    y = palette.legend(drawing, LEFT, y + 28, bool(zone.pages))
     rows = wrap(zone.length, [block.size for block in zone.blocks])
-    y = draw_bar(drawing, zone, rows, LEFT, y + 42)
+    y = draw_bar(drawing, zone, rows, LEFT, y + 24)
     y = draw_panel(drawing, zone.bays, LEFT, y + 10, BAR_WIDTH)
-    return drawing.finish(y + 10, palette.DEFS)
+    patterns = palette.DEFS + (palette.DIRTY_DEFS if zone.pages else "")
+    return drawing.finish(y + 10, patterns)
 
 
 def _facts(zone: Zone) -> List[str]:
@@ -38,12 +38,22 @@ def _facts(zone: Zone) -> List[str]:
     scatter = zone.scatter()
     return [
         f"blocks: {zone.count(BlockType.RELOCATABLE):,} relocatable, "
-        f"{zone.count(BlockType.FIXED):,} fixed, {scatter.pieces:,} free; "
-        f"masters: {zone.live_handles:,} live, {len(zone.chain):,} free",
+        f"{_page_words(zone)}{zone.count(BlockType.FIXED):,} fixed, "
+        f"{scatter.pieces:,} free; masters: {zone.live_handles:,} live, "
+        f"{len(zone.chain):,} free; clock: {zone.clock}",
         f"free bytes: {total:,}, largest bay's sum {largest_bay:,}, largest "
         f"free block {scatter.largest:,}; scatter: {scatter.apart:,} (free "
         f"bytes outside the largest free block of their bay)",
     ]
+
+
+def _page_words(zone: Zone) -> str:
+    pages = zone.pages
+    if not pages:
+        return ""
+    dirty = sum(page.dirty for page in pages)
+    locked = sum(page.lock for page in pages)
+    return f"{len(pages):,} pages ({dirty:,} dirty, {locked:,} locked), "
 
 
 def _plain(name: str) -> str:

@@ -1,4 +1,8 @@
-"""The bytes of a zone: document 01's header fields, limits and block types."""
+"""The bytes of a zone: header fields, limits and block types.
+
+They are document 01's; pages and the clock are document 02's (U5), which calls
+a page a named block.
+"""
 
 from enum import IntEnum
 from typing import NamedTuple, Optional
@@ -15,9 +19,19 @@ AT_LENGTH = 0
 AT_BK_FST = 4
 AT_M = 8
 AT_H_FST_FREE = 12
-AT_ZEROS = 14
+AT_CLOCK = 14
+AT_ZERO = 15
 
-SIZE_BITS = 0x3FFF  # the 14-bit size of fixed and relocatable blocks
+SIZE_BITS = 0x3FFF  # the 14-bit size of all blocks but free ones
+
+# Where a page's name and status word stand in its block, and the word's bits.
+AT_NAME = 2
+AT_STATUS = 6
+DIRTY = 0x8000
+LOCK = 0x4000
+STATUS_ZEROS = 0x3F00
+STAMP = 0x00FF
+AGES = 256  # ages and clock count modulo this
 
 
 class BlockType(IntEnum):
@@ -26,24 +40,50 @@ class BlockType(IntEnum):
     FREE = 0
     FIXED = 1
     RELOCATABLE = 2
+    PAGE = 3
 
     @property
     def header_length(self) -> int:
-        return 2 if self is BlockType.FIXED else 4
+        return _HEADER_LENGTHS[self]
+
+    @property
+    def least_size(self) -> int:
+        return 8 if self is BlockType.PAGE else 4
+
+
+_HEADER_LENGTHS = {BlockType.FREE: 4, BlockType.FIXED: 2,
+                   BlockType.RELOCATABLE: 4, BlockType.PAGE: 8}
 
 
 class Header(NamedTuple):
-    """The header's numbers; bytes 14 and 15 are zero and carry none."""
+    """The header's numbers; byte 15 is zero and carries none."""
 
     length: int  # L
     bk_fst: int
     m: int
     h_fst_free: int
+    clock: int
 
     def is_master(self, offset: int) -> bool:
         """Whether a master stands at this offset."""
         past = HEADER_LENGTH + MASTER_LENGTH * self.m
         return HEADER_LENGTH <= offset < past and offset % MASTER_LENGTH == 0
+
+
+class Page(NamedTuple):
+    """What a page's header says; the age is that by the zone's clock."""
+
+    name: int
+    dirty: bool
+    lock: bool
+    stamp: int
+    age: int
+
+    @property
+    def flags(self) -> str:
+        """In words, for whoever reads a print or a map."""
+        words = ("dirty", self.dirty), ("lock", self.lock)
+        return " ".join(word for word, there in words if there)
 
 
 class Block(NamedTuple):
@@ -53,6 +93,7 @@ class Block(NamedTuple):
     type: BlockType
     size: int  # with the block's header
     handle: Optional[int]  # relocatable blocks only
+    page: Optional[Page] = None  # pages only
 
     @property
     def end(self) -> int:
@@ -74,6 +115,11 @@ class Block(NamedTuple):
     def pointer(self) -> Optional[int]:
         """A fixed block's pointer: its data offset."""
         return self.data_offset if self.type is BlockType.FIXED else None
+
+    @property
+    def name(self) -> Optional[int]:
+        """A page's name."""
+        return None if self.page is None else self.page.name
 
 
 def number(data: bytes, at: int, width: int) -> int:

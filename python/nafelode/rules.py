@@ -1,7 +1,8 @@
-"""The rules of document 01 by name, and the one exception that names them.
+"""The rules of a zone by name, and the one exception that names them.
 
 The names quote document 01's 'Well-formed' sentence. Where that sentence
-says 'as above', the words it points to follow a colon.
+says 'as above', the words it points to follow a colon. Rules of pages quote
+document 02 (U5), which calls a page a named block.
 """
 
 BUFFER = "the buffer has at least 16 bytes"
@@ -11,14 +12,17 @@ LENGTH_BUFFER = "L is at most the buffer's length"
 BK_FST = "bkFst as above: bkFst = 16 + 4m"
 BK_FST_LIMIT = "bkFst \u2264 L"
 M_LIMIT = "m \u2264 8,188"
-HEADER_ZEROS = "header bytes 14 and 15 are zero"
-TYPES = "types are 0 to 2"
+HEADER_ZERO = "header byte 15 remains zero"
 SIZES = "sizes as above: multiples of 4 and at least 4"
+PAGE_SIZE = "a named block's size is at least 8"
 TILE = "blocks tile bkFst to L"
 NEIGHBOURS = "no two free blocks are neighbours"
 FREE_ZEROS = "the zeros of free blocks as above: all later bytes zero"
 HANDLE = "each relocatable block's handle is a master's offset"
 MASTER = "that master holds the block's data offset"
+STATUS = ("in the status word the top bit is dirty, the next is lock, the low "
+          "byte a stamp, the rest zero")
+NAMES = "names are distinct in a well-formed zone"
 CHAIN_MASTERS = "the chain from hFstFree visits only masters"
 CHAIN_END = "the chain from hFstFree ends in 0"
 COUNT = "relocatable blocks plus chain length equal m"
@@ -32,14 +36,16 @@ WELL_FORMED = (
     BK_FST,
     BK_FST_LIMIT,
     M_LIMIT,
-    HEADER_ZEROS,
-    TYPES,
+    HEADER_ZERO,
     SIZES,
+    PAGE_SIZE,
     TILE,
     NEIGHBOURS,
     FREE_ZEROS,
     HANDLE,
     MASTER,
+    STATUS,
+    NAMES,
     CHAIN_MASTERS,
     CHAIN_END,
     COUNT,
@@ -48,6 +54,7 @@ WELL_FORMED = (
 # Causes from the table of refused calls, for questions to a read zone.
 HANDLE_NOT_LIVE = "handle not live"
 NOT_A_POINTER = "pointer not that of a fixed block"
+NAME_ABSENT = "name absent"
 PAST_DATA = "offset + count, unwrapped, above data size"
 
 # A roster's bytes; their order is document 02's (U1).

@@ -1,6 +1,6 @@
 """The zone as text: header, blocks, bays, free bytes and scatter."""
 
-from typing import Iterable, Iterator, List, Sequence
+from typing import Callable, Iterable, Iterator, List, NamedTuple, Sequence
 
 from .census import LOWER_LIMITS
 from .format import WORD, Block, BlockType
@@ -26,7 +26,7 @@ def lines(zone: Zone) -> Iterator[str]:
 
 def _header_lines(zone: Zone) -> Iterator[str]:
     yield (f"zone: L {zone.length}, bkFst {zone.bk_fst}, m {zone.m}, "
-           f"hFstFree {zone.h_fst_free}")
+           f"hFstFree {zone.h_fst_free}, clock {zone.clock}")
     yield (f"masters: {zone.live_handles} live, {len(zone.chain)} in the "
            f"chain{_chain_words(zone.chain)}")
 
@@ -39,24 +39,58 @@ def _chain_words(chain: Sequence[int], shown: int = 8) -> str:
 
 
 def _block_lines(zone: Zone) -> Iterator[str]:
-    counts = ", ".join(f"{zone.count(kind)} {kind.name.lower()}"
-                       for kind in reversed(BlockType))
+    counts = ", ".join(f"{zone.count(kind)} {words}"
+                       for kind, words in _KINDS)
     yield f"blocks: {len(zone.blocks)} ({counts})"
     if zone.blocks:
-        rows = ([str(block.offset), block.type.name.lower(), str(block.size),
-                 _place(block), _data_size(block), _first_bytes(zone, block)]
+        columns = _columns(zone)
+        rows = ([column.cell(block) for column in columns]
                 for block in zone.blocks)
-        yield from _table(["offset", "type", "size", "handle or pointer",
-                           "data size", "first data bytes"], rows,
-                          left={1, 3, 5})
+        yield from _table([column.head for column in columns], rows,
+                          left=(i for i, column in enumerate(columns)
+                                if column.left))
 
 
-def _place(block: Block) -> str:
+_KINDS = ((BlockType.RELOCATABLE, "relocatable"), (BlockType.PAGE, "pages"),
+          (BlockType.FIXED, "fixed"), (BlockType.FREE, "free"))
+
+
+class _Column(NamedTuple):
+    head: str
+    cell: Callable[[Block], str]
+    left: bool = False  # flush left
+
+
+def _columns(zone: Zone) -> List[_Column]:
+    """Ages and flags have columns only where there are pages."""
+    columns = [_Column("offset", lambda block: str(block.offset)),
+               _Column("type", lambda block: block.type.name.lower(), True),
+               _Column("size", lambda block: str(block.size)),
+               _Column("handle, pointer or name", _target, True)]
+    if zone.pages:
+        columns += [_Column("age", _age), _Column("flags", _flags, True)]
+    return columns + [
+        _Column("data size", _data_size),
+        _Column("first data bytes",
+                lambda block: _first_bytes(zone, block), True)]
+
+
+def _target(block: Block) -> str:
     if block.handle is not None:
         return f"handle {block.handle}"
     if block.pointer is not None:
         return f"pointer {block.pointer}"
+    if block.name is not None:
+        return f"name {block.name}"
     return "-"
+
+
+def _age(block: Block) -> str:
+    return "-" if block.page is None else str(block.page.age)
+
+
+def _flags(block: Block) -> str:
+    return (block.page and block.page.flags) or "-"
 
 
 def _data_size(block: Block) -> str:

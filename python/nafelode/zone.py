@@ -4,7 +4,7 @@ from typing import Dict, Optional, Tuple
 
 from . import bays, census, rules
 from .check import Image, read_image
-from .format import Block, BlockType
+from .format import Block, BlockType, Page
 from .roster import Record
 from .rules import ZoneError
 
@@ -19,18 +19,22 @@ class Zone:
     def __init__(self, image: Image) -> None:
         reading = read_image(image)
         self.data: bytes = reading.data
-        self.length, self.bk_fst, self.m, self.h_fst_free = reading.header
+        (self.length, self.bk_fst, self.m, self.h_fst_free,
+         self.clock) = reading.header
         self.blocks: Tuple[Block, ...] = reading.blocks
         self.chain: Tuple[int, ...] = reading.chain
         self.bays: Tuple[bays.Bay, ...] = bays.split(
             self.blocks, self.bk_fst, self.length)
         self._by_handle: Dict[int, Block] = {}
         self._by_pointer: Dict[int, Block] = {}
+        self._by_name: Dict[int, Block] = {}
         for block in self.blocks:
             if block.handle is not None:
                 self._by_handle[block.handle] = block
             elif block.pointer is not None:
                 self._by_pointer[block.pointer] = block
+            elif block.name is not None:
+                self._by_name[block.name] = block
 
     # -- what the zone holds -----------------------------------------------
 
@@ -43,6 +47,17 @@ class Zone:
     def pointers(self) -> Tuple[int, ...]:
         """The fixed blocks' pointers, rising."""
         return tuple(self._by_pointer)
+
+    @property
+    def names(self) -> Tuple[int, ...]:
+        """The pages' names, rising."""
+        return tuple(sorted(self._by_name))
+
+    @property
+    def pages(self) -> Tuple[Page, ...]:
+        """Name, flags, stamp and age of each page, by address."""
+        return tuple(block.page for block in self.blocks
+                     if block.page is not None)
 
     @property
     def live_handles(self) -> int:
@@ -88,6 +103,14 @@ class Zone:
                             f"no fixed block has pointer {pointer}")
         return block
 
+    def by_name(self, name: int) -> Block:
+        """The page of a name."""
+        block = self._by_name.get(name)
+        if block is None:
+            raise ZoneError(rules.NAME_ABSENT, name,
+                            f"no page has name {name}")
+        return block
+
     def read_handle(self, handle: int, offset: int = 0,
                     count: Optional[int] = None) -> bytes:
         """Data bytes of a live handle's block: all, or those of a stretch."""
@@ -97,6 +120,11 @@ class Zone:
                      count: Optional[int] = None) -> bytes:
         """Data bytes of a pointer's block: all, or those of a stretch."""
         return self.read_block(self.by_pointer(pointer), offset, count)
+
+    def read_name(self, name: int, offset: int = 0,
+                  count: Optional[int] = None) -> bytes:
+        """Data bytes of a page: all, or those of a stretch."""
+        return self.read_block(self.by_name(name), offset, count)
 
     def read_block(self, block: Block, offset: int = 0,
                    count: Optional[int] = None) -> bytes:

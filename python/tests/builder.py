@@ -1,4 +1,4 @@
-"""Zones for the tests, built from document 01 without the package.
+"""Zones for the tests, built from documents 01 and 02 without the package.
 
 A Plan lists the blocks of a zone; its image is laid down byte by byte. The
 tests compare what the package reads with what the plan says.
@@ -7,7 +7,8 @@ tests compare what the package reads with what the plan says.
 import random
 from typing import Dict, Iterable, List, NamedTuple, Optional, Tuple
 
-FREE, FIXED, RELOCATABLE = 0, 1, 2
+FREE, FIXED, RELOCATABLE, PAGE = 0, 1, 2, 3
+DIRTY, LOCK = 0x8000, 0x4000
 
 
 class Part(NamedTuple):
@@ -17,6 +18,8 @@ class Part(NamedTuple):
     size: int
     handle: int = 0
     data: bytes = b""
+    name: int = 0
+    status: int = 0
 
 
 class Plan(NamedTuple):
@@ -24,6 +27,7 @@ class Plan(NamedTuple):
     parts: Tuple[Part, ...]
     chain: Tuple[int, ...]
     beyond: bytes = b""
+    clock: int = 0
 
     @property
     def bk_fst(self) -> int:
@@ -47,7 +51,7 @@ class Plan(NamedTuple):
         out = bytearray()
         for value in (self.length, self.bk_fst, self.m):
             out += value.to_bytes(4, "big")
-        out += head.to_bytes(2, "big") + b"\0\0"
+        out += head.to_bytes(2, "big") + bytes([self.clock, 0])
         for i in range(self.m):
             out += masters.get(16 + 4 * i, 0).to_bytes(4, "big")
         for part in self.parts:
@@ -69,6 +73,8 @@ def block_bytes(part: Part) -> bytes:
     head = (part.kind << 14 | words).to_bytes(2, "big")
     if part.kind == RELOCATABLE:
         head += part.handle.to_bytes(2, "big")
+    if part.kind == PAGE:
+        head += part.name.to_bytes(4, "big") + part.status.to_bytes(2, "big")
     return head + part.data
 
 
@@ -90,6 +96,28 @@ def relocatable(handle: int, data: bytes) -> Part:
     return Part(RELOCATABLE, 4 + len(data), handle, data)
 
 
+def page(name: int, data: bytes, status: int = 0) -> Part:
+    """The status word has the flags and the stamp."""
+    return Part(PAGE, 8 + len(data), 0, data, name, status)
+
+
+def cache_and_dropped() -> Tuple[Plan, Plan]:
+    """Pages of every kind in two bays, beside blocks of the other types; and
+    the same after page 102 is clean and page 103 was created, whose place it
+    had: it was the oldest that is not locked (document 02, U5)."""
+    recipe = page(101, b"GRADE A 70 GSM..", 6)
+    profile = relocatable(16, b"PROFILE 01..")
+    mark = page(0, b"", LOCK | 7)
+    hardware = fixed(bytes(range(10, 16)))
+    kept = page(7, b"GRADE C 120 GSM.", DIRTY | LOCK | 5), free(20)
+    old, new = page(102, b"GRADE B 80 GSM..", DIRTY | 2), page(103, bytes(16), 8)
+    cache = Plan(2, (recipe, profile, old, free(12), mark, hardware, *kept),
+                 (20,), b"", 7)
+    dropped = Plan(2, (recipe, profile, new, free(12), mark, hardware, *kept),
+                   (20,), b"", 8)
+    return cache, dropped
+
+
 def full_and_grown() -> Tuple[Plan, Plan]:
     """A zone whose masters are all in use, and the same after an allocation
     of 16 bytes, which are written: eight masters more (document 02, U3)."""
@@ -108,34 +136,43 @@ def full_and_grown() -> Tuple[Plan, Plan]:
 
 def random_plan(rng: random.Random, blocks: int, largest: int = 64,
                 fixed_blocks: int = 0, spare: int = 3,
-                length: Optional[int] = None) -> Plan:
+                length: Optional[int] = None, pages: int = 0) -> Plan:
     """A random zone of about so many blocks.
 
-    `fixed_blocks` of them are fixed, `spare` masters are free. With `length`
-    the last block is a free one that fills the zone up to it, if it can.
+    `fixed_blocks` of them are fixed, `pages` are pages, `spare` masters are
+    free. With `length` the last block is a free one that fills the zone up to
+    it, if it can.
     """
-    kinds = [FIXED] * fixed_blocks
-    kinds += rng.choices((FREE, RELOCATABLE), (1, 2), k=blocks - fixed_blocks)
+    kinds = [FIXED] * fixed_blocks + [PAGE] * pages
+    kinds += rng.choices((FREE, RELOCATABLE), (1, 2),
+                         k=max(0, blocks - fixed_blocks - pages))
     rng.shuffle(kinds)
     kinds = [kind for i, kind in enumerate(kinds)
              if kind != FREE or i == 0 or kinds[i - 1] != FREE]
     m = kinds.count(RELOCATABLE) + spare
     masters = [16 + 4 * i for i in range(m)]
     rng.shuffle(masters)
-    parts = [_random_part(rng, kind, largest, masters) for kind in kinds]
+    names = [0, 0xFFFFFFFF] + rng.sample(range(1, 2**32 - 1), pages)
+    rng.shuffle(names)
+    parts = [_random_part(rng, kind, largest, masters, names)
+             for kind in kinds]
     if length is not None:
         _fill(parts, length - 16 - 4 * m)
     beyond = rng.randbytes(rng.choice((0, 0, 1, 7, 64)))
-    return Plan(m, tuple(parts), tuple(masters), beyond)
+    clock = rng.randrange(256) if pages else 0
+    return Plan(m, tuple(parts), tuple(masters), beyond, clock)
 
 
 def _random_part(rng: random.Random, kind: int, largest: int,
-                 masters: List[int]) -> Part:
+                 masters: List[int], names: List[int]) -> Part:
     size = 4 * rng.randint(1, max(1, largest // 4))
     if kind == FREE:
         return free(size)
     if kind == FIXED:
         return fixed(rng.randbytes(size - 2))
+    if kind == PAGE:
+        status = rng.choice((0, DIRTY, LOCK, DIRTY | LOCK)) | rng.randrange(256)
+        return page(names.pop(), rng.randbytes(max(0, size - 8)), status)
     return relocatable(masters.pop(), rng.randbytes(size - 4))
 
 

@@ -14,7 +14,8 @@ import builder
 import support  # noqa: F401  finds the package
 import nafelode
 
-HANDLE, POINTER = 0, 1
+HANDLE, POINTER, NAME = 0, 1, 2
+KINDS = {HANDLE: "handle", POINTER: "pointer", NAME: "name"}
 STRATA = 19
 
 
@@ -127,30 +128,40 @@ def differences(library: Library, image: bytes) -> List[str]:
 
 
 def _same_blocks(library, zone, same) -> None:
-    """Size, place and bytes of each block by its handle or pointer."""
-    names = [(HANDLE, handle, zone.by_handle(handle),
-              zone.read_handle(handle)) for handle in zone.handles]
-    names += [(POINTER, pointer, zone.by_pointer(pointer),
-               zone.read_pointer(pointer)) for pointer in zone.pointers]
-    for kind, name, block, data in names:
-        what = ("handle" if kind == HANDLE else "pointer", name)
-        size = library.call("size", kind, name)
-        same(f"size of {what}", (0, block.data_size), (size.number, size.value))
-        same(f"bytes of {what}", (0, data),
-             library.read(kind, name, 0, len(data)))
-        view = library.call("view", kind, name, 0, len(data))
-        same(f"place of {what}", (block.data_offset, len(data)),
-             (view.offset, view.length))
-        half = len(data) // 2
-        read = zone.read_handle if kind == HANDLE else zone.read_pointer
-        same(f"second half of {what}", (0, read(name, half)),
-             library.read(kind, name, half, len(data) - half))
-        same(f"past the end of {what}", _refused(read, name, half, len(data)),
-             library.call("view", kind, name, half, len(data)).length == 0
-             and library.read(kind, name, half, len(data))[0] == 8)
-        # offset + count is not wrapped
-        same(f"far past the end of {what}", _refused(read, name, 2**32 - 1, 1),
-             library.read(kind, name, 2**32 - 1, 1)[0] == 8)
+    """Size, place and bytes of each block by its handle, pointer or name."""
+    targets = [(HANDLE, handle, zone.by_handle(handle), zone.read_handle)
+               for handle in zone.handles]
+    targets += [(POINTER, pointer, zone.by_pointer(pointer), zone.read_pointer)
+                for pointer in zone.pointers]
+    targets += [(NAME, name, zone.by_name(name), zone.read_name)
+                for name in zone.names]
+    for kind, number, block, read in targets:
+        _same_block(library, same, kind, number, block, read)
+    _same_refusals(library, zone, same)
+
+
+def _same_block(library, same, kind, number, block, read) -> None:
+    what, data = (KINDS[kind], number), read(number)
+    size = library.call("size", kind, number)
+    same(f"size of {what}", (0, block.data_size), (size.number, size.value))
+    same(f"bytes of {what}", (0, data),
+         library.read(kind, number, 0, len(data)))
+    view = library.call("view", kind, number, 0, len(data))
+    same(f"place of {what}", (block.data_offset, len(data)),
+         (view.offset, view.length))
+    half = len(data) // 2
+    same(f"second half of {what}", (0, read(number, half)),
+         library.read(kind, number, half, len(data) - half))
+    same(f"past the end of {what}", _refused(read, number, half, len(data)),
+         library.call("view", kind, number, half, len(data)).length == 0
+         and library.read(kind, number, half, len(data))[0] == 8)
+    # offset + count is not wrapped
+    same(f"far past the end of {what}", _refused(read, number, 2**32 - 1, 1),
+         library.read(kind, number, 2**32 - 1, 1)[0] == 8)
+
+
+def _same_refusals(library, zone, same) -> None:
+    """Handles, pointers and names that are none."""
     for master in zone.chain:
         same(f"free master {master}", _refused(zone.by_handle, master),
              library.call("size", HANDLE, master).number == 6)
@@ -158,6 +169,9 @@ def _same_blocks(library, zone, same) -> None:
         at = block.offset + 2
         same(f"pointer {at}", _refused(zone.by_pointer, at),
              library.call("size", POINTER, at).number == 7)
+    for name in {0, 1, 2**32 - 1, *(name ^ 1 for name in zone.names)}:
+        same(f"name {name}", _refused(zone.by_name, name),
+             library.call("size", NAME, name).number == 13)
 
 
 def _refused(call, *arguments) -> bool:

@@ -1,4 +1,4 @@
-"""Document 01's well-formedness once more, told as plainly as can be.
+"""Well-formedness once more, with document 02's pages, as plainly as can be.
 
 It is slow and names no rule; the tests hold the package's answer against it.
 """
@@ -22,7 +22,7 @@ def _blocks(b: bytes, start: int,
             return None
         kind = b[start] // 64
         words = _at(b, start, 4) if kind == 0 else _at(b, start, 2) % 16384
-        if kind == 3 or words < 2 or words % 2:
+        if words < (4 if kind == 3 else 2) or words % 2:
             return None
         found.append((start, kind, 2 * words))
         start += 2 * words
@@ -31,7 +31,7 @@ def _blocks(b: bytes, start: int,
 
 def well_formed(image: bytes) -> bool:
     b = bytes(image)
-    if len(b) < 16 or b[14] or b[15]:
+    if len(b) < 16 or b[15]:
         return False
     length, bk_fst, m = _at(b, 0, 4), _at(b, 4, 4), _at(b, 8, 4)
     head = _at(b, 12, 2)
@@ -53,6 +53,11 @@ def well_formed(image: bytes) -> bool:
             handle = _at(b, offset + 2, 2)
             if handle not in masters or _at(b, handle, 4) != offset + 4:
                 return False
+    names = [_at(b, offset + 2, 4) for offset, kind, _ in blocks if kind == 3]
+    if len(names) != len(set(names)):
+        return False
+    if any(b[offset + 6] % 64 for offset, kind, _ in blocks if kind == 3):
+        return False
     steps = 0
     while head != 0:
         if head not in masters or steps > m:

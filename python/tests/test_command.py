@@ -59,12 +59,29 @@ class Command(unittest.TestCase):
         done = self.run_it(os.path.join(support.EXAMPLES, "grown.zone"))
         self.assertEqual((done.returncode, done.stderr), (0, b""))
         text = done.stdout.decode("ascii")
-        self.assertIn("zone: L 160, bkFst 64, m 12, hFstFree 36\n", text)
+        self.assertIn("zone: L 160, bkFst 64, m 12, hFstFree 36, clock 0\n",
+                      text)
         self.assertIn("masters: 5 live, 7 in the chain "
                       "(36 40 44 48 52 56 60)\n", text)
         rows = [line.split() for line in text.splitlines()]
         self.assertIn("80 relocatable 8 handle 24 4 4D41524B".split(), rows)
         self.assertIn("0 64 152 88 16 1 16 0".split(), rows)
+
+    def test_pages(self) -> None:
+        done = self.run_it(os.path.join(support.EXAMPLES, "cache.zone"))
+        self.assertEqual((done.returncode, done.stderr), (0, b""))
+        text = done.stdout.decode("ascii")
+        self.assertIn("hFstFree 20, clock 7\n", text)
+        self.assertIn("blocks: 8 (1 relocatable, 4 pages, 1 fixed, 2 free)\n",
+                      text)
+        rows = [line.split() for line in text.splitlines()]
+        self.assertIn("24 page 24 name 101 1 - 16 47524144 45204120 37302047 "
+                      "534D2E2E".split(), rows)
+        self.assertIn("100 page 8 name 0 0 lock 0 -".split(), rows)
+        self.assertIn("116 page 24 name 7 2 dirty lock 16 47524144 45204320 "
+                      "31323020 47534D2E".split(), rows)
+        self.assertIn("108 fixed 8 pointer 110 - - 6 0A0B0C0D 0E0F".split(),
+                      rows)
 
     def test_standard_input(self) -> None:
         done = self.run_it("-", data=support.R1)

@@ -27,11 +27,12 @@ class Map(unittest.TestCase):
         rng = random.Random(7)
         for blocks, length in ((0, 16), (3, 64), (40, 65536), (900, 65536)):
             plan = builder.random_plan(rng, blocks, 80, blocks // 50, 3,
-                                       length)
+                                       length, blocks // 3)
             zone = Zone(plan.image())
             tips = " | ".join(self.tips(zone))
             for block in zone.blocks:
-                self.assertIn(f"block at {block.offset}, size {block.size}",
+                what = "block" if block.page is None else "page"
+                self.assertIn(f"{what} at {block.offset}, size {block.size}",
                               tips)
 
     def test_small_zone_words(self) -> None:
@@ -50,12 +51,44 @@ class Map(unittest.TestCase):
         self.assertIn("bay 0: sum 16", words)
         for expected in ("live master 32, holds 120", "live master 20, holds 68",
                          "free master 36, next 40", "free master 60, next 0",
-                         "header: L 160, bkFst 64, m 12, hFstFree 36",
+                         "header: L 160, bkFst 64, m 12, hFstFree 36, clock 0",
                          "fixed block at 152, size 8, pointer 154"):
             self.assertIn(expected, tips)
 
+    def test_pages(self) -> None:
+        zone = Zone(builder.cache_and_dropped()[0].image())
+        words, tips = self.words(zone), self.tips(zone)
+        for expected in ("page 101", "page 102", "page 0", "page 7",
+                         "age 5, dirty, 24 bytes", "age 2, dirty lock",
+                         "locked page", "dirty page"):
+            self.assertIn(expected, words)
+        self.assertTrue(any("4 pages (2 dirty, 2 locked)" in line
+                            and "clock: 7" in line for line in words))
+        for expected in ("page at 24, size 24, name 101, age 1",
+                         "page at 100, size 8, name 0, age 0, lock",
+                         "page at 116, size 24, name 7, age 2, dirty lock"):
+            self.assertIn(expected, tips)
+
+    def test_pages_told_apart(self) -> None:
+        zone = Zone(builder.cache_and_dropped()[0].image())
+        root = tree.fromstring(draw(zone))
+        looks = {}
+        for rect in root.iter(SVG + "rect"):
+            for title in rect.iter(SVG + "title"):
+                looks[title.text] = rect.get("fill"), rect.get("stroke")
+        pages = {look for tip, look in looks.items() if tip.startswith("page")}
+        others = {look for tip, look in looks.items()
+                  if not tip.startswith("page")}
+        self.assertEqual(len(pages), 4)
+        self.assertFalse(pages & others)
+
+    def test_no_page_no_word_of_them(self) -> None:
+        words = " ".join(self.words(Zone(support.R1)))
+        self.assertNotIn("page", words)
+
     def test_kept_pictures(self) -> None:
-        for name, plan in zip(("full", "grown"), builder.full_and_grown()):
+        plans = builder.full_and_grown() + builder.cache_and_dropped()
+        for name, plan in zip(("full", "grown", "cache", "dropped"), plans):
             path = os.path.join(support.EXAMPLES, name + ".svg")
             with open(path, encoding="utf-8", newline="") as stream:
                 self.assertEqual(stream.read(),

@@ -20,6 +20,15 @@ def sample() -> builder.Plan:
                             builder.free(4)), (28, 24))
 
 
+def pages() -> builder.Plan:
+    """Pages at 20, 32 and 48, a free block at 40; L is 64."""
+    return builder.Plan(1, (builder.page(7, b"mark", builder.DIRTY | 3),
+                            builder.page(0, b"", builder.LOCK),
+                            builder.free(8),
+                            builder.page(2**32 - 1, b"recipe..", 255)),
+                        (16,), b"", 3)
+
+
 def put(image: bytearray, offset: int, value: int,
         width: int = 4) -> bytearray:
     image[offset:offset + width] = value.to_bytes(width, "big")
@@ -77,12 +86,17 @@ class EveryRule(unittest.TestCase):
         image = builder.Plan(8189, (), chain).image()
         self.names(image, rules.M_LIMIT, 8)
 
-    def test_header_zeros(self) -> None:
-        self.names(put(sample().image(), 14, 1, 1), rules.HEADER_ZEROS, 14)
-        self.names(put(sample().image(), 15, 1, 1), rules.HEADER_ZEROS, 15)
+    def test_header_zero(self) -> None:
+        for bit in range(8):
+            self.names(put(sample().image(), 15, 1 << bit, 1),
+                       rules.HEADER_ZERO, 15)
 
-    def test_type(self) -> None:
-        self.names(put(sample().image(), 60, 0xC0, 1), rules.TYPES, 60)
+    def test_any_clock(self) -> None:
+        for plan in (sample(), pages()):
+            for clock in range(256):
+                image = put(plan.image(), 14, clock, 1)
+                self.assertIsNone(fault(image))
+                self.assertTrue(oracle.well_formed(image))
 
     def test_size(self) -> None:
         image = sample().image()
@@ -90,13 +104,39 @@ class EveryRule(unittest.TestCase):
             self.names(put(image[:], 44, words), rules.SIZES, 44)
             self.names(put(image[:], 52, 0x4000 | words, 2), rules.SIZES, 52)
             self.names(put(image[:], 60, 0x8000 | words, 2), rules.SIZES, 60)
+        for words in (0, 1, 3, 5):
+            self.names(put(pages().image(), 20, 0xC000 | words, 2),
+                       rules.SIZES, 20)
         # Not the low 16 bits of a free block's size alone.
         self.names(put(image[:], 44, 0x10003), rules.SIZES, 44)
+
+    def test_page_size(self) -> None:
+        self.names(put(pages().image(), 20, 0xC002, 2), rules.PAGE_SIZE, 20)
+        # Also where no byte of a name follows.
+        last = builder.Plan(0, (builder.fixed(bytes(2)),) * 2, ()).image()
+        self.names(put(last, 20, 0xC002, 2), rules.PAGE_SIZE, 20)
+
+    def test_status(self) -> None:
+        for page in (20, 32, 48):
+            for bit in range(6):
+                image = pages().image()
+                image[page + 6] |= 1 << bit
+                self.names(image, rules.STATUS, page + 6)
+
+    def test_names(self) -> None:
+        self.names(put(pages().image(), 50, 7), rules.NAMES, 50)
+        self.names(put(pages().image(), 50, 0), rules.NAMES, 50)
+        self.names(put(pages().image(), 34, 7), rules.NAMES, 34)
+        # All four bytes count.
+        for bit in range(32):
+            image = put(pages().image(), 50, 7 ^ 1 << bit)
+            self.assertIsNone(fault(image))
 
     def test_tile(self) -> None:
         image = sample().image()
         self.names(put(image[:], 68, 4), rules.TILE, 68)
         self.names(put(image[:], 60, 0xBFFE, 2), rules.TILE, 60)
+        self.names(put(image[:], 60, 0xFFFE, 2), rules.TILE, 60)
         self.names(put(image[:], 44, 0x3FFFFFFE), rules.TILE, 44)
         # Bytes beyond L belong to no block, even where the buffer has them.
         self.names(put(image[:] + bytes(8), 68, 4), rules.TILE, 68)
@@ -149,13 +189,23 @@ class ReadingOrder(unittest.TestCase):
             (62, 2, 2, rules.HANDLE, 62),
             (51, 1, 1, rules.FREE_ZEROS, 51),
             (44, 0, 4, rules.SIZES, 44),
-            (32, 0xC0, 1, rules.TYPES, 32),
-            (15, 1, 1, rules.HEADER_ZEROS, 15),
+            (32, 0xC0, 1, rules.STATUS, 38),
+            (32, 0xC002, 2, rules.PAGE_SIZE, 32),
+            (15, 1, 1, rules.HEADER_ZERO, 15),
             (8, 9, 4, rules.BK_FST, 4),
             (0, 3, 4, rules.LENGTH_MULTIPLE, 0),
         )
         for offset, value, width, rule, at in steps:
             error = fault(put(image, offset, value, width))
+            self.assertEqual((error.rule, error.offset), (rule, at))
+
+    def test_of_one_page(self) -> None:
+        image = put(pages().image(), 50, 7)
+        for offset, value, rule, at in ((54, 0x3F00, rules.STATUS, 54),
+                                        (48, 0xC00A, rules.TILE, 48),
+                                        (48, 0xC002, rules.PAGE_SIZE, 48),
+                                        (48, 0xC003, rules.SIZES, 48)):
+            error = fault(put(image, offset, value, 2))
             self.assertEqual((error.rule, error.offset), (rule, at))
 
 
@@ -170,20 +220,21 @@ class AnyBytes(unittest.TestCase):
             self.assertLessEqual(error.offset, len(image))
 
     def test_every_byte_of_a_small_zone(self) -> None:
-        image = sample().image()
-        for offset in range(len(image)):
-            kept = image[offset]
-            for value in range(256):
-                image[offset] = value
-                self.agree(image)
-            image[offset] = kept
+        for image in (sample().image(), pages().image()):
+            for offset in range(len(image)):
+                kept = image[offset]
+                for value in range(256):
+                    image[offset] = value
+                    self.agree(image)
+                image[offset] = kept
 
     def test_damaged_zones(self) -> None:
         rng = random.Random(11)
         for _ in range(1500):
             blocks = rng.randint(0, 12)
             plan = builder.random_plan(rng, blocks, 32, blocks // 4,
-                                       rng.randint(0, 4))
+                                       rng.randint(0, 4),
+                                       pages=rng.choice((0, blocks // 2)))
             image = plan.image()
             self.agree(image)
             for _ in range(rng.randint(1, 3)):
@@ -222,9 +273,10 @@ class AnyBytes(unittest.TestCase):
 
 class Errors(unittest.TestCase):
     def test_message(self) -> None:
-        error = fault(put(sample().image(), 32, 0xC0, 1))
-        self.assertIn("offset 32 (0x20)", str(error))
-        self.assertIn("types are 0 to 2", str(error))
+        error = fault(put(pages().image(), 50, 7))
+        self.assertIn("offset 50 (0x32)", str(error))
+        self.assertIn("the pages at 20 and 48 both have name 7", str(error))
+        self.assertIn("names are distinct", str(error))
 
     def test_pickled(self) -> None:
         error = pickle.loads(pickle.dumps(fault(b"")))

@@ -23,7 +23,8 @@ class RigSheet(unittest.TestCase):
                          (64, 32, 4, 16))
         self.assertEqual(zone.chain, (16, 20, 24, 28))
         self.assertEqual([tuple(block) for block in zone.blocks],
-                         [(32, BlockType.FREE, 32, None)])
+                         [(32, BlockType.FREE, 32, None, None)])
+        self.assertEqual(zone.clock, 0)
         self.assertEqual(zone.sum(), (32, 32))
         self.assertEqual(check(support.R1), (True, 0))
 
@@ -112,12 +113,74 @@ class Grown(unittest.TestCase):
                 self.assertEqual(stream.read(), bytes(image), name)
 
 
+class Pages(unittest.TestCase):
+    """A cache of pages, and the same after a create that dropped one."""
+
+    def setUp(self) -> None:
+        self.images = [plan.image() for plan in builder.cache_and_dropped()]
+        self.cache, self.dropped = map(Zone, self.images)
+
+    def test_pages(self) -> None:
+        self.assertEqual((self.cache.clock, self.dropped.clock), (7, 8))
+        self.assertEqual(self.cache.pages, ((101, False, False, 6, 1),
+                                            (102, True, False, 2, 5),
+                                            (0, False, True, 7, 0),
+                                            (7, True, True, 5, 2)))
+        self.assertEqual(self.cache.names, (0, 7, 101, 102))
+        self.assertEqual(self.dropped.names, (0, 7, 101, 103))
+        self.assertEqual(self.dropped.by_name(103).page,
+                         (103, False, False, 8, 0))
+
+    def test_by_name(self) -> None:
+        block = self.cache.by_name(101)
+        self.assertEqual((block.type, block.offset, block.size,
+                          block.data_offset, block.data_size, block.name),
+                         (BlockType.PAGE, 24, 24, 32, 16, 101))
+        self.assertEqual((block.handle, block.pointer), (None, None))
+        self.assertEqual(self.cache.read_name(102), b"GRADE B 80 GSM..")
+        self.assertEqual(self.cache.read_name(102, 6, 4), b"B 80")
+        self.assertEqual(self.cache.read_name(0), b"")
+        self.assertEqual(self.dropped.read_name(103), bytes(16))
+        with self.assertRaises(ZoneError) as caught:
+            self.dropped.read_name(102)
+        self.assertEqual(caught.exception.rule, "name absent")
+
+    def test_no_handle(self) -> None:
+        self.assertEqual(check(self.images[0]), (True, 1))
+        self.assertEqual(self.cache.roster(), ((16, 12),))
+        self.assertEqual(self.cache.sum(), (32, 20))
+        self.assertEqual(self.cache.count(BlockType.PAGE), 4)
+
+    def test_age_goes_round(self) -> None:
+        for clock, stamp, age in ((0, 0, 0), (0, 255, 1), (3, 250, 9),
+                                  (255, 0, 255), (9, 10, 255), (200, 7, 193)):
+            plan = builder.Plan(0, (builder.page(1, b"", stamp),), (), b"",
+                                clock)
+            page, = Zone(plan.image()).pages
+            self.assertEqual((page.stamp, page.age), (stamp, age))
+
+    def test_flags_in_words(self) -> None:
+        self.assertEqual([page.flags for page in self.cache.pages],
+                         ["", "dirty", "lock", "dirty lock"])
+
+    def test_largest(self) -> None:
+        plan = builder.Plan(0, (builder.page(9, bytes(32_756)),), ())
+        self.assertEqual(Zone(plan.image()).by_name(9).data_size, 32_756)
+
+    def test_examples(self) -> None:
+        for name, image in zip(("cache", "dropped"), self.images):
+            path = os.path.join(support.EXAMPLES, name + ".zone")
+            with open(path, "rb") as stream:
+                self.assertEqual(stream.read(), bytes(image), name)
+
+
 class RandomZones(unittest.TestCase):
     def test_as_planned(self) -> None:
         rng = random.Random(1983)
         for blocks in [0, 1, 2, 3, 5, 8] * 12 + [200]:
             plan = builder.random_plan(rng, blocks, 64, blocks // 4,
-                                       rng.randint(0, 4))
+                                       rng.randint(0, 4),
+                                       pages=rng.randint(0, blocks // 2))
             with self.subTest(plan=plan):
                 self.compare(plan)
 
@@ -144,6 +207,14 @@ class RandomZones(unittest.TestCase):
             self.assertEqual(block.pointer, block.offset + 2)
             self.assertEqual(zone.read_pointer(block.pointer), part.data)
             self.assertIsNone(block.handle)
+        elif part.kind == builder.PAGE:
+            stamp = part.status & 255
+            self.assertEqual(block.page, (
+                part.name, part.status >= builder.DIRTY,
+                bool(part.status & builder.LOCK), stamp,
+                (zone.clock - stamp) % 256))
+            self.assertEqual(zone.by_name(part.name), block)
+            self.assertEqual(zone.read_name(part.name), part.data)
         else:
             self.assertIsNone(block.data_offset)
             self.assertIsNone(block.handle)

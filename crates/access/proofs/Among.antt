@@ -5,20 +5,27 @@ use mathlib.Core.List.{List, [], _∷_, _++_}
 use Prim.Native.Nat.{ℕ, _+_}
 use lib.ListN.{length}
 use Rattle.block_type.specs.Limits.{fixedHeader}
-use Rattle.kinds.specs.Kinds.{Item, headerOf, is, itemSize}
-use Rattle.calls.specs.Calls.{by-handle}
+use Rattle.kinds.specs.Kinds.{Item, headerOf, is, hasName, itemSize}
+use Rattle.calls.specs.Calls.{by-handle, by-name}
 use Rattle.bay.specs.Bay.{free, held}
 use Rattle.structure.specs.Structure.{Block, fixed, cell, sizes, placeOf}
 use Rattle.access.specs.Edit.{dataOf}
 use Rattle.access.specs.Named.{names, headerOfBlock, heldBy, placeAmong, dataAmong}
 use Rattle.access.proofs.Named.{Named, named}
 
-pub handle-place : (h at : ℕ) (bs : List Block) → placeOf h at bs ≡ placeAmong (by-handle h) at bs
+pub handle-place : (h at : ℕ) (bs : List Block) → placeOf (is h) at bs ≡ placeAmong (by-handle h) at bs
 unfolding placeOf placeAmong
 handle-place h at [] = refl
 handle-place h at (cell (free n) ∷ bs) = handle-place h (at + n) bs
 handle-place h at (fixed d ∷ bs) = handle-place h (at + (fixedHeader + length d)) bs
 handle-place h at (cell (held e) ∷ bs) = ap (cond (is h e) (at + headerOf e)) (handle-place h (at + itemSize e) bs)
+
+pub name-place : (n at : ℕ) (bs : List Block) → placeOf (hasName n) at bs ≡ placeAmong (by-name n) at bs
+unfolding placeOf placeAmong
+name-place n at [] = refl
+name-place n at (cell (free k) ∷ bs) = name-place n (at + k) bs
+name-place n at (fixed d ∷ bs) = name-place n (at + (fixedHeader + length d)) bs
+name-place n at (cell (held e) ∷ bs) = ap (cond (hasName n e) (at + headerOf e)) (name-place n (at + itemSize e) bs)
 
 pub handle-data : (h at : ℕ) (bs : List Block) → dataOf h bs ≡ dataAmong (by-handle h) at bs
 unfolding dataOf dataAmong
@@ -33,10 +40,10 @@ pub record Mine (h at : ℕ) (bs : List Block) : Type 0 where
   pub after : List Block
   pub parts : bs ≡ before ++ (cell (held mine) ∷ after)
   pub its : is h mine ≡ true
-  pub place : placeOf h at bs ≡ at + sizes before + headerOf mine
+  pub place : placeOf (is h) at bs ≡ at + sizes before + headerOf mine
   pub holds : dataOf h bs ≡ mine .bytes
 
-pub mine : (h at : ℕ) (bs : List Block) → (placeOf h at bs ≡ 0 → ⊥) → Mine h at bs
+pub mine : (h at : ℕ) (bs : List Block) → (placeOf (is h) at bs ≡ 0 → ⊥) → Mine h at bs
 mine h at bs l = go (named (by-handle h) at bs (λ e. l (handle-place h at bs ∙ e)))
   where
     go : Named (by-handle h) at bs → Mine h at bs

@@ -2,7 +2,7 @@
 use mathlib.Core.Path.{_≡_, sym, ap, _∙_}
 use mathlib.Core.List.{List}
 use mathlib.Core.Bool.{Bool, true, false, not}
-use Prim.Native.Nat.{ℕ, _+_, _≤_}
+use Prim.Native.Nat.{ℕ, _+_, _<_, _≤_}
 use native.Mathlib.Omega.{arith}
 use mir.Val.{Fits}
 use mir.Syntax.{w8}
@@ -10,7 +10,7 @@ use borrow.Author.Tests.{not-false}
 use lib.ListN.{length, getD, take, length-take}
 use Rattle.bigendian.specs.BigEndian.{fromBE, Bytes}
 use Rattle.bigendian.proofs.Parts.{slice-take}
-use Rattle.block_type.specs.Limits.{lengthAt, firstAt, mastersAt, chainAt}
+use Rattle.block_type.specs.Limits.{lengthAt, firstAt, mastersAt, chainAt, clockAt}
 use Rattle.format.specs.WellFormed.{wellFormed, zoneOf, lengthField, firstField, mastersField, chainField}
 use Rattle.format.specs.Steps.{Fields}
 use Rattle.format.proofs.Bool.{and-left}
@@ -67,6 +67,9 @@ module _ (s : List ℕ) (ok : Bool) (e : ok ≡ wellFormed s) (q : not ok ≡ fa
 
 pub zone-14 : (z : List ℕ) → IsZone z → chainAt + 2 ≤ length z
 zone-14 z i = omega (arith, whole-of z i .long)
+
+pub zone-clock : (z : List ℕ) → IsZone z → clockAt < length z
+zone-clock z i = omega (arith, whole-of z i .long)
 
 pub zone-12 : (z : List ℕ) → IsZone z → mastersAt + 4 ≤ length z
 zone-12 z i = omega (arith, whole-of z i .long)

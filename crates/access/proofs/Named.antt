@@ -12,7 +12,7 @@ use Rattle.bigendian.specs.BigEndian.{toBE, slice}
 use Rattle.bigendian.proofs.Laws.{length-toBE}
 use Rattle.kinds.specs.Kinds.{Item, codeOf, tagOf, itemSize}
 use Rattle.kinds.proofs.KindLaws.{tag-long}
-use Rattle.calls.specs.Calls.{Target, by-handle, by-pointer}
+use Rattle.calls.specs.Calls.{Target, by-handle, by-pointer, by-name}
 use Rattle.bay.specs.Bay.{free, held}
 use Rattle.structure.specs.Structure.{Block, fixed, cell, size, sizes, fixedTag, encodeBlock, join}
 use Rattle.structure.proofs.Append.{sizes-append}
@@ -89,6 +89,7 @@ held-parts e =
 pub named-parts : (t : Target) (at : ℕ) (b : Block) → names t at b ≡ true → Parts b
 named-parts (by-handle h) at (cell (free n)) e = absurd (false≢true e)
 named-parts (by-pointer p) at (cell (free n)) e = absurd (false≢true e)
+named-parts (by-name i) at (cell (free n)) e = absurd (false≢true e)
 named-parts t at (fixed d) e = fixed-parts d
 named-parts t at (cell (held i)) e = held-parts i
 

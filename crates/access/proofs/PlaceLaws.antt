@@ -23,6 +23,7 @@ use Rattle.access.specs.Edit.{placeIn}
 use Rattle.structure.specs.IsZone.{IsZone}
 use Rattle.structure.proofs.IsZone.{whole-of}
 use Rattle.structure.proofs.Decoded.{places}
+use Rattle.kinds.specs.Kinds.{is}
 
 module _ (z : List ℕ) (i : IsZone z) (h : ℕ) where
   w : Whole z
@@ -37,7 +38,7 @@ module _ (z : List ℕ) (i : IsZone z) (h : ℕ) where
   pub by-count : place ≡ cond (eqb n 0) 0 (masterAt z h)
   unfolding decodeZone placeIn
   by-count =
-      ap (λ (o : ℕ). placeOf h o (map decodeBlock (splitBlocks (drop (firstField z) z)))) (start-is z w)
+      ap (λ (o : ℕ). placeOf (is h) o (map decodeBlock (splitBlocks (drop (firstField z) z)))) (start-is z w)
       ∙ places z (firstField z) false (firstField z) h (splitBlocks (drop (firstField z) z)) (w .parts .walk)
 
   dead : (0 < n → ⊥) → _≡_ {A = ℕ} 0 place

@@ -76,14 +76,14 @@ module _ (z : List ℕ) (i : IsZone z) (h at : ℕ) (e : at ≡ placeIn z h) (p 
   pub size-four : (n : ℕ) → n ≡ sizeOf (drop (at - relocHeader) z) → smallestBlock ≤ n
   size-four n q = omega (arith, size-law n q)
 
-no-data : (h at : ℕ) (bs : List Block) → placeOf h at bs ≡ 0 → dataOf h bs ≡ []
+no-data : (h at : ℕ) (bs : List Block) → placeOf (is h) at bs ≡ 0 → dataOf h bs ≡ []
 unfolding placeOf dataOf
 no-data h at [] e = refl
 no-data h at (cell (free n) ∷ bs) e = no-data h (at + n) bs e
 no-data h at (fixed d ∷ bs) e = no-data h (at + size (fixed d)) bs e
 no-data h at (cell (held i) ∷ bs) e = go (is h i) e (no-data h (at + itemSize i) bs)
   where
-    go : (t : Bool) → cond t (at + headerOf i) (placeOf h (at + itemSize i) bs) ≡ 0 → (placeOf h (at + itemSize i) bs ≡ 0 → dataOf h bs ≡ []) → cond t (i .bytes) (dataOf h bs) ≡ []
+    go : (t : Bool) → cond t (at + headerOf i) (placeOf (is h) (at + itemSize i) bs) ≡ 0 → (placeOf (is h) (at + itemSize i) bs ≡ 0 → dataOf h bs ≡ []) → cond t (i .bytes) (dataOf h bs) ≡ []
     go true e f = let x : ⊥ = omega (arith, facts i .low) in absurd x
     go false e f = f e
 
@@ -92,5 +92,5 @@ unfolding placeIn dataIn
 size-none z h at e q = rw (no-data h (start (decodeZone z)) (decodeZone z .blocks) (sym e ∙ q))
 
 -- a block's data lie inside
-pub data-fits : (h at : ℕ) (bs : List Block) → (placeOf h at bs ≡ 0 → ⊥) → placeOf h at bs + length (dataOf h bs) ≤ at + sizes bs
+pub data-fits : (h at : ℕ) (bs : List Block) → (placeOf (is h) at bs ≡ 0 → ⊥) → placeOf (is h) at bs + length (dataOf h bs) ≤ at + sizes bs
 data-fits h at bs l = omega (arith, handle-place h at bs, ap length (handle-data h at bs), among-fits (by-handle h) at bs (λ e. l (handle-place h at bs ∙ e)))

@@ -2,3 +2,5 @@ pub mod Among
 pub mod Live
 pub mod Laws
 pub mod Data
+pub mod Pages
+pub mod Offset

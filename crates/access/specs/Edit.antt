@@ -15,7 +15,7 @@ dataOf h (cell (held e) ∷ bs) = cond (is h e) (e .bytes) (dataOf h bs)
 
 -- where the data of handle h lies in the zone z, 0 where h is not live, and the data
 unfoldable pub placeIn : List ℕ → ℕ → ℕ
-placeIn z h = placeOf h (start (decodeZone z)) (decodeZone z .blocks)
+placeIn z h = placeOf (is h) (start (decodeZone z)) (decodeZone z .blocks)
 
 unfoldable pub dataIn : List ℕ → ℕ → List ℕ
 dataIn z h = dataOf h (decodeZone z .blocks)

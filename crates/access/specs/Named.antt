@@ -1,12 +1,12 @@
--- The block that a handle or a pointer names, among blocks of which the first starts at offset `at`: where its data begin, and which they are.
+-- The block that a handle, a pointer or a name names, among blocks of which the first starts at offset `at`: where its data begin, and which they are.
 use mathlib.Core.Bool.{Bool, false, cond}
 use mathlib.Core.List.{List, [], _∷_}
 use Prim.Native.Nat.{ℕ, _+_}
 use lib.Dec.{eqb}
 use Rattle.block_type.specs.Limits.{freeHeader, fixedHeader}
-use Rattle.kinds.specs.Kinds.{headerOf, holding, is}
+use Rattle.kinds.specs.Kinds.{headerOf, holding, is, hasName}
 use Rattle.bay.specs.Bay.{free, held}
-use Rattle.calls.specs.Calls.{Target, by-handle, by-pointer}
+use Rattle.calls.specs.Calls.{Target, by-handle, by-pointer, by-name}
 use Rattle.structure.specs.Structure.{Block, fixed, size, cell}
 
 -- whether t names the block that starts at offset `at`; a pointer names a fixed block by where its data begin
@@ -16,6 +16,9 @@ names (by-handle h) at (fixed d) = false
 names (by-handle h) at (cell (held e)) = is h e
 names (by-pointer p) at (cell c) = false
 names (by-pointer p) at (fixed d) = eqb p (at + fixedHeader)
+names (by-name i) at (cell (free n)) = false
+names (by-name i) at (fixed d) = false
+names (by-name i) at (cell (held e)) = hasName i e
 
 abbrev pub headerOfBlock : Block → ℕ
 headerOfBlock (cell (free n)) = freeHeader

@@ -3,7 +3,6 @@ pub mod locate;
 pub mod row;
 
 use block_type::BlockType;
-use zone_check::block_check;
 ghost use mathlib.Core.Path.{_≡_};
 ghost use Prim.Native.Nat.{_<_};
 ghost use lib.ListN.{length};

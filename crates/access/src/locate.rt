@@ -1,6 +1,5 @@
-// Where the data of a block lie that is named by handle or by pointer, and how many bytes they are.
+// Where the data of a block lie that is named by handle, by pointer or by name, and how many bytes they are.
 use super::row;
-use zone_check::block_check;
 ghost use mathlib.Core.Path.{_≡_};
 ghost use mathlib.Core.Bool.{_&&_};
 ghost use Prim.Native.Nat.{_+_, _<_, _≤_};
@@ -8,16 +7,19 @@ ghost use lib.ListN.{length, drop};
 ghost use lib.Dec.{eqb};
 ghost use Rattle.block_type.specs.Limits.{fixedCode, fixedHeader, smallestBlock};
 ghost use Rattle.format.specs.WellFormed.{typeOf};
-ghost use Rattle.calls.specs.Calls.{by-handle, by-pointer};
+ghost use Rattle.calls.specs.Calls.{by-handle, by-pointer, by-name};
+ghost use Rattle.access.specs.row.Row.{blockAt, Stepped};
+ghost use Rattle.access.specs.Named.{names};
 ghost use Rattle.access.specs.locate.Locate.{targetPlace, targetData, absentNumber, Located};
 ghost use Rattle.access.specs.locate.Named.{targetOf};
 use block_type::BlockType;
 ghost use Rattle.structure.specs.IsZone.{IsZone};
 
-// A block is named by its handle, or by its pointer where it is fixed.
+// A block is named by its handle, by its pointer where it is fixed, by its name where it is a page.
 pub enum Target {
     Handle(u32),
     Pointer(u32),
+    Name(u32),
 }
 
 // Where a block's data begin, 0 for no block, and how many bytes they are.
@@ -64,6 +66,36 @@ fn by_pointer(z: &[u8], p: u32) -> Span
     Span { at: 0, size: 0 }
 }
 
+// Whether the block of n bytes at `at` is the page of that name.
+pub fn is_named(z: &[u8], at: usize, n: usize, name: u32) -> bool
+    requires { ⌜ Stepped (now z) at n ⌝ }
+    ensures { λ r. ⌜ r ≡ names (by-name name) at (blockAt (now (z .entry)) at) ⌝ }
+{
+    if block_check::type_at(z, at) == BlockType::PAGE_CODE {
+        return bigendian::get4(z, at + BlockType::TAG_AT) == name;
+    }
+    false
+}
+
+// The data of a page, found from block to block.
+pub fn by_name(z: &[u8], name: u32) -> Span
+    requires { ⌜ IsZone (now z) ⌝ }
+    ensures { λ r. ⌜ (r .at ≡ targetPlace (by-name name) (now (z .entry))) × (r .size ≡ length (targetData (by-name name) (now (z .entry)))) ⌝ }
+{
+    let mut at = bigendian::get4(z, block_type::FIRST_AT) as usize;
+    while at < z.len() {
+        let n = row::step(z, at);
+        if is_named(z, at, n, name) {
+            return Span {
+                at: at + BlockType::PAGE_HEADER,
+                size: n - BlockType::PAGE_HEADER,
+            };
+        }
+        at += n;
+    }
+    Span { at: 0, size: 0 }
+}
+
 // The data of a block, in the bytes of a well-formed zone with none beyond its length.
 fn span_of(z: &[u8], block: Target) -> Span
     requires { ⌜ IsZone (now z) ⌝ }
@@ -72,6 +104,7 @@ fn span_of(z: &[u8], block: Target) -> Span
     match block {
         Target::Handle(h) => by_handle(z, h),
         Target::Pointer(p) => by_pointer(z, p),
+        Target::Name(n) => by_name(z, n),
     }
 }
 
@@ -82,6 +115,7 @@ fn absent_number(block: Target) -> u32
     match block {
         Target::Handle(_) => 6,
         Target::Pointer(_) => 7,
+        Target::Name(_) => 13,
     }
 }
 
@@ -92,7 +126,7 @@ pub struct Found {
     pub size: usize,
 }
 
-// The data of a block in any buffer: refused with 1, 6 or 7.
+// The data of a block in any buffer: refused with 1, 6, 7 or 13.
 pub fn find(zone: &[u8], block: Target) -> Found
     ensures { λ r. ⌜ Located (now (zone .entry)) (targetOf block) (r .number) (r .at) (r .size) ⌝ }
 {

@@ -1,5 +1,4 @@
 // A stretch of blocks: a list of bytes that blocks tile.
-use zone_check::block_check;
 ghost use Prim.Native.Nat.{_<_};
 ghost use lib.ListN.{length, drop};
 ghost use Rattle.access.specs.row.Row.{Row, Stepped};

@@ -1,4 +1,3 @@
-pub mod Bay
 pub mod Writes
 pub mod Placed
 pub mod PlanLaws

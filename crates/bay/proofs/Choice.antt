@@ -2,7 +2,7 @@
 use mathlib.Core.Path.{_≡_, refl, sym, ap, ap₂, _∙_, subst}
 use mathlib.Core.Bool.{Bool, true, false, cond, false≢true}
 use mathlib.Core.Option.{Option, none, some, Option·getD}
-use mathlib.Core.List.{List, [], _∷_, _++_, map, append-nil}
+use mathlib.Core.List.{List, [], _∷_, _++_, map, map-append, append-nil}
 use Prim.Native.Nat.{ℕ, _+_, _-_, _≤_, _<_}
 use native.Mathlib.Nat.{add-zero}
 use native.Mathlib.Omega.{arith}
@@ -10,14 +10,15 @@ use lib.ListN.{length}
 use lib.Dec.{leb}
 use borrow.Author.Tests.{le-leb, lt-leb, leb-true, leb-false}
 use Rattle.calls.specs.Bays.{over}
-use Rattle.kinds.specs.Kinds.{Item, itemSize, is}
-use Rattle.calls.specs.State.{get}
+use Rattle.kinds.specs.Kinds.{Item, itemSize, is, onData}
+use Rattle.calls.specs.State.{get, total, alter, sized}
 use Rattle.calls.specs.Table.{isNone}
-use Rattle.bay.specs.Bay.{Cell, free, held, baySum, items, gap, packed, Hole, behind, holes, asTight, tighter, choose, fill, trim, takeHigh, resized, inPlace, growHere}
+use Rattle.bay.specs.Bay.{Cell, free, held, baySize, baySum, items, gap, packed, Hole, behind, holes, asTight, tighter, choose, fill, trim, takeHigh, resized, inPlace, growHere, reshape}
 use Rattle.bay.proofs.Each.{Each, nothing, just, each-weaken, cond-ap}
 use Rattle.bay.proofs.Holes.{All, a-nil, a-cons, all-map, choose-all}
-use Rattle.bay.proofs.Laws.{items-append, bsum-append}
-use Rattle.bay.specs.Choice.{EachFree, no-cell, a-hole, a-block, inOrder, Tightest, IsChoice, some-fits, none-fits, FreeBefore, WhichHole, GrowsInPlace, TakesTheEnd, FreeAtTheEnd}
+use Rattle.bay.proofs.Laws.{items-append, bsum-append, bsize-split}
+use Rattle.bay.proofs.Resize.{length-sized}
+use Rattle.bay.specs.Choice.{EachFree, no-cell, a-hole, a-block, inOrder, Tightest, IsChoice, some-fits, none-fits, FreeBefore, WhichHole, NoRoom, at-the-end, at-block, at-hole, GrowsInPlace, TakesTheEnd, FreeAtTheEnd}
 
 pub packed-is : (es : List Item) (t : List Cell) → packed es t ≡ map held es ++ t
 packed-is [] t = refl
@@ -148,12 +149,12 @@ which-hole = record {
 
 -- ---- growth in place
 
-pub here-after : (h a : ℕ) (before cs : List Cell) → get h (items before) ≡ none → growHere h a (before ++ cs) ≡ over (before ++_) (growHere h a cs)
+pub here-after : (h a : ℕ) (before cs : List Cell) → get (is h) (items before) ≡ none → growHere h a (before ++ cs) ≡ over (before ++_) (growHere h a cs)
 here-after h a [] cs e = over-id (growHere h a cs)
 here-after h a (free k ∷ before) cs e = ap (over (free k ∷_)) (here-after h a before cs e) ∙ over-cons (free k) before (growHere h a cs)
 here-after h a (held d ∷ before) cs e = go (is h d) e (λ q. here-after h a before cs q)
   where
-    go : (t : Bool) → cond t (some d) (get h (items before)) ≡ none → (get h (items before) ≡ none → growHere h a (before ++ cs) ≡ over (before ++_) (growHere h a cs))
+    go : (t : Bool) → cond t (some d) (get (is h) (items before)) ≡ none → (get (is h) (items before) ≡ none → growHere h a (before ++ cs) ≡ over (before ++_) (growHere h a cs))
         → cond t (inPlace d a (before ++ cs)) (over (held d ∷_) (growHere h a (before ++ cs))) ≡ over ((held d ∷ before) ++_) (growHere h a cs)
     go true q f = absurd (false≢true (ap isNone q))
     go false q f = ap (over (held d ∷_)) (f q) ∙ over-cons (held d) before (growHere h a cs)
@@ -172,6 +173,54 @@ larger-here e a k after l m = rw (lt-leb a (length (e .bytes)) l, le-leb (a - le
 found : {o : Option (List Cell)} (cs ds : List Cell) → o ≡ some cs → Option·getD o ds ≡ cs
 found cs ds e = ap (λ (o : Option (List Cell)). Option·getD o ds) e
 
+-- no room behind it
+none-here : (e : Item) (a : ℕ) {after : List Cell} → length (e .bytes) < a → NoRoom (a - length (e .bytes)) after → inPlace e a after ≡ none
+none-here e a l at-the-end = rw (lt-leb a (length (e .bytes)) l)
+none-here e a l at-block = rw (lt-leb a (length (e .bytes)) l)
+none-here e a l (at-hole {k = k} m) = rw (lt-leb a (length (e .bytes)) l, lt-leb (a - length (e .bytes)) k m)
+
+alter-none : (h : ℕ) (g : Item → Item) (es : List Item) → get (is h) es ≡ none → map (alter (is h) g) es ≡ es
+alter-none h g [] q = refl
+alter-none h g (e ∷ es) q = go (is h e) q (λ k. alter-none h g es k)
+  where
+    go : (t : Bool) → cond t (some e) (get (is h) es) ≡ none → (get (is h) es ≡ none → map (alter (is h) g) es ≡ es) → cond t (g e) e ∷ map (alter (is h) g) es ≡ e ∷ es
+    go true q f = absurd (false≢true (ap isNone q))
+    go false q f = ap (e ∷_) (f q)
+
+total-other : (a b : List Item) (e d : Item) → total (a ++ (d ∷ b)) + itemSize e ≡ total (a ++ (e ∷ b)) + itemSize d
+total-other [] b e d = omega arith
+total-other (i ∷ a) b e d = omega (arith, total-other a b e d)
+
+module _ (h : ℕ) (e : Item) (a : ℕ) (before after : List Cell) (i : is h e ≡ true) (p : get (is h) (items before) ≡ none) (q : get (is h) (items after) ≡ none) (l : length (e .bytes) < a) where
+  abbrev all : List Cell
+  all = before ++ (held e ∷ after)
+
+  abbrev other : List Item
+  other = map (alter (is h) (onData (sized a))) (items all)
+
+  other-is : other ≡ items before ++ (resized a e ∷ items after)
+  other-is =
+      let g : Item → Item = alter (is h) (onData (sized a)) in
+      let k : g e ≡ resized a e = rw i in
+      ap (map g) (items-append before (held e ∷ after)) ∙ map-append g (items before) (e ∷ items after)
+      ∙ ap₂ _++_ (alter-none h (onData (sized a)) (items before) p) (ap₂ _∷_ k (alter-none h (onData (sized a)) (items after) q))
+
+  left : baySize all - total other ≡ baySum before + baySum after - (a - length (e .bytes))
+  left = omega (
+    arith,
+    bsize-split all,
+    ap total (items-append before (held e ∷ after)),
+    bsum-append before (held e ∷ after),
+    ap total other-is,
+    total-other (items before) (items after) e (resized a e),
+    length-sized a (e .bytes),
+  )
+
+  anew : NoRoom (a - length (e .bytes)) after → reshape h a all ≡ inOrder (items before ++ (resized a e ∷ items after)) (baySum before + baySum after - (a - length (e .bytes)))
+  anew n =
+      ap (λ (o : Option (List Cell)). Option·getD o (packed other (gap (baySize all - total other) []))) (here-after h a before (held e ∷ after) p ∙ ap (over (before ++_)) (at-handle h e a after i ∙ none-here e a l n))
+      ∙ packed-is other (gap (baySize all - total other) []) ∙ ap₂ inOrder other-is left
+
 pub grows-in-place : GrowsInPlace
 grows-in-place = record {
   smaller = λ h e a before after i q l.
@@ -180,6 +229,7 @@ grows-in-place = record {
   larger = λ h e a k before after i q l m.
       found (before ++ (held (resized a e) ∷ gap (k - (a - length (e .bytes))) after)) _
       (here-after h a before (held e ∷ (free k ∷ after)) q ∙ ap (over (before ++_)) (at-handle h e a (free k ∷ after) i ∙ larger-here e a k after l m));
+  laid-out = λ h e a before after i p q l n. anew h e a before after i p q l n;
 }
 
 -- ---- the end of a bay

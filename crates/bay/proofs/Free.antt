@@ -21,43 +21,43 @@ free-front zero b e cs = absurd (omega (arith, b))
 free-front (suc n) b e cs = refl
 
 -- a handle that no block has
-pub release-none : (h : ℕ) {cs : List Cell} → Sound cs → count h (items cs) ≡ 0 → release h cs ≡ cs
-release-none h s-nil q = refl
-release-none h (s-end {n = n} b) q = gap-one n (omega (arith, b))
-release-none h (s-free {n = n} {e = e} {cs = cs} b s) q = ap (gap n) (release-none h s q) ∙ free-front n b e cs
-release-none h (s-held {e = e} {cs = cs} b s) q = go (is h e) q (λ k. release-none h s k)
+pub release-none : (ok : Item → Bool) {cs : List Cell} → Sound cs → count ok (items cs) ≡ 0 → release ok cs ≡ cs
+release-none ok s-nil q = refl
+release-none ok (s-end {n = n} b) q = gap-one n (omega (arith, b))
+release-none ok (s-free {n = n} {e = e} {cs = cs} b s) q = ap (gap n) (release-none ok s q) ∙ free-front n b e cs
+release-none ok (s-held {e = e} {cs = cs} b s) q = go (ok e) q (λ k. release-none ok s k)
   where
-    go : (t : Bool) → cond t (suc (count h (items cs))) (count h (items cs)) ≡ 0 → (count h (items cs) ≡ 0 → release h cs ≡ cs)
-        → cond t (gap (itemSize e) (release h cs)) (held e ∷ release h cs) ≡ held e ∷ cs
+    go : (t : Bool) → cond t (suc (count ok (items cs))) (count ok (items cs)) ≡ 0 → (count ok (items cs) ≡ 0 → release ok cs ≡ cs)
+        → cond t (gap (itemSize e) (release ok cs)) (held e ∷ release ok cs) ≡ held e ∷ cs
     go true q f = absurd (omega arith)
     go false q f = ap (held e ∷_) (f q)
 
--- a handle that one block of the bay has: what stands before that block and behind it, and the bay that releasing the handle leaves
-pub record Released (h : ℕ) (e : Item) (cs : List Cell) : Type 0 where
+-- a test that one block of the bay passes: what stands before that block and behind it, and the bay that releasing it leaves
+pub record Released (ok : Item → Bool) (e : Item) (cs : List Cell) : Type 0 where
   pub low : List Cell
   pub high : List Cell
-  pub its : is h e ≡ true
+  pub its : ok e ≡ true
   pub parts : cs ≡ low ++ (held e ∷ high)
-  pub left : release h cs ≡ joinBays low (gap (itemSize e) high)
+  pub left : release ok cs ≡ joinBays low (gap (itemSize e) high)
 
 -- the same with one cell more in front
-released-next : (h : ℕ) (e : Item) (c : Cell) (cs : List Cell) → release h (c ∷ cs) ≡ joinBays (c ∷ []) (release h cs) → Released h e cs → Released h e (c ∷ cs)
-released-next h e (free n) cs q r = record { low = free n ∷ r .low; high = r .high; its = r .its; parts = ap (free n ∷_) (r .parts); left = q ∙ ap (gap n) (r .left) }
-released-next h e (held d) cs q r = record { low = held d ∷ r .low; high = r .high; its = r .its; parts = ap (held d ∷_) (r .parts); left = q ∙ ap (held d ∷_) (r .left) }
+released-next : (ok : Item → Bool) (e : Item) (c : Cell) (cs : List Cell) → release ok (c ∷ cs) ≡ joinBays (c ∷ []) (release ok cs) → Released ok e cs → Released ok e (c ∷ cs)
+released-next ok e (free n) cs q r = record { low = free n ∷ r .low; high = r .high; its = r .its; parts = ap (free n ∷_) (r .parts); left = q ∙ ap (gap n) (r .left) }
+released-next ok e (held d) cs q r = record { low = held d ∷ r .low; high = r .high; its = r .its; parts = ap (held d ∷_) (r .parts); left = q ∙ ap (held d ∷_) (r .left) }
 
-pub released : (h : ℕ) (e : Item) {cs : List Cell} → Sound cs → get h (items cs) ≡ some e → count h (items cs) ≤ 1 → Released h e cs
-released h e s-nil g l = let x : _≡_ {A = ℕ} 0 1 = cc in absurd (omega arith)
-released h e (s-end b) g l = let x : _≡_ {A = ℕ} 0 1 = cc in absurd (omega arith)
-released h e (s-free {n = n} {e = d} {cs = cs} b s) g l = released-next h e (free n) (held d ∷ cs) refl (released h e s g l)
-released h e (s-held {e = d} {cs = cs} b s) g l = go (is h d) refl g l (λ g l. released h e s g l)
+pub released : (ok : Item → Bool) (e : Item) {cs : List Cell} → Sound cs → get ok (items cs) ≡ some e → count ok (items cs) ≤ 1 → Released ok e cs
+released ok e s-nil g l = let x : _≡_ {A = ℕ} 0 1 = cc in absurd (omega arith)
+released ok e (s-end b) g l = let x : _≡_ {A = ℕ} 0 1 = cc in absurd (omega arith)
+released ok e (s-free {n = n} {e = d} {cs = cs} b s) g l = released-next ok e (free n) (held d ∷ cs) refl (released ok e s g l)
+released ok e (s-held {e = d} {cs = cs} b s) g l = go (ok d) refl g l (λ g l. released ok e s g l)
   where
-    go : (t : Bool) → is h d ≡ t → cond t (some d) (get h (items cs)) ≡ some e → cond t (suc (count h (items cs))) (count h (items cs)) ≤ 1
-        → (get h (items cs) ≡ some e → count h (items cs) ≤ 1 → Released h e cs) → Released h e (held d ∷ cs)
+    go : (t : Bool) → ok d ≡ t → cond t (some d) (get ok (items cs)) ≡ some e → cond t (suc (count ok (items cs))) (count ok (items cs)) ≤ 1
+        → (get ok (items cs) ≡ some e → count ok (items cs) ≤ 1 → Released ok e cs) → Released ok e (held d ∷ cs)
     go true i g l f =
         let q : d ≡ e = cc in
-        let none : count h (items cs) ≡ 0 = omega arith in
-        record { low = []; high = cs; its = ap (is h) (sym q) ∙ i; parts = ap (λ (x : Item). held x ∷ cs) q; left = rw i (ap₂ (λ (x : Item) (r : List Cell). gap (itemSize x) r) q (release-none h s none)) }
-    go false i g l f = released-next h e (held d) cs (rw i) (f g l)
+        let none : count ok (items cs) ≡ 0 = omega arith in
+        record { low = []; high = cs; its = ap ok (sym q) ∙ i; parts = ap (λ (x : Item). held x ∷ cs) q; left = rw i (ap₂ (λ (x : Item) (r : List Cell). gap (itemSize x) r) q (release-none ok s none)) }
+    go false i g l f = released-next ok e (held d) cs (rw i) (f g l)
 
 -- ---- what is free then
 

@@ -1,12 +1,13 @@
 -- What each call does to a bay: its size, and its items up to order.
 use mathlib.Core.Path.{_≡_, refl, ap, ap₂, _∙_}
+use mathlib.Core.Bool.{Bool}
 use mathlib.Core.List.{List, [], _∷_, _++_, map, append-nil, List·Permᴰ}
 use Prim.Native.Nat.{ℕ, zero, suc, _+_, _-_, _<_, _≤_}
 use native.Mathlib.Omega.{arith}
 use lib.ListN.{length}
 use lib.Dec.{leb}
 use borrow.Author.Tests.{leb-true}
-use Rattle.kinds.specs.Kinds.{Item, headerOf, itemSize, is}
+use Rattle.kinds.specs.Kinds.{Item, headerOf, itemSize, is, onData}
 use Rattle.calls.specs.State.{total, alter}
 use Rattle.bay.specs.Bay.{Cell, free, held, baySize, baySum, items, gap, packed, joinBays, compactBay, packedLess, trim, takeHigh, release, edit}
 use Rattle.bay.specs.Counted.{remove}
@@ -119,25 +120,25 @@ packed-less n cs h = record {
 pub cut-less : (n : ℕ) (cs : List Cell) → n ≤ baySum cs → Less n cs (takeHigh n cs)
 cut-less n cs h = each-getD (trim-less n cs) (packed-less n cs h)
 
-pub release-size : (h : ℕ) (cs : List Cell) → baySize (release h cs) ≡ baySize cs
-release-size h [] = refl
-release-size h (free n ∷ cs) = bsize-gap n (release h cs) ∙ ap (n +_) (release-size h cs)
-release-size h (held e ∷ cs) = cond-one baySize (is h e) (bsize-gap (itemSize e) (release h cs) ∙ ap (itemSize e +_) (release-size h cs)) (ap (itemSize e +_) (release-size h cs))
+pub release-size : (ok : Item → Bool) (cs : List Cell) → baySize (release ok cs) ≡ baySize cs
+release-size ok [] = refl
+release-size ok (free n ∷ cs) = bsize-gap n (release ok cs) ∙ ap (n +_) (release-size ok cs)
+release-size ok (held e ∷ cs) = cond-one baySize (ok e) (bsize-gap (itemSize e) (release ok cs) ∙ ap (itemSize e +_) (release-size ok cs)) (ap (itemSize e +_) (release-size ok cs))
 
-pub release-items : (h : ℕ) (cs : List Cell) → items (release h cs) ≡ remove h (items cs)
-release-items h [] = refl
-release-items h (free n ∷ cs) = items-gap n (release h cs) ∙ release-items h cs
-release-items h (held e ∷ cs) = cond-ap items (is h e) (items-gap (itemSize e) (release h cs) ∙ release-items h cs) (ap (e ∷_) (release-items h cs))
+pub release-items : (ok : Item → Bool) (cs : List Cell) → items (release ok cs) ≡ remove ok (items cs)
+release-items ok [] = refl
+release-items ok (free n ∷ cs) = items-gap n (release ok cs) ∙ release-items ok cs
+release-items ok (held e ∷ cs) = cond-ap items (ok e) (items-gap (itemSize e) (release ok cs) ∙ release-items ok cs) (ap (e ∷_) (release-items ok cs))
 
-pub edit-items : (h : ℕ) (f : List ℕ → List ℕ) (cs : List Cell) → items (edit h f cs) ≡ map (alter h f) (items cs)
-edit-items h f [] = refl
-edit-items h f (free n ∷ cs) = edit-items h f cs
-edit-items h f (held e ∷ cs) = ap (alter h f e ∷_) (edit-items h f cs)
+pub edit-items : (ok : Item → Bool) (g : Item → Item) (cs : List Cell) → items (edit ok g cs) ≡ map (alter ok g) (items cs)
+edit-items ok g [] = refl
+edit-items ok g (free n ∷ cs) = edit-items ok g cs
+edit-items ok g (held e ∷ cs) = ap (alter ok g e ∷_) (edit-items ok g cs)
 
-pub alter-size : (h : ℕ) (f : List ℕ → List ℕ) (e : Item) → ((b : List ℕ) → length (f b) ≡ length b) → itemSize (alter h f e) ≡ itemSize e
-alter-size h f e q = cond-one itemSize (is h e) (ap (headerOf e +_) (q (e .bytes))) refl
+pub alter-size : (ok : Item → Bool) (g : Item → Item) (e : Item) → ((e : Item) → itemSize (g e) ≡ itemSize e) → itemSize (alter ok g e) ≡ itemSize e
+alter-size ok g e q = cond-one itemSize (ok e) (q e) refl
 
-pub edit-size : (h : ℕ) (f : List ℕ → List ℕ) → ((b : List ℕ) → length (f b) ≡ length b) → (cs : List Cell) → baySize (edit h f cs) ≡ baySize cs
-edit-size h f q [] = refl
-edit-size h f q (free n ∷ cs) = ap (n +_) (edit-size h f q cs)
-edit-size h f q (held e ∷ cs) = ap₂ _+_ (alter-size h f e q) (edit-size h f q cs)
+pub edit-size : (ok : Item → Bool) (g : Item → Item) → ((e : Item) → itemSize (g e) ≡ itemSize e) → (cs : List Cell) → baySize (edit ok g cs) ≡ baySize cs
+edit-size ok g q [] = refl
+edit-size ok g q (free n ∷ cs) = ap (n +_) (edit-size ok g q cs)
+edit-size ok g q (held e ∷ cs) = ap₂ _+_ (alter-size ok g e q) (edit-size ok g q cs)

@@ -6,6 +6,7 @@ use mathlib.Core.List.{List, _∷_, map, List·Permᴰ, List·Permᴰ·nil, List
 use Prim.Native.Nat.{ℕ, suc, _+_, _≤_}
 use native.Mathlib.Omega.{arith}
 use lib.ListN.{length, length-append, length-map}
+use Rattle.calls.specs.Pages.{freed}
 use Rattle.kinds.specs.Kinds.{Item, itemSize, is, mastersOf}
 use Rattle.calls.specs.State.{total, get, card, listed}
 use Rattle.bay.specs.Counted.{remove, count}
@@ -32,23 +33,23 @@ remove-swap true false x y l = Permᴰ·refl _
 remove-swap false true x y l = Permᴰ·refl _
 remove-swap false false x y l = List·Permᴰ·swap refl refl
 
-pub perm-remove : (h : ℕ) {a b : List Item} → List·Permᴰ a b → List·Permᴰ (remove h a) (remove h b)
-perm-remove h List·Permᴰ·nil = List·Permᴰ·nil
-perm-remove h (List·Permᴰ·cons {a = x} e p) = rw (← e) (cond-perm (is h x) (perm-remove h p) (List·Permᴰ·cons refl (perm-remove h p)))
-perm-remove h (List·Permᴰ·swap {a = x} {b = y} {l = l} e q) = rw (← e, ← q) (remove-swap (is h x) (is h y) x y (remove h l))
-perm-remove h (List·Permᴰ·trans p q) = List·Permᴰ·trans (perm-remove h p) (perm-remove h q)
+pub perm-remove : (ok : Item → Bool) {a b : List Item} → List·Permᴰ a b → List·Permᴰ (remove ok a) (remove ok b)
+perm-remove ok List·Permᴰ·nil = List·Permᴰ·nil
+perm-remove ok (List·Permᴰ·cons {a = x} e p) = rw (← e) (cond-perm (ok x) (perm-remove ok p) (List·Permᴰ·cons refl (perm-remove ok p)))
+perm-remove ok (List·Permᴰ·swap {a = x} {b = y} {l = l} e q) = rw (← e, ← q) (remove-swap (ok x) (ok y) x y (remove ok l))
+perm-remove ok (List·Permᴰ·trans p q) = List·Permᴰ·trans (perm-remove ok p) (perm-remove ok q)
 
-pub perm-count : (h : ℕ) {a b : List Item} → List·Permᴰ a b → count h a ≡ count h b
-perm-count h List·Permᴰ·nil = refl
-perm-count h (List·Permᴰ·cons {a = x} e p) = rw (← e, perm-count h p)
-perm-count h (List·Permᴰ·swap {a = x} {b = y} {l = l} e q) = rw (← e, ← q) (both (is h x) (is h y) (count h l))
+pub perm-count : (ok : Item → Bool) {a b : List Item} → List·Permᴰ a b → count ok a ≡ count ok b
+perm-count ok List·Permᴰ·nil = refl
+perm-count ok (List·Permᴰ·cons {a = x} e p) = rw (← e, perm-count ok p)
+perm-count ok (List·Permᴰ·swap {a = x} {b = y} {l = l} e q) = rw (← e, ← q) (both (ok x) (ok y) (count ok l))
   where
     both : (t u : Bool) (n : ℕ) → cond t (suc (cond u (suc n) n)) (cond u (suc n) n) ≡ cond u (suc (cond t (suc n) n)) (cond t (suc n) n)
     both true true n = refl
     both true false n = refl
     both false true n = refl
     both false false n = refl
-perm-count h (List·Permᴰ·trans p q) = perm-count h p ∙ perm-count h q
+perm-count ok (List·Permᴰ·trans p q) = perm-count ok p ∙ perm-count ok q
 
 -- how many live handles
 pub listed-held : (e : Item) (es : List Item) → length (listed (e ∷ es)) ≡ length (mastersOf e) + length (listed es)
@@ -65,19 +66,32 @@ perm-live (List·Permᴰ·swap {a = w} {b = x} {a′ = y} {b′ = z} {l = l} e q
 perm-live (List·Permᴰ·trans p q) = perm-live p ∙ perm-live q
 
 -- where no handle stands twice, order does not matter to a search
-pub perm-get : (h : ℕ) {a b : List Item} → List·Permᴰ a b → count h a ≤ 1 → get h a ≡ get h b
-perm-get h List·Permᴰ·nil d = refl
-perm-get h (List·Permᴰ·cons {a = x} {l₁ = l} {l₂ = m} e p) d = rw (← e) (here (is h x) (λ k. perm-get h p k) d)
+pub perm-get : (ok : Item → Bool) {a b : List Item} → List·Permᴰ a b → count ok a ≤ 1 → get ok a ≡ get ok b
+perm-get ok List·Permᴰ·nil d = refl
+perm-get ok (List·Permᴰ·cons {a = x} {l₁ = l} {l₂ = m} e p) d = rw (← e) (here (ok x) (λ k. perm-get ok p k) d)
   where
-    here : (t : Bool) → (count h l ≤ 1 → get h l ≡ get h m) → cond t (suc (count h l)) (count h l) ≤ 1 → cond t (some x) (get h l) ≡ cond t (some x) (get h m)
+    here : (t : Bool) → (count ok l ≤ 1 → get ok l ≡ get ok m) → cond t (suc (count ok l)) (count ok l) ≤ 1 → cond t (some x) (get ok l) ≡ cond t (some x) (get ok m)
     here true f d = refl
     here false f d = f d
-perm-get h (List·Permᴰ·swap {a = x} {b = y} {l = l} e q) d = rw (← e, ← q) (both (is h x) (is h y) d)
+perm-get ok (List·Permᴰ·swap {a = x} {b = y} {l = l} e q) d = rw (← e, ← q) (both (ok x) (ok y) d)
   where
-    both : (t u : Bool) → cond t (suc (cond u (suc (count h l)) (count h l))) (cond u (suc (count h l)) (count h l)) ≤ 1
-        → cond t (some x) (cond u (some y) (get h l)) ≡ cond u (some y) (cond t (some x) (get h l))
+    both : (t u : Bool) → cond t (suc (cond u (suc (count ok l)) (count ok l))) (cond u (suc (count ok l)) (count ok l)) ≤ 1
+        → cond t (some x) (cond u (some y) (get ok l)) ≡ cond u (some y) (cond t (some x) (get ok l))
     both true true d = absurd (omega arith)
     both true false d = refl
     both false true d = refl
     both false false d = refl
-perm-get h (List·Permᴰ·trans p q) d = perm-get h p d ∙ perm-get h q (rw (perm-count h p) at d)
+perm-get ok (List·Permᴰ·trans p q) d = perm-get ok p d ∙ perm-get ok q (rw (perm-count ok p) at d)
+
+pub perm-freed : (ok : Item → Bool) {a b : List Item} → List·Permᴰ a b → freed ok a ≡ freed ok b
+perm-freed ok List·Permᴰ·nil = refl
+perm-freed ok (List·Permᴰ·cons {a = x} e p) = rw (← e, perm-freed ok p)
+perm-freed ok (List·Permᴰ·swap {a = x} {b = y} {l = l} e q) = rw (← e, ← q) (both (ok x) (ok y))
+  where
+    both : (t u : Bool) → cond t (itemSize x + cond u (itemSize y + freed ok l) (freed ok l)) (cond u (itemSize y + freed ok l) (freed ok l))
+        ≡ cond u (itemSize y + cond t (itemSize x + freed ok l) (freed ok l)) (cond t (itemSize x + freed ok l) (freed ok l))
+    both true true = omega arith
+    both true false = refl
+    both false true = refl
+    both false false = refl
+perm-freed ok (List·Permᴰ·trans p q) = perm-freed ok p ∙ perm-freed ok q

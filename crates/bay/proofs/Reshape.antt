@@ -9,7 +9,7 @@ use lib.ListN.{length}
 use lib.Dec.{leb}
 use borrow.Author.Tests.{leb-true, leb-false, lt-leb}
 use Rattle.calls.specs.Bays.{over}
-use Rattle.kinds.specs.Kinds.{Item, is}
+use Rattle.kinds.specs.Kinds.{Item, is, onData}
 use Rattle.calls.specs.State.{total, alter, sized}
 use Rattle.calls.proofs.Counted.{get-none, alter-none}
 use Rattle.bay.specs.Bay.{Cell, free, held, baySize, baySum, items, gap, packed, resized, inPlace, growHere, reshape}
@@ -42,7 +42,7 @@ gap-lead n (s-held {e = e} {cs = cs} b s) = let q : n ≡ n + 0 = omega arith in
 
 -- ---- the block e between the cells u and w
 
-module _ (h : ℕ) (e : Item) (its : is h e ≡ true) (a : ℕ) (u w : List Cell) (first : count h (items u) ≡ 0) where
+module _ (h : ℕ) (e : Item) (its : is h e ≡ true) (a : ℕ) (u w : List Cell) (first : count (is h) (items u) ≡ 0) where
   abbrev b : ℕ
   b = length (e .bytes)
 
@@ -55,16 +55,16 @@ module _ (h : ℕ) (e : Item) (its : is h e ≡ true) (a : ℕ) (u w : List Cell
       larger (s-held c t) k m = absurd (omega arith)
       larger (s-end {n = n} c) k m =
           let q : n - (a - b) ≡ b + n - a = omega arith in
-          grows-in-place .larger h e a n u [] its (get-none h (items u) first) k (omega arith) ∙ ap (λ (t : List Cell). u ++ (held (resized a e) ∷ t)) (gap-apart (n - (a - b)) (s-end {n = n} c) ∙ ap (λ (i : ℕ). gap i [] ++ []) q)
+          grows-in-place .larger h e a n u [] its (get-none (is h) (items u) first) k (omega arith) ∙ ap (λ (t : List Cell). u ++ (held (resized a e) ∷ t)) (gap-apart (n - (a - b)) (s-end {n = n} c) ∙ ap (λ (i : ℕ). gap i [] ++ []) q)
       larger (s-free {n = n} {e = d} {cs = cs} c t) k m =
           let q : n - (a - b) ≡ b + n - a = omega arith in
-          grows-in-place .larger h e a n u (held d ∷ cs) its (get-none h (items u) first) k (omega arith)
+          grows-in-place .larger h e a n u (held d ∷ cs) its (get-none (is h) (items u) first) k (omega arith)
           ∙ ap (λ (t : List Cell). u ++ (held (resized a e) ∷ t)) (gap-held (n - (a - b)) d cs ∙ ap (λ (i : ℕ). gap i [] ++ (held d ∷ cs)) q)
 
       go : (t : Bool) → leb a b ≡ t → reshape h a (u ++ (held e ∷ w)) ≡ u ++ (held (resized a e) ∷ (gap (b + startFree w - a) [] ++ pastStart w))
       go true k =
           let q : b - a + startFree w ≡ b + startFree w - a = omega (arith, leb-true a b k) in
-          grows-in-place .smaller h e a u w its (get-none h (items u) first) (leb-true a b k)
+          grows-in-place .smaller h e a u w its (get-none (is h) (items u) first) (leb-true a b k)
           ∙ ap (λ (t : List Cell). u ++ (held (resized a e) ∷ t)) (gap-lead (b - a) s ∙ ap (λ (n : ℕ). gap n [] ++ pastStart w) q)
       go false k = larger s (leb-false a b k) l
 
@@ -78,19 +78,19 @@ module _ (h : ℕ) (e : Item) (its : is h e ≡ true) (a : ℕ) (u w : List Cell
   total-append [] ys = omega arith
   total-append (x ∷ xs) ys = omega (arith, total-append xs ys)
 
-  alter-one : alter h (sized a) e ≡ resized a e
+  alter-one : alter (is h) (onData (sized a)) e ≡ resized a e
   alter-one = rw its
 
-  pub reshape-laid : count h (items w) ≡ 0 → b + startFree w < a → a - b ≤ baySum (u ++ (held e ∷ w))
+  pub reshape-laid : count (is h) (items w) ≡ 0 → b + startFree w < a → a - b ≤ baySum (u ++ (held e ∷ w))
       → reshape h a (u ++ (held e ∷ w)) ≡ map held (items u) ++ (held (resized a e) ∷ (map held (items w) ++ gap (baySum (u ++ (held e ∷ w)) - (a - b)) []))
   reshape-laid last l m =
       let cs = u ++ (held e ∷ w) in
-      let es = map (alter h (sized a)) (items cs) in
-      let none-here : growHere h a cs ≡ none = here-after h a u (held e ∷ w) (get-none h (items u) first) ∙ ap (over (u ++_)) (at-handle h e a w its ∙ no-room w l) in
+      let es = map (alter (is h) (onData (sized a))) (items cs) in
+      let none-here : growHere h a cs ≡ none = here-after h a u (held e ∷ w) (get-none (is h) (items u) first) ∙ ap (over (u ++_)) (at-handle h e a w its ∙ no-room w l) in
       let i : items cs ≡ items u ++ (e ∷ items w) = items-append u (held e ∷ w) in
       let es-are : es ≡ items u ++ (resized a e ∷ items w) =
-      ap (map (alter h (sized a))) i ∙ map-append (alter h (sized a)) (items u) (e ∷ items w)
-      ∙ ap₂ (λ (x y : List Item). x ++ y) (alter-none h (sized a) (items u) first) (ap₂ (λ (x : Item) (y : List Item). x ∷ y) alter-one (alter-none h (sized a) (items w) last)) in
+      ap (map (alter (is h) (onData (sized a)))) i ∙ map-append (alter (is h) (onData (sized a))) (items u) (e ∷ items w)
+      ∙ ap₂ (λ (x y : List Item). x ++ y) (alter-none (is h) (onData (sized a)) (items u) first) (ap₂ (λ (x : Item) (y : List Item). x ∷ y) alter-one (alter-none (is h) (onData (sized a)) (items w) last)) in
       let n : baySize cs - total es ≡ baySum cs - (a - b) =
       omega (arith, ap total es-are, total-append (items u) (resized a e ∷ items w), bsize-split cs, ap total i, total-append (items u) (e ∷ items w), length-sized a (e .bytes)) in
       ap (λ (o : Option (List Cell)). Option·getD o (packed es (gap (baySize cs - total es) []))) none-here

@@ -7,7 +7,7 @@ use native.Mathlib.Omega.{arith}
 use lib.ListN.{length}
 use lib.Dec.{leb}
 use borrow.Author.Tests.{leb-true}
-use Rattle.kinds.specs.Kinds.{Item, itemSize, is}
+use Rattle.kinds.specs.Kinds.{Item, itemSize, is, onData}
 use Rattle.calls.specs.State.{alter}
 use Rattle.bay.specs.Bay.{Cell, free, held, baySum, items, gap, packed, joinBays, compactBay, packedLess, put, trim, takeHigh, release, edit}
 use Rattle.bay.proofs.Each.{Each, nothing, just, each-over, each-cond, each-getD}
@@ -95,11 +95,11 @@ cond-sound : (t : Bool) {a b : List Cell} → Sound a → Sound b → Sound (con
 cond-sound true p q = p
 cond-sound false p q = q
 
-pub release-sound : (h : ℕ) {cs : List Cell} → Sound cs → Sound (release h cs)
-release-sound h s-nil = s-nil
-release-sound h (s-end {n = n} b) = gap-sound n (b .by4) s-nil
-release-sound h (s-free {n = n} b s) = gap-sound n (b .by4) (release-sound h s)
-release-sound h (s-held {e = e} b s) = cond-sound (is h e) (gap-sound (itemSize e) (b .by4) (release-sound h s)) (s-held b (release-sound h s))
+pub release-sound : (ok : Item → Bool) {cs : List Cell} → Sound cs → Sound (release ok cs)
+release-sound ok s-nil = s-nil
+release-sound ok (s-end {n = n} b) = gap-sound n (b .by4) s-nil
+release-sound ok (s-free {n = n} b s) = gap-sound n (b .by4) (release-sound ok s)
+release-sound ok (s-held {e = e} b s) = cond-sound (ok e) (gap-sound (itemSize e) (b .by4) (release-sound ok s)) (s-held b (release-sound ok s))
 
 pub weld-sound : {cs t : List Cell} → Sound cs → Sound t → Sound (joinBays cs t)
 weld-sound s-nil r = r
@@ -107,11 +107,11 @@ weld-sound (s-end {n = n} b) r = gap-sound n (b .by4) r
 weld-sound (s-free {n = n} b s) r = gap-sound n (b .by4) (weld-sound s r)
 weld-sound (s-held b s) r = s-held b (weld-sound s r)
 
-pub alter-block : (h : ℕ) (f : List ℕ → List ℕ) → ((l : List ℕ) → length (f l) ≡ length l) → (e : Item) → Block (itemSize e) → Block (itemSize (alter h f e))
-alter-block h f q e b = rw (alter-size h f e q) b
+pub alter-block : (ok : Item → Bool) (g : Item → Item) → ((e : Item) → itemSize (g e) ≡ itemSize e) → (e : Item) → Block (itemSize e) → Block (itemSize (alter ok g e))
+alter-block ok g q e b = rw (alter-size ok g e q) b
 
-pub edit-sound : (h : ℕ) (f : List ℕ → List ℕ) → ((l : List ℕ) → length (f l) ≡ length l) → {cs : List Cell} → Sound cs → Sound (edit h f cs)
-edit-sound h f q s-nil = s-nil
-edit-sound h f q (s-end b) = s-end b
-edit-sound h f q (s-free b (s-held {e = e} c s)) = s-free b (s-held (alter-block h f q e c) (edit-sound h f q s))
-edit-sound h f q (s-held {e = e} b s) = s-held (alter-block h f q e b) (edit-sound h f q s)
+pub edit-sound : (ok : Item → Bool) (g : Item → Item) → ((e : Item) → itemSize (g e) ≡ itemSize e) → {cs : List Cell} → Sound cs → Sound (edit ok g cs)
+edit-sound ok g q s-nil = s-nil
+edit-sound ok g q (s-end b) = s-end b
+edit-sound ok g q (s-free b (s-held {e = e} c s)) = s-free b (s-held (alter-block ok g q e c) (edit-sound ok g q s))
+edit-sound ok g q (s-held {e = e} b s) = s-held (alter-block ok g q e b) (edit-sound ok g q s)

@@ -1,4 +1,5 @@
--- One bay of a zone: its blocks in address order, and what each call does to it.
+-- One bay of a zone: its blocks in address order, and what each call does to it. Pages, document 02's named blocks, "slide as relocatable ones do" (U5): what
+-- is said here of an item is said of both kinds.
 use mathlib.Core.Bool.{Bool, cond}
 use mathlib.Core.Option.{Option, none, some, Option·getD}
 use mathlib.Core.List.{List, [], _∷_, _++_, map}
@@ -7,10 +8,10 @@ use lib.ListN.{length}
 use lib.Dec.{leb}
 use Rattle.calls.specs.Bays.{over}
 use Rattle.block_type.specs.Limits.{freeCode}
-use Rattle.kinds.specs.Kinds.{Item, codeOf, holding, itemSize, is}
+use Rattle.kinds.specs.Kinds.{Item, codeOf, onData, itemSize, is}
 use Rattle.calls.specs.State.{total, alter, sized}
 
--- ---- a bay's blocks: free ones by their size, relocatable ones by what they hold
+-- ---- a bay's blocks: free ones by their size, movable ones (relocatable blocks and pages) by what they hold
 
 pub data Cell : Type 0 where
   free : ℕ → Cell
@@ -51,7 +52,7 @@ abbrev pub gap : ℕ → List Cell → List Cell
 gap zero cs = cs
 gap (suc n) cs = merge (suc n) cs
 
--- relocatable blocks one after the other, then the cells t
+-- movable blocks one after the other, then the cells t
 abbrev pub packed : List Item → List Cell → List Cell
 packed [] t = t
 packed (e ∷ es) t = held e ∷ packed es t
@@ -63,7 +64,7 @@ joinBays (free n ∷ cs) t = gap n (joinBays cs t)
 joinBays (held e ∷ cs) t = held e ∷ joinBays cs t
 
 -- "its relocatable blocks go to its start in old order, one free block holds the rest (none for 0), masters follow" (a master holds where
--- its block is: `value` in Structure)
+-- its block is: `value` in Structure), and pages with them in that order
 abbrev pub compactBay : List Cell → List Cell
 compactBay cs = packed (items cs) (gap (baySum cs) [])
 
@@ -124,22 +125,22 @@ takeHigh n cs = Option·getD (trim n cs) (packedLess n cs)
 
 -- ---- freeing, writing
 
--- "the block becomes free, merged with free neighbours"
-abbrev pub release : ℕ → List Cell → List Cell
-release h [] = []
-release h (free n ∷ cs) = gap n (release h cs)
-release h (held e ∷ cs) = cond (is h e) (gap (itemSize e) (release h cs)) (held e ∷ release h cs)
+-- "the block becomes free, merged with free neighbours": each that passes the test
+abbrev pub release : (Item → Bool) → List Cell → List Cell
+release t [] = []
+release t (free n ∷ cs) = gap n (release t cs)
+release t (held e ∷ cs) = cond (t e) (gap (itemSize e) (release t cs)) (held e ∷ release t cs)
 
--- the bytes of handle h changed by f
-abbrev pub edit : ℕ → (List ℕ → List ℕ) → List Cell → List Cell
-edit h f [] = []
-edit h f (free n ∷ cs) = free n ∷ edit h f cs
-edit h f (held e ∷ cs) = held (alter h f e) ∷ edit h f cs
+-- each block that passes the test changed by g
+abbrev pub edit : (Item → Bool) → (Item → Item) → List Cell → List Cell
+edit t g [] = []
+edit t g (free n ∷ cs) = free n ∷ edit t g cs
+edit t g (held e ∷ cs) = held (alter t g e) ∷ edit t g cs
 
 -- ---- resize: "new data size a = up4(c), old b"
 
 abbrev pub resized : ℕ → Item → Item
-resized a e = holding e (sized a (e .bytes))
+resized a e = onData (sized a) e
 
 -- "into the free block right after it if that has at least a − b bytes"; n is a − b
 abbrev pub growInto : Item → ℕ → List Cell → Option (List Cell)
@@ -165,4 +166,4 @@ abbrev pub reshape : ℕ → ℕ → List Cell → List Cell
 reshape h a cs =
     Option·getD
     (growHere h a cs)
-    (packed (map (alter h (sized a)) (items cs)) (gap (baySize cs - total (map (alter h (sized a)) (items cs))) []))
+    (packed (map (alter (is h) (onData (sized a))) (items cs)) (gap (baySize cs - total (map (alter (is h) (onData (sized a))) (items cs))) []))

@@ -20,7 +20,7 @@ pub data EachFree (P : ℕ → Type 0) : List Cell → Type 0 where
 abbrev pub Smaller : ℕ → List Cell → Type 0
 Smaller n cs = EachFree (λ (k : ℕ). k < n) cs
 
--- relocatable blocks one after the other, and one free block at the end (none for 0)
+-- movable blocks one after the other, and one free block at the end (none for 0)
 abbrev pub inOrder : List Item → ℕ → List Cell
 inOrder es n = map held es ++ gap n []
 
@@ -51,12 +51,21 @@ pub record WhichHole : Type 0 where
   pub tightest : (e : Item) (cs : List Cell) (x : Hole) → Tightest (itemSize e) cs x → put e cs ≡ x .before ++ (held e ∷ gap (x .size - itemSize e) (x .after))
   pub compacted : (e : Item) (cs : List Cell) → Smaller (itemSize e) cs → put e cs ≡ map held (items cs) ++ (held e ∷ gap (baySum cs - itemSize e) [])
 
--- "For a ≤ b the tail is freed and merged. Else .. into the free block right after it if that has at least a − b bytes": no other block moves
+-- no free block of at least n bytes stands in front
+pub data NoRoom (n : ℕ) : List Cell → Type 0 where
+  at-the-end : NoRoom n []
+  at-block : {e : Item} {cs : List Cell} → NoRoom n (held e ∷ cs)
+  at-hole : {k : ℕ} {cs : List Cell} → k < n → NoRoom n (free k ∷ cs)
+
+-- "For a ≤ b the tail is freed and merged. Else .. into the free block right after it if that has at least a − b bytes": no other block moves; "or,
+-- failing that, the bay is laid out as compacted with this block at its new size"
 pub record GrowsInPlace : Type 0 where
-  pub smaller : (h : ℕ) (e : Item) (a : ℕ) (before after : List Cell) → is h e ≡ true → get h (items before) ≡ none → a ≤ length (e .bytes)
+  pub smaller : (h : ℕ) (e : Item) (a : ℕ) (before after : List Cell) → is h e ≡ true → get (is h) (items before) ≡ none → a ≤ length (e .bytes)
       → reshape h a (before ++ (held e ∷ after)) ≡ before ++ (held (resized a e) ∷ gap (length (e .bytes) - a) after)
-  pub larger : (h : ℕ) (e : Item) (a k : ℕ) (before after : List Cell) → is h e ≡ true → get h (items before) ≡ none → length (e .bytes) < a → a - length (e .bytes) ≤ k
+  pub larger : (h : ℕ) (e : Item) (a k : ℕ) (before after : List Cell) → is h e ≡ true → get (is h) (items before) ≡ none → length (e .bytes) < a → a - length (e .bytes) ≤ k
       → reshape h a (before ++ (held e ∷ (free k ∷ after))) ≡ before ++ (held (resized a e) ∷ gap (k - (a - length (e .bytes))) after)
+  pub laid-out : (h : ℕ) (e : Item) (a : ℕ) (before after : List Cell) → is h e ≡ true → get (is h) (items before) ≡ none → get (is h) (items after) ≡ none → length (e .bytes) < a
+      → NoRoom (a - length (e .bytes)) after → reshape h a (before ++ (held e ∷ after)) ≡ inOrder (items before ++ (resized a e ∷ items after)) (baySum before + baySum after - (a - length (e .bytes)))
 
 -- "If its last block is free and big enough, the high end of that; else after compacting": a bay whose last block is free and big enough is
 -- not compacted, and every other one is

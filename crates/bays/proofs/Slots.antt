@@ -7,7 +7,7 @@ use native.Mathlib.Omega.{arith}
 use lib.Dec.{leb}
 use borrow.Author.Tests.{lt-leb}
 use Rattle.structure.specs.Structure.{cell, sizes}
-use Rattle.kinds.specs.Kinds.{Item}
+use Rattle.kinds.specs.Kinds.{Item, is}
 use Rattle.calls.specs.Bays.{Bays, more, mapS, onLowest, orElse, findS}
 use Rattle.calls.specs.State.{get, Fixed, fsize}
 use Rattle.bay.specs.Bay.{Cell, baySize, baySum, items}
@@ -47,7 +47,7 @@ plug-lowest n f slot-end b u t = refl
 plug-lowest n f (slot-fixed x s) b u t = rw t
 plug-lowest n f (slot-behind c x k) b u t = rw (lt-leb n (baySum c) (u .0)) (ap (λ (s : Bays (List Cell) Fixed). more c x s) (plug-lowest n f k b (u .1) t))
 
-pub plug-live : (h : ℕ) (k : Slot) (b : List Cell) → count h (items b) ≤ live h (plug k b)
+pub plug-live : (h : ℕ) (k : Slot) (b : List Cell) → count (is h) (items b) ≤ live h (plug k b)
 plug-live h slot-end b = omega arith
 plug-live h (slot-fixed x s) b = omega arith
 plug-live h (slot-behind c x k) b = omega (arith, plug-live h k b)
@@ -65,7 +65,7 @@ plug-tiled (slot-fixed x s) b c q {p} (tile-more e t) = tile-more {p = p} {b = c
 plug-tiled (slot-behind d x k) b c q (tile-more e t) = tile-more e (plug-tiled k b c q t)
 
 -- a bay with the same items there: the same block is found
-pub plug-find : (h : ℕ) (k : Slot) (b c : List Cell) → items c ≡ items b → findS (λ (d : List Cell). get h (items d)) (plug k c) ≡ findS (λ (d : List Cell). get h (items d)) (plug k b)
-plug-find h slot-end b c q = ap (get h) q
-plug-find h (slot-fixed x s) b c q = ap (λ (es : List Item). orElse (get h es) (findS (λ (d : List Cell). get h (items d)) s)) q
-plug-find h (slot-behind d x k) b c q = ap (orElse (get h (items d))) (plug-find h k b c q)
+pub plug-find : (h : ℕ) (k : Slot) (b c : List Cell) → items c ≡ items b → findS (λ (d : List Cell). get (is h) (items d)) (plug k c) ≡ findS (λ (d : List Cell). get (is h) (items d)) (plug k b)
+plug-find h slot-end b c q = ap (get (is h)) q
+plug-find h (slot-fixed x s) b c q = ap (λ (es : List Item). orElse (get (is h) es) (findS (λ (d : List Cell). get (is h) (items d)) s)) q
+plug-find h (slot-behind d x k) b c q = ap (orElse (get (is h) (items d))) (plug-find h k b c q)

@@ -1,7 +1,6 @@
 // The bays of a zone's bytes: one walk over a bay, and the searches for a bay.
 use access::row;
 use block_type::BlockType;
-use zone_check::block_check;
 ghost use mathlib.Core.Path.{_≡_};
 ghost use mathlib.Core.Bool.{cond};
 ghost use Prim.Native.Nat.{_≤_};

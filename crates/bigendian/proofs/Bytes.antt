@@ -1,12 +1,12 @@
 -- Lists of bytes: their parts, and what makes a list of bytes of such.
 use mathlib.Core.Path.{_≡_, subst}
 use mathlib.Core.List.{List, [], _∷_, _++_}
-use Prim.Native.Nat.{ℕ, zero, suc, _+_, _<_, _≤_}
+use Prim.Native.Nat.{ℕ, zero, suc, _+_, _^_, _<_, _≤_}
 use native.Mathlib.Omega.{arith}
 use lib.ListN.{length, take, drop, set, replicate}
 use lib.Seq.{sets, getD-drop, take-append-seam, drop-append-seam, length-take-le}
 use Rattle.bigendian.specs.BigEndian.{fromBE, toBE, Bytes}
-use Rattle.bigendian.proofs.Laws.{toBE-be}
+use Rattle.bigendian.proofs.Laws.{be-lt, toBE-be}
 
 pub bytes-none : Bytes []
 bytes-none i = omega arith
@@ -30,6 +30,10 @@ bytes-right a b h = subst Bytes (drop-append-seam a b) (bytes-drop (length a) (a
 pub part-bytes : (n : ℕ) (s : List ℕ) → Bytes s → n ≤ length s → toBE n (fromBE (take n s)) ≡ take n s
 part-bytes n s h l =
     subst (λ (k : ℕ). toBE k (fromBE (take n s)) ≡ take n s) (length-take-le n s l) (toBE-be (take n s) (bytes-take n s h))
+
+-- the number in the first n bytes
+pub part-small : (n : ℕ) (s : List ℕ) → Bytes s → n ≤ length s → fromBE (take n s) < 256 ^ n
+part-small n s y l = rw (length-take-le n s l) at (be-lt (take n s) (bytes-take n s y))
 
 pub bytes-zeros : (n : ℕ) → Bytes (replicate n 0)
 bytes-zeros zero i = omega arith

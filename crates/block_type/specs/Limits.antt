@@ -2,7 +2,7 @@
 -- that they stand by name everywhere else.
 use Prim.Native.Nat.{ℕ, _+_, _*_, _/_}
 
--- ---- block types: "0 free, 1 fixed (non-relocatable), 2 relocatable"
+-- ---- block types: "0 free, 1 fixed (non-relocatable), 2 relocatable", and 3 (document 02, U5)
 
 abbrev pub freeCode : ℕ
 freeCode = 0
@@ -12,6 +12,10 @@ fixedCode = 1
 
 abbrev pub relocCode : ℕ
 relocCode = 2
+
+-- document 02, U5: "A named block has type 3". It is called a page here
+abbrev pub pageCode : ℕ
+pageCode = 3
 
 -- ---- header lengths: a free block has "a 4-byte size", a fixed one "data from byte 2", a relocatable one "data from byte 4"
 
@@ -24,9 +28,26 @@ fixedHeader = 2
 abbrev pub relocHeader : ℕ
 relocHeader = 4
 
--- "Relocatable: the same 14 bits, then the handle (2 bytes)"
+-- a page "data from byte 8" (document 02, U5)
+abbrev pub pageHeader : ℕ
+pageHeader = 8
+
+-- "Relocatable: the same 14 bits, then the handle (2 bytes)"; of a page "a 4-byte name, a status word"
 abbrev pub tagAt : ℕ
 tagAt = 2
+
+abbrev pub statusAt : ℕ
+statusAt = 6
+
+-- "In the status word the top bit is dirty, the next is lock, the low byte a stamp": what each bit adds, and what a stamp is below
+abbrev pub dirtyBit : ℕ
+dirtyBit = 32768
+
+abbrev pub lockBit : ℕ
+lockBit = 16384
+
+abbrev pub stampRange : ℕ
+stampRange = 256
 
 -- ---- "A block's first two bits are its type": of its first byte the type is what stands above 6 bits
 
@@ -62,6 +83,10 @@ fixedLimit = 32762
 abbrev pub relocLimit : ℕ
 relocLimit = 32760
 
+-- "Create needs up4(8 + c), with c at most 32,756" (document 02, U5)
+abbrev pub pageLimit : ℕ
+pageLimit = 32756
+
 -- ---- sizes (a difference of numbers stops at 0, here and everywhere: `3 - 5` is 0)
 
 -- "up4(k) is the least multiple of 4 not below k"
@@ -74,6 +99,9 @@ fixedNeed c = up4 (fixedHeader + c)
 
 abbrev pub relocNeed : ℕ → ℕ
 relocNeed c = up4 (relocHeader + c)
+
+abbrev pub pageNeed : ℕ → ℕ
+pageNeed c = up4 (pageHeader + c)
 
 -- ---- the zone: "Header, 16 bytes", "Masters follow, 4 bytes each", "bkFst = 16 + 4m"
 
@@ -117,8 +145,12 @@ mastersAt = 8
 abbrev pub chainAt : ℕ
 chainAt = 12
 
-abbrev pub zerosAt : ℕ
-zerosAt = 14
+-- document 02, U5: "Header byte 14 becomes a clock, byte 15 remains zero"
+abbrev pub clockAt : ℕ
+clockAt = 14
+
+abbrev pub zeroAt : ℕ
+zeroAt = 15
 
 -- ---- a roster: "8 bytes a live handle (handle, data size; 4 bytes each)"
 

@@ -1,14 +1,14 @@
 // The block types of a zone: type codes, header lengths and largest data sizes, as the type's own constants; and the zone's own numbers beside them.
 // Each is tied to the definition's number by a function that returns it.
 ghost use mathlib.Core.Path.{_≡_};
-ghost use Prim.Native.Nat.{_+_};
-ghost use Rattle.block_type.specs.Limits.{freeCode, fixedCode, relocCode, freeHeader, fixedHeader, relocHeader, tagAt, handleRange, typeByteUnit, typeUnit, smallestBlock, fixedLimit, relocLimit};
-ghost use Rattle.block_type.specs.Limits.{zoneHeader, masterSize, longestZone, mostMasters, addedMasters, addedBytes, lengthAt, firstAt, mastersAt, chainAt, zerosAt, recordSize, amountAt};
+ghost use Rattle.block_type.specs.Limits.{freeCode, fixedCode, relocCode, pageCode, freeHeader, fixedHeader, relocHeader, pageHeader, tagAt, statusAt, dirtyBit, lockBit, stampRange, handleRange, typeByteUnit, typeUnit, smallestBlock, fixedLimit, relocLimit, pageLimit};
+ghost use Rattle.block_type.specs.Limits.{zoneHeader, masterSize, longestZone, argumentRange, mostMasters, addedMasters, addedBytes, lengthAt, firstAt, mastersAt, chainAt, clockAt, zeroAt, recordSize, amountAt};
 
 pub enum BlockType {
     Free,
     Fixed,
     Relocatable,
+    Page,
 }
 
 impl BlockType {
@@ -18,14 +18,28 @@ impl BlockType {
 
     pub const RELOCATABLE_CODE: u8 = 2;
 
+    // document 02, U5: "A named block has type 3"
+    pub const PAGE_CODE: u8 = 3;
+
     pub const FREE_HEADER: usize = 4;
 
     pub const FIXED_HEADER: usize = 2;
 
     pub const RELOCATABLE_HEADER: usize = 4;
 
-    // "Relocatable: the same 14 bits, then the handle (2 bytes)"
+    pub const PAGE_HEADER: usize = 8;
+
+    // "Relocatable: the same 14 bits, then the handle (2 bytes)"; of a page "a 4-byte name, a status word"
     pub const TAG_AT: usize = 2;
+
+    pub const STATUS_AT: usize = 6;
+
+    // "the top bit is dirty, the next is lock, the low byte a stamp": what each bit adds, and what a stamp is below
+    pub const DIRTY_BIT: u32 = 32768;
+
+    pub const LOCK_BIT: u32 = 16384;
+
+    pub const STAMP_RANGE: u32 = 256;
 
     // "the handle (2 bytes)": handles are below
     pub const HANDLE_RANGE: u32 = 65536;
@@ -43,6 +57,8 @@ impl BlockType {
 
     pub const RELOCATABLE_LIMIT: u32 = 32760;
 
+    pub const PAGE_LIMIT: u32 = 32756;
+
     pub fn free_code() -> u8
         ensures { λ r. ⌜ r ≡ freeCode ⌝ }
     {
@@ -59,6 +75,12 @@ impl BlockType {
         ensures { λ r. ⌜ r ≡ relocCode ⌝ }
     {
         BlockType::RELOCATABLE_CODE
+    }
+
+    pub fn page_code() -> u8
+        ensures { λ r. ⌜ r ≡ pageCode ⌝ }
+    {
+        BlockType::PAGE_CODE
     }
 
     pub fn free_header() -> usize
@@ -79,10 +101,40 @@ impl BlockType {
         BlockType::RELOCATABLE_HEADER
     }
 
+    pub fn page_header() -> usize
+        ensures { λ r. ⌜ r ≡ pageHeader ⌝ }
+    {
+        BlockType::PAGE_HEADER
+    }
+
     pub fn tag_at() -> usize
         ensures { λ r. ⌜ r ≡ tagAt ⌝ }
     {
         BlockType::TAG_AT
+    }
+
+    pub fn status_at() -> usize
+        ensures { λ r. ⌜ r ≡ statusAt ⌝ }
+    {
+        BlockType::STATUS_AT
+    }
+
+    pub fn dirty_bit() -> u32
+        ensures { λ r. ⌜ r ≡ dirtyBit ⌝ }
+    {
+        BlockType::DIRTY_BIT
+    }
+
+    pub fn lock_bit() -> u32
+        ensures { λ r. ⌜ r ≡ lockBit ⌝ }
+    {
+        BlockType::LOCK_BIT
+    }
+
+    pub fn stamp_range() -> u32
+        ensures { λ r. ⌜ r ≡ stampRange ⌝ }
+    {
+        BlockType::STAMP_RANGE
     }
 
     pub fn handle_range() -> u32
@@ -120,6 +172,12 @@ impl BlockType {
     {
         BlockType::RELOCATABLE_LIMIT
     }
+
+    pub fn page_limit() -> u32
+        ensures { λ r. ⌜ r ≡ pageLimit ⌝ }
+    {
+        BlockType::PAGE_LIMIT
+    }
 }
 
 // ---- the zone
@@ -135,6 +193,9 @@ pub const LONGEST_ZONE: usize = 1048576;
 
 // "m ≤ 8,188"
 pub const MOST_MASTERS: usize = 8188;
+
+// "Arguments are unsigned 32-bit": every argument, a name too, is below
+pub const ARGUMENT_RANGE: u64 = 4294967296;
 
 // document 02, U3: "eight masters are added", for which the first bay gives up "32 bytes"
 pub const ADDED_MASTERS: usize = 8;
@@ -153,10 +214,10 @@ pub const MASTERS_AT: usize = 8;
 // "at 12 hFstFree, offset of the first free master, 0 for none (2)"
 pub const CHAIN_AT: usize = 12;
 
-// "at 14 two zero bytes"
-pub const ZEROS_AT: usize = 14;
+// document 02, U5: "Header byte 14 becomes a clock, byte 15 remains zero"
+pub const CLOCK_AT: usize = 14;
 
-pub const SECOND_ZERO_AT: usize = 15;
+pub const ZERO_AT: usize = 15;
 
 // a roster: "8 bytes a live handle (handle, data size; 4 bytes each)"
 pub const RECORD_SIZE: usize = 8;
@@ -179,6 +240,12 @@ pub fn longest_zone() -> usize
     ensures { λ r. ⌜ r ≡ longestZone ⌝ }
 {
     LONGEST_ZONE
+}
+
+pub fn argument_range() -> u64
+    ensures { λ r. ⌜ r ≡ argumentRange ⌝ }
+{
+    ARGUMENT_RANGE
 }
 
 pub fn most_masters() -> usize
@@ -223,16 +290,16 @@ pub fn chain_at() -> usize
     CHAIN_AT
 }
 
-pub fn zeros_at() -> usize
-    ensures { λ r. ⌜ r ≡ zerosAt ⌝ }
+pub fn clock_at() -> usize
+    ensures { λ r. ⌜ r ≡ clockAt ⌝ }
 {
-    ZEROS_AT
+    CLOCK_AT
 }
 
-pub fn second_zero_at() -> usize
-    ensures { λ r. ⌜ r ≡ zerosAt + 1 ⌝ }
+pub fn zero_at() -> usize
+    ensures { λ r. ⌜ r ≡ zeroAt ⌝ }
 {
-    SECOND_ZERO_AT
+    ZERO_AT
 }
 
 pub fn record_size() -> usize

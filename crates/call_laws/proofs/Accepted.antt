@@ -4,7 +4,7 @@ use mathlib.Core.Bool.{true, false}
 use mathlib.Core.List.{List}
 use Prim.Native.Nat.{ℕ}
 use Rattle.bigendian.specs.BigEndian.{Bytes}
-use Rattle.calls.specs.Calls.{Call, beside, secondOf}
+use Rattle.calls.specs.Calls.{Call, beside, Given}
 use Rattle.calls.specs.Table.{causes, holdsIn, order}
 use Rattle.calls.proofs.First.{among, clear}
 use Rattle.zone.specs.Work.{facts, work}
@@ -29,5 +29,5 @@ module _ {c : Call} {s : List ℕ} (a : Accepted c s) where
     before b = ap (λ (r : Result). r .answer) (call-of s y (a .well) b (step b (zoneIn s)) refl)
 
     -- and after it
-    pub after : Bytes (secondOf (beside c)) → (b : Call) → (call b ((call c s) .bytes)) .answer ≡ (step b ((work c (zoneIn s)) .next)) .answer
+    pub after : Given (beside c) → (b : Call) → (call b ((call c s) .bytes)) .answer ≡ (step b ((work c (zoneIn s)) .next)) .answer
     after f b = ap (λ (r : Result). r .answer) (after-call s y (a .well) c f (work c (zoneIn s)) is-work b)

@@ -13,9 +13,9 @@ use Rattle.bigendian.specs.BigEndian.{Bytes}
 use Rattle.format.specs.WellFormed.{wellFormed, zoneOf, lengthField}
 use Rattle.structure.specs.Structure.{Structure, len, encode, decode, decodeZone}
 use Rattle.structure.proofs.Table.{whole, len-is}
-use Rattle.calls.specs.Calls.{Call, Answer, told, refused, beside, secondOf}
+use Rattle.calls.specs.Calls.{Call, Answer, told, refused, beside, Given}
 use Rattle.calls.specs.State.{Out}
-use Rattle.calls.specs.Table.{refusalOf}
+use Rattle.calls.specs.Table.{refusalOf, Facts, refusalValue}
 use Rattle.bay.specs.Bay.{Cell}
 use Rattle.zone.specs.Work.{facts, work}
 use Rattle.zone.specs.Call.{zoneIn, result, replacing, callWith, call}
@@ -73,11 +73,11 @@ module _ (c : Call) (s : List ℕ) (number l : ℕ) (R : Type 0) (p : Planned c 
   frame-ready z = opened z .3
 
   -- a refused call, whose answer is the number alone
-  pub frame-no : refused c number ≡ told number 0 → (number ≡ 0 → ⊥) → result (told number 0) s ≡ call c s
+  pub frame-no : ((f : Facts) → refused c number (refusalValue number c f) ≡ told number 0) → (number ≡ 0 → ⊥) → result (told number 0) s ≡ call c s
   frame-no t ne = go p
     where
       go : Planned c s number l R → result (told number 0) s ≡ call c s
-      go (refusal n k) = ap (λ (a : Answer). result a s) (sym t) ∙ sym (ap (λ (n : ℕ). callWith n c s) k ∙ rw (ne-eqb number 0 ne))
+      go (refusal n k) = ap (λ (a : Answer). result a s) (sym (t (facts (wellFormed s) (zoneIn s)))) ∙ sym (ap (λ (n : ℕ). callWith n c s) k ∙ rw (ne-eqb number 0 ne))
       go (ready k w e f r) = absurd (ne k)
 
   module _ (g : (i : ℕ) → Fits w8 (getD s i 0)) (z : number ≡ 0) {a : Answer} {u : Structure} (d : Does c (length s) (take l s) a u) where
@@ -102,7 +102,7 @@ module _ (c : Call) (s : List ℕ) (number l : ℕ) (R : Type 0) (p : Planned c 
         let v = whole s (bytes-of s g) w in
         omega (arith, len-is (zoneOf s) v, v .all, length-take (lengthField s) s, opened z .1, opened z .2)
 
-    module _ (b : Bytes (secondOf (beside c))) where
+    module _ (b : Given (beside c)) where
       len-left : len u ≡ (work c (zoneIn s)) .next .len
       unfolding decode
       len-left = ap len (sym (m .line)) ∙ len-line ((work c (zoneIn s)) .next) (subst (λ (o : Out (List Cell)). Whole (o .next)) worked (next-whole s (bytes-of s g) w c b))

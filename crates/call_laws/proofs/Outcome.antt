@@ -9,9 +9,9 @@ use lib.Dec.{eqb, eqb·suc-zero}
 use Rattle.bigendian.specs.BigEndian.{Bytes}
 use Rattle.format.specs.WellFormed.{wellFormed, lengthField}
 use Rattle.structure.specs.Structure.{Structure, start, len, encode, decode}
-use Rattle.calls.specs.Calls.{Call, beside, secondOf, refused, told}
+use Rattle.calls.specs.Calls.{Call, beside, Given, refused, told}
 use Rattle.calls.specs.State.{Out, says}
-use Rattle.calls.specs.Table.{refusalOf}
+use Rattle.calls.specs.Table.{refusalOf, refusalValue}
 use Rattle.bay.specs.Bay.{Cell}
 use Rattle.zone.specs.Work.{Zone, facts, work}
 use Rattle.zone.specs.Group.{group}
@@ -23,7 +23,7 @@ use Rattle.zone.proofs.Run.{Stored, stored-well, stored-decode, stored-bays, st
 -- ---- a call on a zone: refused by the table, or its work; n is the refusal number
 
 abbrev pub stepAs : ℕ → Call → Zone → Out (List Cell)
-stepAs n c z = cond (eqb n 0) (work c z) (says (refused c n) z)
+stepAs n c z = cond (eqb n 0) (work c z) (says (refused c n (refusalValue n c (facts true z))) z)
 
 abbrev pub step : Call → Zone → Out (List Cell)
 step c z = stepAs (refusalOf c (facts true z)) c z
@@ -33,7 +33,7 @@ pub step-work : (c : Call) (z : Zone) → refusalOf c (facts true z) ≡ 0 → s
 step-work c z e = ap (λ (n : ℕ). stepAs n c z) e
 
 -- what is known of a zone after a call, refused or not
-module _ (c : Call) (f : Bytes (secondOf (beside c))) (z : Zone) (w : Whole z) where
+module _ (c : Call) (f : Given (beside c)) (z : Zone) (w : Whole z) where
   step-whole : Whole ((step c z) .next)
   step-whole = go (refusalOf c (facts true z)) refl
     where
@@ -58,12 +58,12 @@ module _ (s : List ℕ) (z : Zone) (w : Whole z) (t : Stored s z) where
 
   call-step : (c : Call) → call c s ≡ outcome s (inLine z) (step c z)
   call-step c =
-      (λ i. cond (eqb (number-is s z w t c i) 0) (cond (stored-well s z w t i) (outcome s (stored-decode s z w t i) (work c (stored-bays s z w t i))) (result (told 0 0) s)) (result (refused c (number-is s z w t c i)) s))
+      (λ i. cond (eqb (number-is s z w t c i) 0) (cond (stored-well s z w t i) (outcome s (stored-decode s z w t i) (work c (stored-bays s z w t i))) (result (told 0 0) s)) (result (refused c (number-is s z w t c i) (refusalValue (number-is s z w t c i) c (facts (stored-well s z w t i) (stored-bays s z w t i)))) s))
       ∙ go (refusalOf c (facts true z))
     where
-      go : (n : ℕ) → cond (eqb n 0) (outcome s (inLine z) (work c z)) (result (refused c n) s) ≡ outcome s (inLine z) (stepAs n c z)
+      go : (n : ℕ) → cond (eqb n 0) (outcome s (inLine z) (work c z)) (result (refused c n (refusalValue n c (facts true z))) s) ≡ outcome s (inLine z) (stepAs n c z)
       go zero = refl
-      go (suc n) = rw (eqb·suc-zero n) (ap (result (refused c (suc n))) (sym same-stored))
+      go (suc n) = rw (eqb·suc-zero n) (ap (result (refused c (suc n) (refusalValue (suc n) c (facts true z)))) (sym same-stored))
 
 -- ---- a well-formed buffer
 
@@ -82,7 +82,7 @@ module _ (s : List ℕ) (y : Bytes s) (wf : wellFormed s ≡ true) where
         ∙ ap (λ (u : Structure). outcome s u (step c z)) (sym (stored-decode s z (well-whole s y wf) (well-stored s y wf)))
         ∙ ap (outcome s (decode s)) e
 
-    module _ (f : Bytes (secondOf (beside c))) where
+    module _ (f : Given (beside c)) where
       pub next-whole : Whole ((step c z) .next)
       next-whole = step-whole c f z (well-whole s y wf)
 

@@ -6,8 +6,8 @@ use mathlib.Core.Option.{Option, none}
 use Prim.Native.Nat.{ℕ, _+_, _<_, _≤_}
 use lib.Dec.{leb}
 use borrow.Author.Tests.{le-leb, lt-leb}
-use Rattle.block_type.specs.Limits.{relocLimit, up4, relocNeed, mostMasters, addedMasters, addedBytes}
-use Rattle.calls.specs.Calls.{Target, by-handle, allocate-relocatable, resize, read, write, roster, refused}
+use Rattle.block_type.specs.Limits.{relocLimit, pageLimit, pageNeed, up4, relocNeed, mostMasters, addedMasters, addedBytes}
+use Rattle.calls.specs.Calls.{Target, by-handle, by-name, create-page, on-page, allocate-relocatable, resize, read, write, roster, refused}
 use Rattle.calls.specs.Table.{Facts, cause, isNone, first, order, noBayToResize, refusalOf}
 
 -- a resize of a handle that is not live gives 6, whatever else is wrong with it
@@ -17,14 +17,14 @@ six-first h c f w e = go (f .well) (leb c relocLimit) (noBayToResize h (up4 c) f
     go : (v t u : Bool) (o : Option ℕ) → v ≡ true → o ≡ none → first order (cause 1 (not v) ∷ cause 3 (not t) ∷ cause 5 u ∷ cause 6 (isNone o) ∷ []) ≡ 6
     go v t u o w e = rw (w, e) refl
 
-pub read-left : (t : Target) (i n k : ℕ) (second : List ℕ) → (refused (read t i n second) k) .bytes ≡ second
-read-left t i n k second = refl
+pub read-left : (t : Target) (i n k v : ℕ) (second : List ℕ) → (refused (read t i n second) k v) .bytes ≡ second
+read-left t i n k v second = refl
 
-pub write-left : (t : Target) (i n k : ℕ) (second : List ℕ) → (refused (write t i n second) k) .bytes ≡ second
-write-left t i n k second = refl
+pub write-left : (t : Target) (i n k v : ℕ) (second : List ℕ) → (refused (write t i n second) k v) .bytes ≡ second
+write-left t i n k v second = refl
 
-pub roster-left : (k : ℕ) (second : List ℕ) → (refused (roster second) k) .bytes ≡ second
-roster-left k second = refl
+pub roster-left : (k v : ℕ) (second : List ℕ) → (refused (roster second) k v) .bytes ≡ second
+roster-left k v second = refl
 
 -- ---- the number of a relocatable allocation of c bytes
 
@@ -53,3 +53,38 @@ empty-number c f w g l =
     go true true false = refl
     go true false v = refl
     go false u v = refl
+
+-- ---- the order
+
+pub the-order : order ≡ 1 ∷ 2 ∷ 6 ∷ 13 ∷ 7 ∷ 11 ∷ 3 ∷ 4 ∷ 5 ∷ 12 ∷ 8 ∷ 9 ∷ 10 ∷ []
+the-order = refl
+
+-- ---- the number of a create: by whether the name is absent, c within the limit, all unlocked pages enough, and no dirty page met
+
+abbrev pub createNumber : Bool → Bool → Bool → Bool → ℕ
+createNumber a l e s = cond a (cond l (cond e (cond s 0 12) 5) 3) 11
+
+pub create-number : (n c : ℕ) (f : Facts) → f .well ≡ true
+    → refusalOf (on-page n (create-page c)) f ≡ createNumber (isNone (f .size (by-name n))) (leb c pageLimit) (leb (pageNeed c) (f .largestEmptied)) (isNone (f .stop (pageNeed c)))
+create-number n c f w = rw w (go (isNone (f .size (by-name n))) (leb c pageLimit) (leb (pageNeed c) (f .largestEmptied)) (isNone (f .stop (pageNeed c))))
+  where
+    go : (a l e s : Bool) → first order (cause 1 false ∷ cause 11 (not a) ∷ cause 3 (not l) ∷ cause 5 (not e) ∷ cause 12 (not s) ∷ []) ≡ createNumber a l e s
+    go true true true true = refl
+    go true true true false = refl
+    go true true false s = refl
+    go true false e s = refl
+    go false l e s = refl
+
+-- of a call that asks for a page alone
+pub there-number : (t : Bool) → t ≡ false → first order (cause 1 false ∷ cause 13 t ∷ []) ≡ 0
+there-number t q = rw q refl
+
+pub absent-number : (t : Bool) → t ≡ true → first order (cause 1 false ∷ cause 13 t ∷ []) ≡ 13
+absent-number t q = rw q refl
+
+-- where there is none, whatever else is wrong with a stretch
+pub read-absent : (n i k : ℕ) (second : List ℕ) (f : Facts) → f .well ≡ true → isNone (f .size (by-name n)) ≡ true → refusalOf (read (by-name n) i k second) f ≡ 13
+read-absent n i k second f w q = rw (w, q) refl
+
+pub write-absent : (n i k : ℕ) (second : List ℕ) (f : Facts) → f .well ≡ true → isNone (f .size (by-name n)) ≡ true → refusalOf (write (by-name n) i k second) f ≡ 13
+write-absent n i k second f w q = rw (w, q) refl

@@ -1,9 +1,9 @@
--- For proofs: how many items have a handle.
-use mathlib.Core.Bool.{cond}
+-- For proofs: how many items pass a test.
+use mathlib.Core.Bool.{Bool, cond}
 use mathlib.Core.List.{List, [], _∷_}
 use Prim.Native.Nat.{ℕ, suc}
-use Rattle.kinds.specs.Kinds.{Item, is}
+use Rattle.kinds.specs.Kinds.{Item}
 
-abbrev pub count : ℕ → List Item → ℕ
-count h [] = 0
-count h (e ∷ es) = cond (is h e) (suc (count h es)) (count h es)
+abbrev pub count : (Item → Bool) → List Item → ℕ
+count t [] = 0
+count t (e ∷ es) = cond (t e) (suc (count t es)) (count t es)

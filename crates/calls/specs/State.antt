@@ -1,31 +1,32 @@
--- What a zone and a ledger are both made of: relocatable blocks by handle and data, fixed blocks by place and data, and beside the bays
--- the lengths and the free handles. B is what is kept of a bay.
-use mathlib.Core.Bool.{cond}
+-- What a zone and a ledger are both made of: movable blocks by key and data, fixed blocks by place and data, and beside the bays the lengths,
+-- the clock and the free handles. B is what is kept of a bay.
+use mathlib.Core.Bool.{Bool, cond}
 use mathlib.Core.Option.{Option, none, some, Option·getD}
 use mathlib.Core.List.{List, [], _∷_, _++_, map}
 use Prim.Native.Nat.{ℕ, zero, suc, _+_, _-_}
 use lib.ListN.{length, getD, take, drop, replicate}
 use lib.Dec.{eqb, leb}
 use Rattle.block_type.specs.Limits.{fixedHeader, masterSize, up4}
-use Rattle.kinds.specs.Kinds.{Item, item, mastersOf, holding, is, itemSize}
-use Rattle.calls.specs.Calls.{Target, by-handle, by-pointer, Answer, told}
+use Rattle.kinds.specs.Kinds.{Item, item, mastersOf, is, hasName, itemSize}
+use Rattle.calls.specs.Calls.{Target, by-handle, by-pointer, by-name, Answer, told}
 use Rattle.calls.specs.Roster.{Card}
 use Rattle.calls.specs.Bays.{Bays, last, more, over, findS, findF, maxS, sumS}
 
--- ---- relocatable blocks
+-- ---- movable blocks
 
 -- the bytes that they take
 abbrev pub total : List Item → ℕ
 total [] = 0
 total (e ∷ es) = itemSize e + total es
 
-abbrev pub get : ℕ → List Item → Option Item
-get h [] = none
-get h (e ∷ es) = cond (is h e) (some e) (get h es)
+-- the first that passes the test
+abbrev pub get : (Item → Bool) → List Item → Option Item
+get t [] = none
+get t (e ∷ es) = cond (t e) (some e) (get t es)
 
--- the item with its bytes changed by f, where it has the handle h
-abbrev pub alter : ℕ → (List ℕ → List ℕ) → Item → Item
-alter h f e = cond (is h e) (holding e (f (e .bytes))) e
+-- the item changed by g, where it passes the test
+abbrev pub alter : (Item → Bool) → (Item → Item) → Item → Item
+alter t g e = cond (t e) (g e) e
 
 -- "Data are zero"
 abbrev pub newItem : ℕ → ℕ → Item
@@ -82,6 +83,8 @@ pub record State (B : Type 0) : Type 0 where
   -- the buffer's length, and L
   pub buf : ℕ
   pub len : ℕ
+  -- document 02, U5: byte 14 of a zone; an accepted create or use steps it by one, modulo 256
+  pub clock : ℕ
   -- the free handles: the chain from its head on, the stack from its top on
   pub chain : List ℕ
   pub bays : Bays B Fixed
@@ -100,7 +103,7 @@ module _ {B : Type 0} where
   done v s = says (told 0 v) s
 
   abbrev pub withBays : Bays B Fixed → State B → State B
-  withBays b s = record { buf = s .buf; len = s .len; chain = s .chain; bays = b }
+  withBays b s = record { buf = s .buf; len = s .len; clock = s .clock; chain = s .chain; bays = b }
 
   -- ---- fixed blocks come and go
 
@@ -123,13 +126,14 @@ module _ {B : Type 0} where
   joinAt j p (last b) = last b
   joinAt j p (more b x s) = cond (eqb p (pointer x)) (joinOver j b x s) (more b x (joinAt j p s))
 
--- ---- what is in the bays; `all` are a bay's relocatable blocks, μ is its sum
+-- ---- what is in the bays; `all` are a bay's movable blocks, μ is its sum
 
 module _ {B : Type 0} (all : B → List Item) where
   -- the data of the block that a stretch names
   abbrev pub content : Target → Bays B Fixed → Option (List ℕ)
-  content (by-handle h) s = over (λ (e : Item). e .bytes) (findS (λ b. get h (all b)) s)
+  content (by-handle h) s = over (λ (e : Item). e .bytes) (findS (λ b. get (is h) (all b)) s)
   content (by-pointer p) s = over (λ (x : Fixed). x .bytes) (findF (λ (x : Fixed). eqb p (pointer x)) s)
+  content (by-name n) s = over (λ (e : Item). e .bytes) (findS (λ b. get (hasName n) (all b)) s)
 
   -- [] where there is none
   abbrev pub dataOf : Target → State B → List ℕ
@@ -137,7 +141,7 @@ module _ {B : Type 0} (all : B → List Item) where
 
   -- the sum of the bay that has the handle; 0 where none has it
   abbrev pub ownSum : (B → ℕ) → ℕ → Bays B Fixed → ℕ
-  ownSum μ h s = Option·getD (findS (λ b. over (λ (e : Item). μ b) (get h (all b))) s) 0
+  ownSum μ h s = Option·getD (findS (λ b. over (λ (e : Item). μ b) (get (is h) (all b))) s) 0
 
   abbrev pub liveCount : State B → ℕ
   liveCount s = sumS (λ b. length (listed (all b))) (s .bays)

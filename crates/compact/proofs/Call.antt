@@ -8,7 +8,6 @@ use mir.Val.{Fits}
 use mir.Syntax.{w8, w32}
 use Rattle.bigendian.specs.BigEndian.{fromBE}
 use Rattle.bigendian.proofs.Parts.{slice-take}
-use Rattle.bigendian.proofs.Bytes.{bytes-none}
 use Rattle.block_type.specs.Limits.{firstAt}
 use Rattle.format.specs.WellFormed.{firstField}
 use Rattle.structure.specs.Structure.{Structure, fixed, sizes, start, decodeZone, encode}
@@ -61,4 +60,4 @@ module _ (s : List ℕ) (number l first : ℕ) (p : Planned compact s number l (
 
   pub call-end : (v : ℕ) (y : List ℕ) → ((i : ℕ) → Fits w8 (getD s i 0)) → v ≡ largest (decodeZone (take l s)) → y ≡ encode (compacted (decodeZone (take l s)))
       → result (told 0 v) (y ++ drop l s) ≡ call compact s
-  call-end v y g ev ey = frame-done compact s number l _ p g z (does (take l s) (length s) v ev) bytes-none refl y ey
+  call-end v y g ev ey = frame-done compact s number l _ p g z (does (take l s) (length s) v ev) tt refl y ey

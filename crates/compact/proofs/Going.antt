@@ -66,7 +66,7 @@ module _ {s : Structure} {z : List ℕ} {at : ℕ} {pre : List Block} {u : Bays 
 module _ (s : Structure) (v : Valid s) (z : List ℕ) (e : z ≡ encode s) (at : ℕ) (pre post : List Block) (b : List Cell)
     (parts : s .blocks ≡ pre ++ (map cell b ++ post)) (place : at ≡ start s + sizes pre) where
   abbrev t : Structure
-  t = record { chain = s .chain; blocks = pre ++ (map cell (compactBay b) ++ post) }
+  t = record { clock = s .clock; chain = s .chain; blocks = pre ++ (map cell (compactBay b) ++ post) }
 
   pub its-bay : ZoneBay z at (at + baySize b)
   its-bay = rw (e, place) (zone-bay s v pre post b parts)
@@ -80,7 +80,7 @@ module _ (s : Structure) (v : Valid s) (z : List ℕ) (e : z ≡ encode s) (at :
   pub stays : baySum b ≡ endFree b → z ≡ encode t
   stays q =
       let w = tiled-left _ (map cell b) post (tiled-right false pre (map cell b ++ post) (subst (Valid.Tiled false) parts (v .tiled))) in
-      e ∙ ap (λ (bs : List Block). encode (record { chain = s .chain; blocks = bs })) (parts ∙ ap (λ (cs : List Cell). pre ++ (map cell cs ++ post)) (sym (still _ b w q)))
+      e ∙ ap (λ (bs : List Block). encode (record { clock = s .clock; chain = s .chain; blocks = bs })) (parts ∙ ap (λ (cs : List Cell). pre ++ (map cell cs ++ post)) (sym (still _ b w q)))
 
   -- where no free block stands on either side
   module _ (l : lastFree false pre ≡ false) (r : firstFree post ≡ false) where

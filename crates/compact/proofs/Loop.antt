@@ -37,7 +37,7 @@ use Rattle.structure.proofs.IsZone.{whole-of}
 
 -- s₀ is to be compacted; the bays below `at` are, and `best` is the largest of their sums
 pub data Going (s₀ : Structure) (z : List ℕ) (at best : ℕ) : Type 0 where
-  under-way : (s : Structure) (pre : List Block) (u : Bays (List Cell) Fixed) → Stands s z at pre u → s .chain ≡ s₀ .chain
+  under-way : (s : Structure) (pre : List Block) (u : Bays (List Cell) Fixed) → Stands s z at pre u → s .clock ≡ s₀ .clock → s .chain ≡ s₀ .chain
       → pre ++ flatten (mapS compactBay u) ≡ compacted s₀ .blocks → max best (maxS baySum u) ≡ largest s₀ → Going s₀ z at best
   through : length z < at → z ≡ encode (compacted s₀) → best ≡ largest s₀ → Going s₀ z at best
 
@@ -57,7 +57,7 @@ going-start z first i e =
       left = refl;
       place = e ∙ sym (start-is z w) ∙ sym (no-sizes (start d));
       tiled = subst (λ (u : Bays (List Cell) Fixed). Tiled first u (length z)) (b .bays) (b .tiled);
-    }) refl refl (omega arith)
+    }) refl refl refl (omega arith)
 
 pub first-within : (z : List ℕ) (first : ℕ) → IsZone z → first ≡ firstField z → first ≤ suc (length z)
 first-within z first i e = omega (arith, zone-bays z i first e .low)
@@ -67,28 +67,28 @@ module _ (s₀ : Structure) (z : List ℕ) (at best : ℕ) (g : Going s₀ z at 
   going-row l = go g
     where
       go : Going s₀ z at best → Row (drop at z)
-      go (under-way s pre u x c p m) = stands-row x
+      go (under-way s pre u x k c p m) = stands-row x
       go (through k p m) = absurd (omega arith)
 
   pub going-short : at ≤ length z → length z ≤ longestZone
   going-short l = go g
     where
       go : Going s₀ z at best → length z ≤ longestZone
-      go (under-way s pre u x c p m) = stands-short x
+      go (under-way s pre u x k c p m) = stands-short x
       go (through k p m) = absurd (omega arith)
 
   pub going-most : length z < at → best ≡ largest s₀
   going-most l = go g
     where
       go : Going s₀ z at best → best ≡ largest s₀
-      go (under-way s pre u x c p m) = absurd (omega (arith, tiled-long (x .tiled)))
+      go (under-way s pre u x k c p m) = absurd (omega (arith, tiled-long (x .tiled)))
       go (through k p m) = m
 
   pub going-bytes : length z < at → z ≡ encode (compacted s₀)
   going-bytes l = go g
     where
       go : Going s₀ z at best → z ≡ encode (compacted s₀)
-      go (under-way s pre u x c p m) = absurd (omega (arith, tiled-long (x .tiled)))
+      go (under-way s pre u x k c p m) = absurd (omega (arith, tiled-long (x .tiled)))
       go (through k p m) = p
 
 -- ---- one turn
@@ -121,32 +121,32 @@ module _ (s₀ : Structure) (z : List ℕ) (at best : ℕ) (g : Going s₀ z at 
     where
       go : Going s₀ z at best → Cut z at next b → ZoneBay z at end
       go (through k p m) c = absurd (omega arith)
-      go (under-way s pre u x c p m) (at-end q long n) = rw (r .between .end-is) (its-bay s (x .valid) z (x .image) at pre [] b (at-last x b (sym (stands-bays x) ∙ q)) (x .place))
-      go (under-way s pre u x c p m) (at-fixed f q place n lim) = rw (r .between .end-is) (its-bay s (x .valid) z (x .image) at pre _ b (at-more x b f _ (sym (stands-bays x) ∙ q)) (x .place))
+      go (under-way s pre u x k c p m) (at-end q long n) = rw (r .between .end-is) (its-bay s (x .valid) z (x .image) at pre [] b (at-last x b (sym (stands-bays x) ∙ q)) (x .place))
+      go (under-way s pre u x k c p m) (at-fixed f q place n lim) = rw (r .between .end-is) (its-bay s (x .valid) z (x .image) at pre _ b (at-more x b f _ (sym (stands-bays x) ∙ q)) (x .place))
 
   module _ (z′ : List ℕ) (best′ : ℕ) (eb : best′ ≡ max best sum) where
     -- z′ has the bay compacted, whatever it took
     abbrev Packs : Type 0
-    Packs = (s : Structure) (pre post : List Block) → Valid s → z ≡ encode s → s .blocks ≡ pre ++ (map cell b ++ post) → at ≡ start s + sizes pre → z′ ≡ encode (record { chain = s .chain; blocks = pre ++ (map cell (compactBay b) ++ post) })
+    Packs = (s : Structure) (pre post : List Block) → Valid s → z ≡ encode s → s .blocks ≡ pre ++ (map cell b ++ post) → at ≡ start s + sizes pre → z′ ≡ encode (record { clock = s .clock; chain = s .chain; blocks = pre ++ (map cell (compactBay b) ++ post) })
 
     turn : Packs → Going s₀ z′ next best′
     turn pk = go g (r .between .cut)
       where
         go : Going s₀ z at best → Cut z at next b → Going s₀ z′ next best′
         go (through k p m) c = absurd (omega arith)
-        go (under-way s pre u x c p m) (at-end q long n) =
+        go (under-way s pre u x k c p m) (at-end q long n) =
             let e = at-last x b (sym (stands-bays x) ∙ q) in
             let y = pk s pre [] (x .valid) (x .image) e (x .place) in
             through (omega (arith, ap length y, new-long s (x .valid) z (x .image) at pre [] b e (x .place) (x .left) refl))
-            (y ∙ (λ i. encode (record { chain = c i; blocks = (ap (λ (w : Bays (List Cell) Fixed). pre ++ flatten (mapS compactBay w)) (sym (sym (stands-bays x) ∙ q)) ∙ p) i })))
+            (y ∙ (λ i. encode (record { clock = k i; chain = c i; blocks = (ap (λ (w : Bays (List Cell) Fixed). pre ++ flatten (mapS compactBay w)) (sym (sym (stands-bays x) ∙ q)) ∙ p) i })))
             (omega (arith, eb, r .sum-is, m, ap (maxS baySum) (sym (stands-bays x) ∙ q)))
-        go (under-way s pre u x c p m) (at-fixed f q place n lim) =
+        go (under-way s pre u x k c p m) (at-fixed f q place n lim) =
             let w = baysAt z next in
             let o : u ≡ more b f w = sym (stands-bays x) ∙ q in
             let post = fixed (f .bytes) ∷ flatten w in
             let e = at-more x b f w o in
             let y = pk s pre post (x .valid) (x .image) e (x .place) in
-            let t : Structure = record { chain = s .chain; blocks = pre ++ (map cell (compactBay b) ++ post) } in
+            let t : Structure = record { clock = s .clock; chain = s .chain; blocks = pre ++ (map cell (compactBay b) ++ post) } in
             let nl = new-long s (x .valid) z (x .image) at pre post b e (x .place) (x .left) refl in
             let ps = pre-sizes pre (compactBay b) f in
             under-way t (pre ++ (map cell (compactBay b) ++ (fixed (f .bytes) ∷ []))) w (record {
@@ -156,7 +156,7 @@ module _ (s₀ : Structure) (z : List ℕ) (at best : ℕ) (g : Going s₀ z at 
               left = ap (lastFree false) (sym (append-assoc pre (map cell (compactBay b)) (fixed (f .bytes) ∷ []))) ∙ last-end false (pre ++ map cell (compactBay b)) (f .bytes);
               place = omega (arith, n, place, x .place, ps, tidy-size b, compact-start s (x .valid) pre post b e);
               tiled = subst (λ (k : ℕ). Tiled k w (length z′)) (sym n) (subst (Tiled (f .place + fsize f) w) (sym (ap length y ∙ nl)) (tiled-rest (subst (λ (v : Bays (List Cell) Fixed). Tiled at v (length z)) o (x .tiled))));
-            }) c
+            }) k c
             (sym (regroup pre (map cell (compactBay b)) (fixed (f .bytes) ∷ []) (flatten (mapS compactBay w))) ∙ ap (λ (v : Bays (List Cell) Fixed). pre ++ flatten (mapS compactBay v)) (sym o) ∙ p)
             (omega (arith, eb, r .sum-is, m, ap (maxS baySum) o))
 

@@ -4,7 +4,6 @@ use mathlib.Core.List.{List, [], _∷_}
 use Prim.Native.Nat.{ℕ, zero, suc}
 use native.Mathlib.Omega.{arith}
 use Rattle.bigendian.specs.BigEndian.{Bytes}
-use Rattle.bigendian.proofs.Bytes.{bytes-none}
 use Rattle.structure.specs.Structure.{start, decode}
 use Rattle.calls.specs.Calls.{compact}
 use Rattle.calls.specs.Bays.{Bays, last, more, mapS}
@@ -35,8 +34,8 @@ all-packed (more b x s) = (items-packed (items b) (gap-packed (baySum b)), all-p
 pub compact-packed : (s : List ℕ) → Bytes s → (call compact s) .answer .number ≡ 0
     → AllS Packed (group (start (decode ((call compact s) .bytes))) (decode ((call compact s) .bytes) .blocks))
 compact-packed s y e =
-    let a : Accepted compact s = accepted compact s (λ n. refl) refl e in
-    subst (AllS Packed) (sym (after-bays s y (a .well) compact bytes-none)) (all-packed (group (start (decode s)) (decode s .blocks)))
+    let a : Accepted compact s = accepted compact s (λ n v. refl) refl e in
+    subst (AllS Packed) (sym (after-bays s y (a .well) compact tt)) (all-packed (group (start (decode s)) (decode s .blocks)))
 
 -- ---- once more
 
@@ -53,5 +52,5 @@ all-compact (more b x s) = (compact-twice b, all-compact s)
 pub compact-again : (s : List ℕ) → Bytes s → (call compact s) .answer .number ≡ 0
     → AllS (λ (b : List Cell). compactBay b ≡ b) (group (start (decode ((call compact s) .bytes))) (decode ((call compact s) .bytes) .blocks))
 compact-again s y e =
-    let a : Accepted compact s = accepted compact s (λ n. refl) refl e in
-    subst (AllS (λ (b : List Cell). compactBay b ≡ b)) (sym (after-bays s y (a .well) compact bytes-none)) (all-compact (group (start (decode s)) (decode s .blocks)))
+    let a : Accepted compact s = accepted compact s (λ n v. refl) refl e in
+    subst (AllS (λ (b : List Cell). compactBay b ≡ b)) (sym (after-bays s y (a .well) compact tt)) (all-compact (group (start (decode s)) (decode s .blocks)))

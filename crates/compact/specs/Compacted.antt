@@ -6,7 +6,7 @@ use Rattle.bay.specs.Bay.{baySum, compactBay}
 use Rattle.zone.specs.Group.{group, flatten}
 
 abbrev pub compacted : Structure → Structure
-compacted s = record { chain = s .chain; blocks = flatten (mapS compactBay (group (start s) (s .blocks))) }
+compacted s = record { clock = s .clock; chain = s .chain; blocks = flatten (mapS compactBay (group (start s) (s .blocks))) }
 
 abbrev pub largest : Structure → ℕ
 largest s = maxS baySum (group (start s) (s .blocks))

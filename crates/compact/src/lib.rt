@@ -1,4 +1,4 @@
-// Compact: every bay, its relocatable blocks at its start and one free block behind them.
+// Compact: every bay, its relocatable blocks and pages at its start and one free block behind them.
 ghost use mathlib.Core.Path.{_≡_};
 ghost use mathlib.Core.Bool.{cond};
 ghost use lib.Dec.{eqb};

@@ -6,7 +6,7 @@ use Prim.Native.Nat.{ℕ, _+_, _*_, _%_}
 use lib.Dec.{eqb, leb}
 use borrow.Author.Tests.{leb-true, eqb-true}
 use lib.ListN.{length, getD}
-use Rattle.block_type.specs.Limits.{longestZone, masterSize, mostMasters, zoneHeader, zerosAt}
+use Rattle.block_type.specs.Limits.{longestZone, masterSize, mostMasters, zoneHeader, zeroAt}
 use Rattle.format.proofs.Bool.{and-left, and-right}
 pub use Rattle.format.specs.Steps.{Fields}
 use Rattle.format.specs.WellFormed.{headerOk, lengthField, firstField, mastersField, chainField}
@@ -14,8 +14,7 @@ use Rattle.format.specs.WellFormed.{headerOk, lengthField, firstField, m
 pub header-facts : (s : List ℕ) → headerOk s ≡ true → Fields s (lengthField s) (firstField s) (mastersField s) (chainField s)
 unfolding headerOk
 header-facts s h =
-    let t₀ = eqb (getD s zerosAt 0) 0 in
-    let t₁ = t₀ && eqb (getD s (zerosAt + 1) 0) 0 in
+    let t₁ = eqb (getD s zeroAt 0) 0 in
     let t₂ = t₁ && eqb (lengthField s % 4) 0 in
     let t₃ = t₂ && leb (lengthField s) (length s) in
     let t₄ = t₃ && leb (lengthField s) longestZone in
@@ -34,8 +33,7 @@ header-facts s h =
       is-masters = refl;
       is-chain = refl;
       long = leb-true zoneHeader (length s) (and-left _ _ h);
-      first-zero = eqb-true (getD s zerosAt 0) 0 (and-left t₀ _ h₁);
-      second-zero = eqb-true (getD s (zerosAt + 1) 0) 0 (and-right t₀ _ h₁);
+      zero = eqb-true (getD s zeroAt 0) 0 h₁;
       four = eqb-true (lengthField s % 4) 0 (and-right t₁ _ h₂);
       room = leb-true (lengthField s) (length s) (and-right t₂ _ h₃);
       limit = leb-true (lengthField s) longestZone (and-right t₃ _ h₄);

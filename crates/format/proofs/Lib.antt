@@ -7,3 +7,5 @@ pub mod Live
 pub mod Masters
 pub mod OneWalk
 pub mod Walk
+pub mod Distinct
+pub mod Every

@@ -10,7 +10,7 @@ use lib.ListN.{drop, length-append}
 use Rattle.format.specs.Occurs.{occurs}
 use Rattle.block_type.specs.Limits.{masterSize, zoneHeader, relocHeader}
 use Rattle.format.proofs.Bool.{and-left, and-right}
-use Rattle.format.specs.WellFormed.{splitBlocks, masterAt, relocs, offsets}
+use Rattle.format.specs.WellFormed.{splitBlocks, masterAt, relocs, offsets, names, distinct}
 use Rattle.format.specs.OneWalk.{links, blocksOk, bodyOk}
 use Rattle.format.specs.WellFormed.{chain}
 use Rattle.format.proofs.Masters.{Master}
@@ -23,16 +23,20 @@ pub record Parts (z : List ℕ) (first m head : ℕ) : Type 0 where
   pub walk : blocksOk z first false first (splitBlocks (drop first z)) ≡ true
   pub few : relocs (splitBlocks (drop first z)) ≤ m
   pub ends : links z first (m - relocs (splitBlocks (drop first z))) head ≡ true
+  pub apart : distinct (names (splitBlocks (drop first z))) ≡ true
 
 pub body-parts : (z : List ℕ) (first m head : ℕ) → bodyOk z first m head ≡ true → Parts z first m head
 unfolding bodyOk
 body-parts z first m head h =
     let r = relocs (splitBlocks (drop first z)) in
+    let d = distinct (names (splitBlocks (drop first z))) in
     let h₁ = and-right (blocksOk z first false first (splitBlocks (drop first z))) _ h in
+    let h₂ = and-right (leb r m) _ h₁ in
     record {
-      walk = and-left _ (leb r m && links z first (m - r) head) h;
-      few = leb-true r m (and-left _ (links z first (m - r) head) h₁);
-      ends = and-right (leb r m) _ h₁;
+      walk = and-left _ (leb r m && (links z first (m - r) head && d)) h;
+      few = leb-true r m (and-left _ (links z first (m - r) head && d) h₁);
+      ends = and-left _ d h₂;
+      apart = and-right (links z first (m - r) head) _ h₂;
     }
 
 module _ (z : List ℕ) (first m head : ℕ) (start : first ≡ zoneHeader + masterSize * m) (w : Parts z first m head) where

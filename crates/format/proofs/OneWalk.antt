@@ -10,10 +10,10 @@ use native.Mathlib.Decide.{ℕ-discrete}
 use lib.ListN.{length, drop}
 use lib.Dec.{eqb, leb, eqb·suc-suc}
 use borrow.Author.Tests.{eq-eqb, ne-eqb, eqb-true, le-leb, lt-leb, leb-true}
-use Rattle.block_type.specs.Limits.{freeCode, relocCode}
+use Rattle.block_type.specs.Limits.{freeCode, relocCode, pageCode}
 use Rattle.format.proofs.Bool.{and-left, and-right, is-false}
-use Rattle.format.specs.WellFormed.{headerOk, firstField, mastersField, chainField, handleOf, isFree, isReloc, splitBlocks, relocs, every, typeOk, sizeOk, tileOk, zerosOk, neighboursOk, isMaster, masterAt, handlesOk, linked, chainFrom, countsOk, zoneOf, blockRules, zoneRules, wellFormed}
-use Rattle.format.specs.OneWalk.{links, typeRule, freeRule, relocRule, blockOk, blocksOk, bodyOk}
+use Rattle.format.specs.WellFormed.{headerOk, firstField, mastersField, chainField, handleOf, isFree, isReloc, isPage, splitBlocks, relocs, names, distinct, every, typeOk, sizeOk, tileOk, zerosOk, pageSizeOk, statusOk, neighboursOk, isMaster, masterAt, handlesOk, linked, chainFrom, countsOk, zoneOf, blockRules, zoneRules, wellFormed}
+use Rattle.format.specs.OneWalk.{links, typeRule, freeRule, relocRule, pageRule, blockOk, blocksOk, bodyOk}
 
 -- ---- blocks
 
@@ -22,37 +22,43 @@ interchange true x true y = refl
 interchange true x false y = and-false x
 interchange false x b y = refl
 
--- six rules, each of a block (a to f) and of the blocks linked it (u to z): all of the block, then all of those linked it
-block-first : (a u b v c w d x e y f z : Bool)
-    → ((a && u) && (b && v) && (c && w) && (d && x) && (e && y) && (f && z)) ≡ ((a && b && c && d && e && f) && (u && v && w && x && y && z))
-block-first a u b v c w d x e y f z =
+-- eight rules, each of a block (a to h) and of the blocks behind it (q to x): all of the block, then all of those behind it
+block-first : (a q b r c s d t e u f v g w h x : Bool)
+    → ((a && q) && (b && r) && (c && s) && (d && t) && (e && u) && (f && v) && (g && w) && (h && x)) ≡ ((a && b && c && d && e && f && g && h) && (q && r && s && t && u && v && w && x))
+block-first a q b r c s d t e u f v g w h x =
     rw (
-      interchange a u b v,
-      interchange (a && b) (u && v) c w,
-      interchange (a && b && c) (u && v && w) d x,
-      interchange (a && b && c && d) (u && v && w && x) e y,
-      interchange (a && b && c && d && e) (u && v && w && x && y) f z,
+      interchange a q b r,
+      interchange (a && b) (q && r) c s,
+      interchange (a && b && c) (q && r && s) d t,
+      interchange (a && b && c && d) (q && r && s && t) e u,
+      interchange (a && b && c && d && e) (q && r && s && t && u) f v,
+      interchange (a && b && c && d && e && f) (q && r && s && t && u && v) g w,
+      interchange (a && b && c && d && e && f && g) (q && r && s && t && u && v && w) h x,
     )
 
 -- the walk asks for a block's type last: t goes behind the two size rules p, q and the tile rule l
-type-last : (t p q l d e f : Bool) → (t && (p && q) && l && d && e && f) ≡ (p && (q && (l && (t && d && e && f))))
-type-last true true true true d e f = refl
-type-last true true true false d e f = refl
-type-last true true false l d e f = refl
-type-last true false q l d e f = refl
-type-last false p q l d e f = simp and-false
+type-last : (t p q l d e f g h : Bool) → (t && (p && q) && l && d && e && f && g && h) ≡ (p && (q && (l && (t && d && e && f && g && h))))
+type-last true true true true d e f g h = refl
+type-last true true true false d e f g h = refl
+type-last true true false l d e f g h = refl
+type-last true false q l d e f g h = refl
+type-last false p q l d e f g h = simp and-false
 
--- the rules that depend on the type k, by type
-by-type : (k : ℕ) (prev zeros reloc : Bool)
-    → (leb k relocCode && (not (eqb k freeCode) || zeros) && not (prev && eqb k freeCode) && (not (eqb k relocCode) || reloc)) ≡ typeRule k (not prev && zeros) reloc
+-- the rules that depend on the type k, by type; a page's size and status are two rules
+by-type : (k : ℕ) (prev zeros large status reloc : Bool)
+    → (leb k pageCode && (not (eqb k freeCode) || zeros) && (not (eqb k pageCode) || large) && (not (eqb k pageCode) || status) && not (prev && eqb k freeCode) && (not (eqb k relocCode) || reloc))
+    ≡ typeRule k (not prev && zeros) reloc (large && status)
 unfolding typeRule
-by-type zero true true reloc = refl
-by-type zero true false reloc = refl
-by-type zero false true reloc = refl
-by-type zero false false reloc = refl
-by-type (suc zero) prev zeros reloc = simp and-false
-by-type (suc (suc zero)) prev zeros reloc = simp and-false
-by-type (suc (suc (suc k))) prev zeros reloc = rw (lt-leb (suc (suc (suc k))) relocCode (omega arith))
+by-type zero true true large status reloc = refl
+by-type zero true false large status reloc = refl
+by-type zero false true large status reloc = refl
+by-type zero false false large status reloc = refl
+by-type (suc zero) prev zeros large status reloc = simp and-false
+by-type (suc (suc zero)) prev zeros large status reloc = simp and-false
+by-type (suc (suc (suc zero))) prev zeros true true reloc = simp and-false
+by-type (suc (suc (suc zero))) prev zeros true false reloc = simp and-false
+by-type (suc (suc (suc zero))) prev zeros false status reloc = refl
+by-type (suc (suc (suc (suc k)))) prev zeros large status reloc = rw (lt-leb (suc (suc (suc (suc k)))) pageCode (omega arith))
 
 module _ (z : List ℕ) (first : ℕ) where
   block-walk : (prev : Bool) (at : ℕ) (b : List ℕ)
@@ -60,14 +66,16 @@ module _ (z : List ℕ) (first : ℕ) where
       && sizeOk b
       && tileOk b
       && zerosOk b
+      && pageSizeOk b
+      && statusOk b
       && not (prev && isFree b)
       && (not (isReloc b) || relocRule z first at (handleOf b)))
       ≡ blockOk z first prev at b
-  unfolding typeOk sizeOk tileOk zerosOk isFree isReloc blockOk freeRule
+  unfolding typeOk sizeOk tileOk zerosOk pageSizeOk statusOk isFree isReloc isPage blockOk freeRule pageRule
   block-walk prev at b = rw (type-last, by-type)
 
-  blocks-walk : (bs : List (List ℕ)) (prev : Bool) (at : ℕ)
-      → (every typeOk bs && every sizeOk bs && every tileOk bs && every zerosOk bs && neighboursOk prev bs && handlesOk z first at bs)
+  pub blocks-walk : (bs : List (List ℕ)) (prev : Bool) (at : ℕ)
+      → (every typeOk bs && every sizeOk bs && every tileOk bs && every zerosOk bs && every pageSizeOk bs && every statusOk bs && neighboursOk prev bs && handlesOk z first at bs)
       ≡ blocksOk z first prev at bs
   unfolding every neighboursOk handlesOk blocksOk relocRule
   blocks-walk [] prev at = refl
@@ -119,6 +127,12 @@ module _ (z : List ℕ) (first : ℕ) where
         chain-links n j (masterAt z h) (omega arith),
       )
 
+-- the walk asks for the names last
+names-last : (a b c d : Bool) → ((a && (b && c)) && d) ≡ (a && (b && (c && d)))
+names-last true true c d = refl
+names-last true false c d = refl
+names-last false b c d = refl
+
 pub rules-walk : (z : List ℕ) (first m head : ℕ) → zoneRules z first m head ≡ bodyOk z first m head
 unfolding zoneRules blockRules bodyOk
 rules-walk z first m head =
@@ -128,6 +142,7 @@ rules-walk z first m head =
       count-rest m (relocs bs) (chainFrom z first m head),
       chain-links z first m (m - relocs bs) head (omega arith),
     )
+    (names-last (blocksOk z first false first bs) (leb (relocs bs) m) (links z first (m - relocs bs) head) (distinct (names bs)))
 
 pub one-walk : (s : List ℕ) → wellFormed s ≡ (headerOk s && bodyOk (zoneOf s) (firstField s) (mastersField s) (chainField s))
 unfolding wellFormed

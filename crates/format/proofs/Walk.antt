@@ -1,20 +1,20 @@
 -- The recursion of blocks, as equations at an offset: what a loop from block to block needs.
 use mathlib.Core.Path.{_≡_, refl, sym, ap, _∙_}
 use mathlib.Core.List.{List, [], _∷_}
-use mathlib.Core.Bool.{Bool, true, false}
+use mathlib.Core.Bool.{Bool, true, false, cond, _&&_}
 use Prim.Native.Nat.{ℕ, zero, suc, _+_, _*_, _-_, _%_, _<_, _≤_}
 use native.Mathlib.Omega.{arith}
-use lib.Dec.{eqb, leb}
+use lib.Dec.{eqb, leb, ltb}
 use borrow.Author.Tests.{eq-eqb, ne-eqb, leb-true, eqb-true, le-leb}
 use lib.ListN.{length, take, drop, length-take, length-drop, drop-of-length-le}
 use lib.Seq.{take-take, getD-take, drop-drop}
-use Rattle.block_type.specs.Limits.{typeUnit, smallestBlock, freeCode, tagAt}
+use Rattle.block_type.specs.Limits.{typeUnit, smallestBlock, freeCode, pageCode, tagAt, statusAt, pageHeader, lockBit, stampRange}
 use Rattle.bigendian.specs.BigEndian.{fromBE}
 use Rattle.bigendian.proofs.Parts.{drop-pred, drop-take}
 use Rattle.format.proofs.Bool.{and-left, and-right}
 pub use Rattle.format.specs.Steps.{Turn}
-use Rattle.format.specs.WellFormed.{typeOf, sizeOf, handleOf, isFree, isReloc, splitFrom, splitBlocks, relocs}
-use Rattle.format.specs.OneWalk.{ruleOf, blockOk, blocksOk}
+use Rattle.format.specs.WellFormed.{typeOf, sizeOf, handleOf, nameOf, statusOf, isFree, isReloc, isPage, splitFrom, splitBlocks, relocs, names}
+use Rattle.format.specs.OneWalk.{typeRule, pageRule, ruleOf, blockOk, blocksOk}
 
 from-drop : (k : ℕ) (s : List ℕ) → splitFrom k s ≡ splitBlocks (drop k s)
 unfolding splitFrom
@@ -56,6 +56,18 @@ module _ (n : ℕ) (r : List ℕ) (h : smallestBlock ≤ n) where
   unfolding handleOf
   handle-take = rw (drop-take tagAt n r, take-take 2 (n - tagAt) (drop tagAt r) (omega arith))
 
+  pub status-take : pageHeader ≤ n → statusOf (take n r) ≡ statusOf r
+  unfolding statusOf
+  status-take l = rw (drop-take statusAt n r, take-take 2 (n - statusAt) (drop statusAt r) (omega arith))
+
+  pub name-take : pageHeader ≤ n → nameOf (take n r) ≡ nameOf r
+  unfolding nameOf
+  name-take l = rw (drop-take tagAt n r, take-take 4 (n - tagAt) (drop tagAt r) (omega arith))
+
+  pub is-page-take : isPage (take n r) ≡ isPage r
+  unfolding isPage
+  is-page-take = rw kind-take
+
   pub free-take : isFree (take n r) ≡ isFree r
   unfolding isFree
   free-take = rw kind-take
@@ -63,6 +75,15 @@ module _ (n : ℕ) (r : List ℕ) (h : smallestBlock ≤ n) where
   pub reloc-take : isReloc (take n r) ≡ isReloc r
   unfolding isReloc
   reloc-take = rw kind-take
+
+-- a page's rule asks first for room for its header
+pub page-take : (r : List ℕ) → smallestBlock ≤ sizeOf r → pageRule (take (sizeOf r) r) ≡ pageRule r
+unfolding pageRule
+page-take r h = rw (size-take (sizeOf r) r h) (go (leb pageHeader (sizeOf r)) refl)
+  where
+    go : (t : Bool) → leb pageHeader (sizeOf r) ≡ t → (t && ltb (statusOf (take (sizeOf r) r) % lockBit) stampRange) ≡ (t && ltb (statusOf r % lockBit) stampRange)
+    go true e = rw (status-take (sizeOf r) r h (leb-true pageHeader (sizeOf r) e))
+    go false e = refl
 
 -- what the test of a block says
 pub record Good (z : List ℕ) (first : ℕ) (prev : Bool) (at : ℕ) (b : List ℕ) : Type 0 where
@@ -106,10 +127,28 @@ module _ (z : List ℕ) (first : ℕ) (prev : Bool) (at : ℕ) where
         size-take (sizeOf r) r h,
         kind-take (sizeOf r) r h,
         handle-take (sizeOf r) r h,
+        page-take r h,
         le-leb smallestBlock (sizeOf r) h,
         eq-eqb (sizeOf r % 4) 0 f,
         eq-eqb (sizeOf r) (length (take (sizeOf r) r)) (omega (arith, length-take (sizeOf r) r)),
       )
+
+-- the names from a block on, by what is known of its size
+pub names-of : (r : List ℕ) → 0 < length r → smallestBlock ≤ sizeOf r → (isPage r ≡ true → pageHeader ≤ sizeOf r)
+    → names (splitBlocks r) ≡ cond (isPage r) (nameOf r ∷ names (splitBlocks (drop (sizeOf r) r))) (names (splitBlocks (drop (sizeOf r) r)))
+unfolding names
+names-of r l s p = rw (blocks-cons r l (omega arith), is-page-take (sizeOf r) r s) (go (isPage r) refl)
+  where
+    go : (t : Bool) → isPage r ≡ t
+        → cond t (nameOf (take (sizeOf r) r) ∷ names (splitBlocks (drop (sizeOf r) r))) (names (splitBlocks (drop (sizeOf r) r)))
+        ≡ cond t (nameOf r ∷ names (splitBlocks (drop (sizeOf r) r))) (names (splitBlocks (drop (sizeOf r) r)))
+    go true e = rw (name-take (sizeOf r) r s (p e))
+    go false e = refl
+
+-- a page that obeys its rule has room for its header
+page-long : (z : List ℕ) (first : ℕ) (prev : Bool) (at : ℕ) (r b : List ℕ) → ruleOf (typeOf r) z first prev at b r ≡ true → isPage r ≡ true → pageHeader ≤ sizeOf r
+unfolding isPage typeRule pageRule
+page-long z first prev at r b h p = leb-true pageHeader (sizeOf r) (and-left _ _ (rw (eqb-true (typeOf r) pageCode p) at h))
 
 pub turn : (z : List ℕ) (first : ℕ) (prev : Bool) (at n : ℕ) → at + smallestBlock ≤ length z
     → blockOk z first prev at (take (sizeOf (drop at z)) (drop at z)) ≡ true → n ≡ sizeOf (drop at z) → Turn z first prev at n
@@ -121,12 +160,15 @@ turn z first prev at n h g e =
     let ln : length (take (sizeOf r) r) ≡ sizeOf r = omega (arith, length-take (sizeOf r) r) in
     let b = blocks-cons r (omega arith) (omega arith) in
     let d = drop-drop (sizeOf r) at z in
+    let long = page-long z first prev at r (take (sizeOf r) r) (sym (first-rule z first prev at r (f .low) (f .four) (f .fits)) ∙ g) in
     record {
       low = omega arith;
       four = rw e (f .four);
       fits = omega arith;
       walk = rw (b, g, ln, free-take (sizeOf r) r (f .low), e, d);
       count = rw (b, reloc-take (sizeOf r) r (f .low), e, d);
+      long = λ p. rw e (long p);
+      named = rw (e, ← d) (names-of r (omega arith) (f .low) long);
     }
 
 -- a block that breaks a rule
@@ -146,3 +188,7 @@ end z first prev at h = rw (drop-of-length-le z h, blocks-nil)
 pub end-count : (z : List ℕ) (at : ℕ) → length z ≤ at → relocs (splitBlocks (drop at z)) ≡ 0
 unfolding relocs
 end-count z at h = rw (drop-of-length-le z h, blocks-nil)
+
+pub end-names : (z : List ℕ) (at : ℕ) → length z ≤ at → names (splitBlocks (drop at z)) ≡ []
+unfolding names
+end-names z at h = rw (drop-of-length-le z h, blocks-nil)

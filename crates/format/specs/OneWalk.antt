@@ -4,22 +4,23 @@ use Prim.Native.Nat.{ℕ, zero, suc, _+_, _-_, _%_}
 use mathlib.Core.List.{List, [], _∷_}
 use mathlib.Core.Bool.{Bool, true, false, not, _&&_}
 use lib.ListN.{length, drop}
-use lib.Dec.{eqb, leb}
+use lib.Dec.{eqb, leb, ltb}
 use Rattle.memory.specs.Zeros.{allZero}
-use Rattle.block_type.specs.Limits.{freeHeader, relocHeader, smallestBlock}
-use Rattle.format.specs.WellFormed.{typeOf, sizeOf, handleOf, isFree, isMaster, masterAt, splitBlocks, relocs}
+use Rattle.block_type.specs.Limits.{freeHeader, relocHeader, pageHeader, lockBit, stampRange, smallestBlock}
+use Rattle.format.specs.WellFormed.{typeOf, sizeOf, handleOf, statusOf, isFree, isMaster, masterAt, splitBlocks, relocs, names, distinct}
 
 -- n masters are visited from h on, and the last holds 0
 unfoldable pub links : List ℕ → ℕ → ℕ → ℕ → Bool
 links z first zero h = eqb h 0
 links z first (suc n) h = isMaster first h && links z first n (masterAt z h)
 
--- by type: a free block's rule, nothing more for a fixed one, a relocatable one's rule; there is no type 3
-unfoldable pub typeRule : ℕ → Bool → Bool → Bool
-typeRule zero free reloc = free
-typeRule (suc zero) free reloc = true
-typeRule (suc (suc zero)) free reloc = reloc
-typeRule (suc (suc (suc k))) free reloc = false
+-- by type: a free block's rule, nothing more for a fixed one, a relocatable one's rule, a page's; there is no type 4
+unfoldable pub typeRule : ℕ → Bool → Bool → Bool → Bool
+typeRule zero free reloc page = free
+typeRule (suc zero) free reloc page = true
+typeRule (suc (suc zero)) free reloc page = reloc
+typeRule (suc (suc (suc zero))) free reloc page = page
+typeRule (suc (suc (suc (suc k)))) free reloc page = false
 
 -- prev: the block before is free
 unfoldable pub freeRule : Bool → List ℕ → Bool
@@ -28,9 +29,12 @@ freeRule prev b = not prev && allZero (drop freeHeader b)
 unfoldable pub relocRule : List ℕ → ℕ → ℕ → ℕ → Bool
 relocRule z first at h = isMaster first h && eqb (masterAt z h) (at + relocHeader)
 
+unfoldable pub pageRule : List ℕ → Bool
+pageRule r = leb pageHeader (sizeOf r) && ltb (statusOf r % lockBit) stampRange
+
 -- the rule of a block b of type k at offset `at`, whose header is read from r: the block, or the bytes from it on
 abbrev pub ruleOf : ℕ → List ℕ → ℕ → Bool → ℕ → List ℕ → List ℕ → Bool
-ruleOf k z first prev at b r = typeRule k (freeRule prev b) (relocRule z first at (handleOf r))
+ruleOf k z first prev at b r = typeRule k (freeRule prev b) (relocRule z first at (handleOf r)) (pageRule r)
 
 -- the block b at offset `at`
 unfoldable pub blockOk : List ℕ → ℕ → Bool → ℕ → List ℕ → Bool
@@ -46,4 +50,5 @@ blocksOk z first prev at (b ∷ bs) = blockOk z first prev at b && blocksOk z fi
 unfoldable pub bodyOk : List ℕ → ℕ → ℕ → ℕ → Bool
 bodyOk z first m head =
     blocksOk z first false first (splitBlocks (drop first z))
-    && (leb (relocs (splitBlocks (drop first z))) m && links z first (m - relocs (splitBlocks (drop first z))) head)
+    && (leb (relocs (splitBlocks (drop first z))) m
+    && (links z first (m - relocs (splitBlocks (drop first z))) head && distinct (names (splitBlocks (drop first z)))))

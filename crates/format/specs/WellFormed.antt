@@ -1,15 +1,16 @@
--- Document 01, 'Bytes of a zone': the fields, the blocks, and what a well-formed zone is, rule by rule, as a test that computes.
--- A block is the list of its own bytes; `splitBlocks` cuts them out. Type, size and handle read a block's first bytes alone, so they
--- can be asked of the bytes from a block on, too.
+-- Document 01, 'Bytes of a zone', with document 02's U5: the fields, the blocks, and what a well-formed zone is, rule by rule, as a test that computes.
+-- A block is the list of its own bytes; `splitBlocks` cuts them out. Type, size, handle, name and status read a block's first bytes
+-- alone, so they can be asked of the bytes from a block on, too.
 use Prim.Native.Nat.{ℕ, zero, suc, _+_, _*_, _-_, _/_, _%_}
 use mathlib.Core.List.{List, [], _∷_}
 use mathlib.Core.Bool.{Bool, true, false, cond, not, _&&_, _||_}
 use mathlib.Core.Option.{Option, none, some}
 use lib.ListN.{length, getD, take, drop}
-use lib.Dec.{eqb, leb}
+use lib.Dec.{eqb, leb, ltb}
 use Rattle.bigendian.specs.BigEndian.{fromBE, slice}
 use Rattle.memory.specs.Zeros.{allZero}
-use Rattle.block_type.specs.Limits.{freeCode, relocCode, freeHeader, relocHeader, zoneHeader, masterSize, firstBlock, longestZone, mostMasters, typeUnit, smallestBlock, tagAt, typeByteUnit, lengthAt, firstAt, mastersAt, chainAt, zerosAt}
+use Rattle.block_type.specs.Limits.{freeCode, relocCode, pageCode, freeHeader, relocHeader, pageHeader, zoneHeader, masterSize, firstBlock, longestZone, mostMasters, typeUnit, smallestBlock, tagAt, statusAt, lockBit, stampRange, typeByteUnit, lengthAt, firstAt, mastersAt, chainAt, clockAt, zeroAt}
+use Rattle.format.specs.Occurs.{occurs}
 
 -- ---- the header: "at 0 the length L (4 bytes); at 4 bkFst, .. (4); at 8 m, .. (4); at 12 hFstFree, .. (2)"
 
@@ -25,13 +26,16 @@ mastersField s = fromBE (slice s mastersAt 4)
 abbrev pub chainField : List ℕ → ℕ
 chainField s = fromBE (slice s chainAt 2)
 
--- "the buffer has at least 16 bytes; header bytes 14 and 15 are zero; .. L is a multiple of 4, at most the buffer's length and
--- 1,048,576; m ≤ 8,188; bkFst as above and ≤ L"
+-- "Header byte 14 becomes a clock" (document 02, U5)
+abbrev pub clockField : List ℕ → ℕ
+clockField s = getD s clockAt 0
+
+-- "the buffer has at least 16 bytes; .. L is a multiple of 4, at most the buffer's length and 1,048,576; m ≤ 8,188; bkFst as above and
+-- ≤ L"; of the header bytes 14 and 15 "byte 15 remains zero" (document 02, U5)
 unfoldable pub headerOk : List ℕ → Bool
 headerOk s =
     leb zoneHeader (length s)
-    && (eqb (getD s zerosAt 0) 0
-    && eqb (getD s (zerosAt + 1) 0) 0
+    && (eqb (getD s zeroAt 0) 0
     && eqb (lengthField s % 4) 0
     && leb (lengthField s) (length s)
     && leb (lengthField s) longestZone
@@ -45,7 +49,8 @@ headerOk s =
 unfoldable pub typeOf : List ℕ → ℕ
 typeOf b = getD b 0 0 / typeByteUnit
 
--- in bytes, the header included: "Free: a 4-byte size in 2-byte words", "Fixed: 14-bit size in words", "Relocatable: the same"
+-- in bytes, the header included: "Free: a 4-byte size in 2-byte words", "Fixed: 14-bit size in words", "Relocatable: the same"; of a page "the
+-- 14-bit size"
 unfoldable pub sizeOf : List ℕ → ℕ
 sizeOf b = cond (eqb (typeOf b) freeCode) (fromBE (take 4 b) * 2) (fromBE (take 2 b) % typeUnit * 2)
 
@@ -53,11 +58,22 @@ sizeOf b = cond (eqb (typeOf b) freeCode) (fromBE (take 4 b) * 2) (fromBE (take 
 unfoldable pub handleOf : List ℕ → ℕ
 handleOf b = fromBE (slice b tagAt 2)
 
+-- of a page: "a 4-byte name, a status word" (document 02, U5)
+unfoldable pub nameOf : List ℕ → ℕ
+nameOf b = fromBE (slice b tagAt 4)
+
+unfoldable pub statusOf : List ℕ → ℕ
+statusOf b = fromBE (slice b statusAt 2)
+
 unfoldable pub isFree : List ℕ → Bool
 isFree b = eqb (typeOf b) freeCode
 
 unfoldable pub isReloc : List ℕ → Bool
 isReloc b = eqb (typeOf b) relocCode
+
+-- a page is what document 02, U5, calls a named block: "A named block has type 3"
+unfoldable pub isPage : List ℕ → Bool
+isPage b = eqb (typeOf b) pageCode
 
 -- the blocks of a list of bytes, each as long as its header says, after k bytes that are passed over
 unfoldable pub splitFrom : ℕ → List ℕ → List (List ℕ)
@@ -78,9 +94,9 @@ unfoldable pub every : (List ℕ → Bool) → List (List ℕ) → Bool
 every ok [] = true
 every ok (b ∷ bs) = ok b && every ok bs
 
--- "types are 0 to 2"
+-- "types are 0 to 2", and 3
 unfoldable pub typeOk : List ℕ → Bool
-typeOk b = leb (typeOf b) relocCode
+typeOk b = leb (typeOf b) pageCode
 
 -- "Sizes include the header, are multiples of 4 and at least 4"
 unfoldable pub sizeOk : List ℕ → Bool
@@ -93,6 +109,24 @@ tileOk b = eqb (sizeOf b) (length b)
 -- "Free: .. all later bytes zero"
 unfoldable pub zerosOk : List ℕ → Bool
 zerosOk b = not (isFree b) || allZero (drop freeHeader b)
+
+-- of a page: "its size is at least 8"
+unfoldable pub pageSizeOk : List ℕ → Bool
+pageSizeOk b = not (isPage b) || leb pageHeader (sizeOf b)
+
+-- "In the status word the top bit is dirty, the next is lock, the low byte a stamp, the rest zero"
+unfoldable pub statusOk : List ℕ → Bool
+statusOk b = not (isPage b) || ltb (statusOf b % lockBit) stampRange
+
+-- the names of the pages, in address order
+unfoldable pub names : List (List ℕ) → List ℕ
+names [] = []
+names (b ∷ bs) = cond (isPage b) (nameOf b ∷ names bs) (names bs)
+
+-- "Names are distinct in a well-formed zone": none stands again behind itself
+unfoldable pub distinct : List ℕ → Bool
+distinct [] = true
+distinct (n ∷ ns) = eqb (occurs n ns) 0 && distinct ns
 
 -- "no two free blocks are neighbours"; free: the block before is
 unfoldable pub neighboursOk : Bool → List (List ℕ) → Bool
@@ -154,6 +188,8 @@ blockRules z first bs =
     && every sizeOk bs
     && every tileOk bs
     && every zerosOk bs
+    && every pageSizeOk bs
+    && every statusOk bs
     && neighboursOk false bs
     && handlesOk z first first bs
 
@@ -161,6 +197,7 @@ unfoldable pub zoneRules : List ℕ → ℕ → ℕ → ℕ → Bool
 zoneRules z first m head =
     blockRules z first (splitBlocks (drop first z))
     && countsOk m (relocs (splitBlocks (drop first z))) (chainFrom z first m head)
+    && distinct (names (splitBlocks (drop first z)))
 
 unfoldable pub wellFormed : List ℕ → Bool
 wellFormed s = headerOk s && zoneRules (zoneOf s) (firstField s) (mastersField s) (chainField s)

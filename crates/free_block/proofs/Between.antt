@@ -88,7 +88,7 @@ module _ (z : List ℕ) (bs′ : List Block) (b : Block) (from at end to : ℕ) 
       ap₂ (λ (y u : List ℕ). overwrite y from u) (sym (encode-zone z w)) x-is
       ∙ ap (λ (o : ℕ). overwrite (encode s) o (encodeBlock (cell (free (amount s v a))))) from-place
 
-  pub freeing-plain : handlesOf (b ∷ []) ≡ [] → (y : List ℕ) → y ≡ overwrite z from x → y ≡ encode (record { chain = s .chain; blocks = bs′ })
+  pub freeing-plain : handlesOf (b ∷ []) ≡ [] → (y : List ℕ) → y ≡ overwrite z from x → y ≡ encode (record { clock = s .clock; chain = s .chain; blocks = bs′ })
   freeing-plain n y e = e ∙ written ∙ freed-plain s v a n
 
   module _ (h : ℕ) (n : handlesOf (b ∷ []) ≡ h ∷ []) where
@@ -96,7 +96,7 @@ module _ (z : List ℕ) (bs′ : List Block) (b : Block) (from at end to : ℕ) 
     pub freeing-master : h + masterSize ≤ length z
     freeing-master = omega (arith, offset-is h zoneHeader (count s) (master-in s v a h n) .1, len-is z w, w .all)
 
-    pub freeing-owned : (head : ℕ) (y : List ℕ) → head ≡ chainField z → y ≡ overwrite (overwrite (overwrite z from x) chainAt (toBE 2 h)) h (toBE 4 head) → y ≡ encode (record { chain = h ∷ s .chain; blocks = bs′ })
+    pub freeing-owned : (head : ℕ) (y : List ℕ) → head ≡ chainField z → y ≡ overwrite (overwrite (overwrite z from x) chainAt (toBE 2 h)) h (toBE 4 head) → y ≡ encode (record { clock = s .clock; chain = h ∷ s .chain; blocks = bs′ })
     freeing-owned head y eh e =
         let q : head ≡ headOf (s .chain) = eh ∙ sym (head-is z w) in
         e ∙ ap₂ (λ (y : List ℕ) (k : ℕ). overwrite (overwrite y chainAt (toBE 2 h)) h (toBE 4 k)) written q ∙ freed-owned s v a h n

@@ -24,6 +24,7 @@ use Rattle.settle.proofs.surgery.Sound.{handle-once}
 use Rattle.settle.proofs.surgery.Replace.{occurs-parts, place-same, replaced}
 use Rattle.free_block.specs.Around.{Around}
 use Rattle.free_block.proofs.Parts.{amount, before, inside, after, old-parts, new-parts, inside-sizes, inside-handles, free-sound}
+use Rattle.kinds.specs.Kinds.{is}
 
 module _ (s : Structure) (v : Valid s) {bs′ : List Block} {b : Block} (a : Around (s .blocks) bs′ b) where
   abbrev new : List Block
@@ -37,7 +38,7 @@ module _ (s : Structure) (v : Valid s) {bs′ : List Block} {b : Block} (a : Aro
   place = start s + sizes (before s v a)
 
   abbrev left : List ℕ → Structure
-  left ks = record { chain = ks; blocks = before s v a ++ (new ++ after s v a) }
+  left ks = record { clock = s .clock; chain = ks; blocks = before s v a ++ (new ++ after s v a) }
 
   x-bytes : x ≡ bytesOf new
   unfolding join
@@ -52,13 +53,13 @@ module _ (s : Structure) (v : Valid s) {bs′ : List Block} {b : Block} (a : Aro
   no-handles = refl
 
   -- the blocks are written
-  rest-written : overwrite (encode s) place x ≡ img (len s) (start s) (count s) (headOf (s .chain)) (value s) (overwrite (bytesOf (s .blocks)) (sizes (before s v a)) (bytesOf new))
+  rest-written : overwrite (encode s) place x ≡ img (s .clock) (len s) (start s) (count s) (headOf (s .chain)) (value s) (overwrite (bytesOf (s .blocks)) (sizes (before s v a)) (bytesOf new))
   rest-written =
       ap₂ (λ (y u : List ℕ). overwrite y place u) (encode-img s) x-bytes
-      ∙ img-rest (len s) (start s) (count s) (headOf (s .chain)) (sizes (before s v a)) place (value s) (bytesOf (s .blocks)) (bytesOf new) refl
+      ∙ img-rest (s .clock) (len s) (start s) (count s) (headOf (s .chain)) (sizes (before s v a)) place (value s) (bytesOf (s .blocks)) (bytesOf new) refl
 
-  new-left : (ks : List ℕ) → encode (left ks) ≡ encode (record { chain = ks; blocks = bs′ })
-  new-left ks = ap (λ (bs : List Block). encode (record { chain = ks; blocks = bs })) (sym (new-parts s v a))
+  new-left : (ks : List ℕ) → encode (left ks) ≡ encode (record { clock = s .clock; chain = ks; blocks = bs′ })
+  new-left ks = ap (λ (bs : List Block). encode (record { clock = s .clock; chain = ks; blocks = bs })) (sym (new-parts s v a))
 
   -- a block without a master
   module _ (none : handlesOf (b ∷ []) ≡ []) where
@@ -72,7 +73,7 @@ module _ (s : Structure) (v : Valid s) {bs′ : List Block} {b : Block} (a : Aro
     unfolding occurs
     not-in k e = rw e
 
-    pub freed-plain : overwrite (encode s) place x ≡ encode (record { chain = s .chain; blocks = bs′ })
+    pub freed-plain : overwrite (encode s) place x ≡ encode (record { clock = s .clock; chain = s .chain; blocks = bs′ })
     freed-plain =
         rest-written
         ∙ replaced s v (before s v a) (inside s v a) new (after s v a) (s .chain) (old-parts s v a) same-size (free-sound s v a) count-plain (value s)
@@ -108,7 +109,7 @@ module _ (s : Structure) (v : Valid s) {bs′ : List Block} {b : Block} (a : Aro
     unfolding nextOf occurs
     holds k = go (eqb k h) refl
       where
-        go : (t : Bool) → eqb k h ≡ t → cond t (headOf (s .chain)) (value s k) ≡ placeOf k (start (left ks)) (before s v a ++ (new ++ after s v a)) + cond t (headOf (s .chain)) (nextOf k (s .chain))
+        go : (t : Bool) → eqb k h ≡ t → cond t (headOf (s .chain)) (value s k) ≡ placeOf (is k) (start (left ks)) (before s v a ++ (new ++ after s v a)) + cond t (headOf (s .chain)) (nextOf k (s .chain))
         go true e =
             let q : k ≡ h = eqb-true k h e in
             let p = place-none k (start (left ks)) (before s v a ++ (new ++ after s v a)) (ap (λ (j : ℕ). occurs j (handlesOf (before s v a ++ (new ++ after s v a)))) q ∙ gone) in
@@ -117,11 +118,11 @@ module _ (s : Structure) (v : Valid s) {bs′ : List Block} {b : Block} (a : Aro
             let o : occurs k (handlesOf (inside s v a)) ≡ 0 = omega (arith, inside-once k, one-other k h (eqb-false k h e)) in
             ap (λ (p : ℕ). p + nextOf k (s .chain)) (sym (place-same s v (before s v a) (inside s v a) new (after s v a) ks (old-parts s v a) same-size (free-sound s v a) count-owned k o (rw no-handles)))
 
-    pub freed-owned : overwrite (overwrite (overwrite (encode s) place x) chainAt (toBE 2 h)) h (toBE 4 (headOf (s .chain))) ≡ encode (record { chain = h ∷ s .chain; blocks = bs′ })
+    pub freed-owned : overwrite (overwrite (overwrite (encode s) place x) chainAt (toBE 2 h)) h (toBE 4 (headOf (s .chain))) ≡ encode (record { clock = s .clock; chain = h ∷ s .chain; blocks = bs′ })
     freed-owned =
         let r = overwrite (bytesOf (s .blocks)) (sizes (before s v a)) (bytesOf new) in
         ap (λ (y : List ℕ). overwrite (overwrite y chainAt (toBE 2 h)) h (toBE 4 (headOf (s .chain)))) rest-written
-        ∙ ap (λ (y : List ℕ). overwrite y h (toBE 4 (headOf (s .chain)))) (img-chain (len s) (start s) (count s) (headOf (s .chain)) h (value s) r)
-        ∙ img-master (len s) (start s) (count s) h h (headOf (s .chain)) (value s) r master-in
+        ∙ ap (λ (y : List ℕ). overwrite y h (toBE 4 (headOf (s .chain)))) (img-chain (s .clock) (len s) (start s) (count s) (headOf (s .chain)) h (value s) r)
+        ∙ img-master (s .clock) (len s) (start s) (count s) h h (headOf (s .chain)) (value s) r master-in
         ∙ replaced s v (before s v a) (inside s v a) new (after s v a) ks (old-parts s v a) same-size (free-sound s v a) count-owned (upd (value s) h (headOf (s .chain))) (λ k l. holds k)
         ∙ new-left ks

@@ -53,10 +53,10 @@ module _ (s : Structure) (v : Valid s) {bs′ : List Block} {e : Item} (a : Arou
         occurs-own h e highs its,
       )
 
-  pub its-place : placeOf h (start s) (s .blocks) ≡ start s + (sizes (a .pre) + baySize (a .low)) + headerOf e
+  pub its-place : placeOf (is h) (start s) (s .blocks) ≡ start s + (sizes (a .pre) + baySize (a .low)) + headerOf e
   unfolding placeOf
   its-place =
-      ap (placeOf h (start s)) parts
+      ap (placeOf (is h) (start s)) parts
       ∙ place-append h (start s) lows (cell (held e) ∷ highs)
       ∙ (rw (not-below, its) (omega (arith, lows-sizes a)))
 

@@ -50,7 +50,7 @@ module _ (z : List ℕ) (i : IsZone z) (h : ℕ) (live : placeIn z h ≡ 0 → �
   found =
       let p = place-live h s live in
       let b = whole-bays (len s) s v (omega arith) in
-      let o = own-block h (p .0) (group (start s) (s .blocks)) (b .sound) (single-live (inBays (len s) s) b h) (p .1) in
+      let o = own-block (is h) (p .0) (group (start s) (s .blocks)) (b .sound) (single-live (inBays (len s) s) b h) (p .1) in
       (p .0, around-same (sym (flatten-group (start s) (s .blocks))) refl (o .0), o .1, p .2)
 
   abbrev pub block : Item
@@ -77,7 +77,7 @@ module _ (z : List ℕ) (i : IsZone z) (h : ℕ) (live : placeIn z h ≡ 0 → �
 
   pub freed-valid : Valid (freed h (decodeZone z))
   freed-valid =
-      valid-line ((work (free-handle h) (inBays (len s) s)) .next) (work-whole (free-handle h) (inBays (len s) s) (λ i. omega arith) (whole-bays (len s) s v (omega arith)) (free-passed (len s)))
+      valid-line ((work (free-handle h) (inBays (len s) s)) .next) (work-whole (free-handle h) (inBays (len s) s) tt (whole-bays (len s) s v (omega arith)) (free-passed (len s)))
 
 -- ---- the search for its free neighbours: each step may be done
 

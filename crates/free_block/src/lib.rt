@@ -1,6 +1,5 @@
 // A block that becomes free: where it lies with its free neighbours.
 use access::row;
-use zone_check::block_check;
 ghost use Prim.Native.Nat.{_<_, _≤_};
 ghost use lib.ListN.{length, drop};
 ghost use mathlib.Core.Path.{_≡_};

@@ -23,7 +23,9 @@ use Rattle.masters.proofs.chain.Chain.{chain-long}
 use Rattle.masters.proofs.chain.Words.{head-handles, words-chain}
 use Rattle.initialize.specs.Fresh.{sizeBytes, headBytes, freeBytes, freshBytes, accepts, Fresh}
 use Rattle.initialize.proofs.Write.{bad-is, accepted, head-long, free-long}
+use Rattle.kinds.specs.Kinds.{is}
 
+-- a clock of 0, and the zero byte
 two-zeros : 0 ∷ 0 ∷ [] ≡ toBE 2 0
 unfolding toBE
 two-zeros = refl
@@ -41,7 +43,7 @@ unfolding sizes
 all-free zero = refl
 all-free (suc k) = add-zero (suc k)
 
-no-place : (h at k : ℕ) → placeOf h at (blocksOf k) ≡ 0
+no-place : (h at k : ℕ) → placeOf (is h) at (blocksOf k) ≡ 0
 unfolding placeOf
 no-place h at zero = refl
 no-place h at (suc k) = refl

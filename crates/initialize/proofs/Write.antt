@@ -7,7 +7,7 @@ use native.Mathlib.Omega.{arith}
 use lib.Dec.{eqb, leb}
 use borrow.Author.Tests.{eq-eqb, ne-eqb}
 use lib.ListN.{length, replicate, length-append, length-replicate}
-use Rattle.block_type.specs.Limits.{longestZone, masterSize, mostMasters, zoneHeader, freeHeader, lengthAt, firstAt, mastersAt, chainAt, zerosAt}
+use Rattle.block_type.specs.Limits.{longestZone, masterSize, mostMasters, zoneHeader, freeHeader, lengthAt, firstAt, mastersAt, chainAt, clockAt}
 use Rattle.bigendian.specs.BigEndian.{toBE, overwrite}
 use Rattle.bigendian.proofs.Laws.{length-toBE}
 use Rattle.bigendian.proofs.Overwrite.{write-none, write-more}
@@ -74,7 +74,7 @@ unfolding sizeBytes
 sizes-long n m = simp (length-append, length-toBE)
 
 pub header-done : (z z₁ z₂ z₃ : List ℕ) (n m h : ℕ) → Fresh (length z) n m → h ≡ cond (eqb m 0) 0 zoneHeader
-    → z₁ ≡ overwrite z 0 (sizeBytes n m) → z₂ ≡ overwrite z₁ chainAt (toBE 2 h) → z₃ ≡ overwrite z₂ zerosAt (toBE 2 0) → z₃ ≡ overwrite z 0 (headBytes n m)
+    → z₁ ≡ overwrite z 0 (sizeBytes n m) → z₂ ≡ overwrite z₁ chainAt (toBE 2 h) → z₃ ≡ overwrite z₂ clockAt (toBE 2 0) → z₃ ≡ overwrite z 0 (headBytes n m)
 unfolding headBytes
 header-done z z₁ z₂ z₃ n m h x eh e₁ e₂ e₃ =
     let a = sizeBytes n m in
@@ -84,7 +84,7 @@ header-done z z₁ z₂ z₃ n m h x eh e₁ e₂ e₃ =
     let lc = length-toBE 2 0 in
     let lab = length-append a (toBE 2 h) in
     let p₂ : z₂ ≡ overwrite z 0 (a ++ toBE 2 h) = e₂ ∙ (rw e₁ (write-more z a (toBE 2 h) lengthAt chainAt (omega arith) (omega arith))) in
-    let p₃ : z₃ ≡ overwrite z 0 ((a ++ toBE 2 h) ++ toBE 2 0) = e₃ ∙ (rw p₂ (write-more z (a ++ toBE 2 h) (toBE 2 0) lengthAt zerosAt (omega arith) (omega arith))) in
+    let p₃ : z₃ ≡ overwrite z 0 ((a ++ toBE 2 h) ++ toBE 2 0) = e₃ ∙ (rw p₂ (write-more z (a ++ toBE 2 h) (toBE 2 0) lengthAt clockAt (omega arith) (omega arith))) in
     p₃ ∙ ap (λ (x : List ℕ). overwrite z 0 x) (append-assoc a (toBE 2 h) (toBE 2 0) ∙ ap (λ (y : ℕ). a ++ (toBE 2 y ++ toBE 2 0)) eh)
 
 -- ---- the free block

@@ -13,7 +13,7 @@ use Rattle.masters.specs.chain.Chain.{chainBytes}
 unfoldable pub sizeBytes : ℕ → ℕ → List ℕ
 sizeBytes n m = toBE 4 n ++ (toBE 4 (zoneHeader + masterSize * m) ++ toBE 4 m)
 
--- then the chain's head and two zero bytes
+-- then the chain's head, the clock, which starts at 0, and a zero byte
 unfoldable pub headBytes : ℕ → ℕ → List ℕ
 headBytes n m = sizeBytes n m ++ (toBE 2 (cond (eqb m 0) 0 zoneHeader) ++ toBE 2 0)
 

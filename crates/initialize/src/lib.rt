@@ -56,7 +56,8 @@ fn put_header(z: &mut [u8], n: usize, m: usize)
     put_sizes(z, n, m);
     let head = head_of(m);
     bigendian::put2(z, block_type::CHAIN_AT, head);
-    bigendian::put2(z, block_type::ZEROS_AT, 0);
+    // the clock starts at 0, and the header ends in a zero byte
+    bigendian::put2(z, block_type::CLOCK_AT, 0);
 }
 
 // The free block from `first` up to n; none where they are the same.

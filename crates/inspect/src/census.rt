@@ -1,6 +1,5 @@
 // The census: how many free blocks there are in each of nineteen strata.
 use access::row;
-use zone_check::block_check;
 ghost use mathlib.Core.Path.{_≡_};
 ghost use Prim.Native.Nat.{ℕ, _≤_};
 ghost use lib.ListN.{length, getD, drop};

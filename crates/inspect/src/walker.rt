@@ -1,6 +1,5 @@
 // A walker over the blocks of a zone: it holds an offset, and a step gives back the next walker and the block's description.
 use access::row;
-use zone_check::block_check;
 ghost use mathlib.Core.Path.{_≡_};
 ghost use Prim.Native.Nat.{_+_, _≤_, max};
 ghost use lib.ListN.{length, drop};

@@ -8,7 +8,13 @@ use lib.ListN.{length}
 use lib.Dec.{leb}
 use borrow.Author.Tests.{leb-true, leb-false}
 use Rattle.calls.specs.Roster.{Card}
-use Rattle.ledger.specs.Ledger.{insert, byHandle}
+use Rattle.calls.specs.Sort.{insertBy}
+use Rattle.calls.proofs.Sort.{sort-same}
+use Rattle.ledger.specs.Ledger.{byHandle}
+
+-- a record put before the first one whose handle is not smaller
+abbrev pub insert : Card → List Card → List Card
+insert c cs = insertBy (λ (c d : Card). leb (c .handle) (d .handle)) c cs
 
 -- handles from k on that do not fall
 pub data NotFalling : ℕ → List Card → Type 0 where
@@ -27,17 +33,8 @@ pub sorted-order : (cs : List Card) → NotFalling 0 (byHandle cs)
 sorted-order [] = no-record
 sorted-order (c ∷ cs) = insert-order c (omega arith) (sorted-order cs)
 
-insert-same : (c : Card) (cs : List Card) → List·Permᴰ (insert c cs) (c ∷ cs)
-insert-same c [] = Permᴰ·refl (c ∷ [])
-insert-same c (d ∷ ds) = go (leb (c .handle) (d .handle)) (insert-same c ds)
-  where
-    go : (t : Bool) → List·Permᴰ (insert c ds) (c ∷ ds) → List·Permᴰ (cond t (c ∷ (d ∷ ds)) (d ∷ insert c ds)) (c ∷ (d ∷ ds))
-    go true p = Permᴰ·refl (c ∷ (d ∷ ds))
-    go false p = List·Permᴰ·trans (List·Permᴰ·cons refl p) (List·Permᴰ·swap refl refl)
-
 pub sorted-same : (cs : List Card) → List·Permᴰ (byHandle cs) cs
-sorted-same [] = List·Permᴰ·nil
-sorted-same (c ∷ cs) = List·Permᴰ·trans (insert-same c (byHandle cs)) (List·Permᴰ·cons refl (sorted-same cs))
+sorted-same cs = sort-same (λ (c d : Card). leb (c .handle) (d .handle)) cs
 
 -- as many as before
 perm-length : {a b : List Card} → List·Permᴰ a b → length a ≡ length b

@@ -7,13 +7,13 @@ use lib.ListN.{length, take}
 use lib.Seq.{sets, length-sets}
 use lib.Dec.{leb, eqb, eqb·suc-zero}
 use borrow.Author.Tests.{eqb-true}
-use Rattle.block_type.specs.Limits.{fixedHeader, relocHeader, fixedNeed, up4, addedBytes}
-use Rattle.calls.specs.Calls.{Target, by-handle, by-pointer, Call, allocate-relocatable, allocate-fixed, free-handle, free-pointer, resize, size, read, write, view, compact, sums, check, length-of, enlarge, shrink, roster}
+use Rattle.block_type.specs.Limits.{fixedHeader, relocHeader, fixedNeed, pageNeed, up4, addedBytes}
+use Rattle.calls.specs.Calls.{Target, by-handle, by-pointer, by-name, PageCall, create-page, use-page, mark-page, drop-page, Call, allocate-relocatable, allocate-fixed, free-handle, free-pointer, resize, size, read, write, view, compact, sums, check, length-of, enlarge, shrink, roster, on-page}
 use Rattle.calls.specs.Bays.{last, more, onLowest, onFirst, mapS, onFixed, onLast, maxS}
 use Rattle.calls.specs.State.{Fixed, fsize, pointer, alterFixed, newFixed, cutHigh, joinOver, joinAt, dataOf, ownSum, sized}
 use Rattle.calls.specs.Table.{refusalOf, isEmpty}
-use Rattle.kinds.specs.Kinds.{item}
-use Rattle.ledger.specs.Ledger.{Bay, Ledger, Layout, bay, sumOf, entriesOf, change, less, enter, onEntries, without, resizeIn, moreMasters, withMaster, facts, work, stepWith, step}
+use Rattle.kinds.specs.Kinds.{item, is}
+use Rattle.ledger.specs.Ledger.{Bay, Ledger, Layout, bay, sumOf, entriesOf, change, less, enter, onEntries, without, resizeIn, moreMasters, withMaster, makeRoom, pageWork, facts, work, stepWith, step}
 use Rattle.ledger.specs.Space.{Spot, spot, fixedSpots}
 use Rattle.ledger.specs.Still.{Has, first, later}
 
@@ -42,6 +42,7 @@ last-spots f (more b x l) = ap (spot (x .place) (fsize x) ∷_) (last-spots f l)
 -- bytes of the same length
 change-spots : (t : Target) (f : List ℕ → List ℕ) → ((w : List ℕ) → length (f w) ≡ length w) → (l : Layout) → fixedSpots (change t f l) ≡ fixedSpots l
 change-spots (by-handle h) f e l = map-spots _ l
+change-spots (by-name n) f e l = map-spots _ l
 change-spots (by-pointer p) f e l = fixed l
   where
     one : (x : Fixed) (t : Bool) → spot (cond t (record { place = x .place; bytes = f (x .bytes) }) x .place) (fsize (cond t (record { place = x .place; bytes = f (x .bytes) }) x)) ≡ spot (x .place) (fsize x)
@@ -62,8 +63,8 @@ with-spots l = either (λ (k : Ledger). fixedSpots (k .bays) ≡ fixedSpots (l .
 resize-spots : (h a : ℕ) (d : List ℕ) (l : Layout) → fixedSpots (resizeIn h a d l) ≡ fixedSpots l
 resize-spots h a d l =
     either (λ (k : Layout). fixedSpots k ≡ fixedSpots l) (leb (a - length d) (ownSum entriesOf sumOf h l)) (change (by-handle h) (sized a) l)
-    (enter (relocHeader + a) (item h (sized a d)) (mapS (onEntries (without h)) l))
-    (map-spots _ l) (lowest-spots _ _ (mapS (onEntries (without h)) l) ∙ map-spots _ l)
+    (enter (relocHeader + a) (item h (sized a d)) (mapS (onEntries (without (is h))) l))
+    (map-spots _ l) (lowest-spots _ _ (mapS (onEntries (without (is h))) l) ∙ map-spots _ l)
 
 -- ---- what adds or takes one
 
@@ -95,6 +96,14 @@ strike-has {x} j p (more b y l) ne (later h) = go (eqb p (pointer y)) (strike-ha
     go true k = joined-has j b y l h
     go false k = later k
 
+-- ---- pages
+
+page-spots : (n : ℕ) (p : PageCall) (l : Ledger) → fixedSpots ((pageWork n p l) .next .bays) ≡ fixedSpots (l .bays)
+page-spots n (create-page c) l = lowest-spots _ _ (makeRoom (pageNeed c) l .bays) ∙ map-spots _ (l .bays)
+page-spots n use-page l = map-spots _ (l .bays)
+page-spots n (mark-page m) l = map-spots _ (l .bays)
+page-spots n drop-page l = map-spots _ (l .bays)
+
 -- ---- each call that nothing refuses
 
 work-has : {x : Spot} (c : Call) (l : Ledger) → (c ≡ free-pointer (x .place + fixedHeader) → ⊥) → Has x (fixedSpots (l .bays)) → Has x (fixedSpots ((work c l) .next .bays))
@@ -114,6 +123,7 @@ work-has length-of l ne h = h
 work-has (enlarge k) l ne h = same (last-spots (λ (b : Bay). bay (b .capacity + k) (b .entries)) (l .bays)) h
 work-has (shrink k) l ne h = same (last-spots _ (l .bays)) h
 work-has (roster second) l ne h = h
+work-has (on-page n p) l ne h = same (page-spots n p l) h
 
 -- and each call
 pub step-has : {x : Spot} (c : Call) (l : Ledger) → (c ≡ free-pointer (x .place + fixedHeader) → ⊥) → Has x (fixedSpots (l .bays)) → Has x (fixedSpots ((step c l) .next .bays))

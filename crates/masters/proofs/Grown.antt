@@ -115,8 +115,8 @@ module _ (z : List ℕ) (first end : ℕ) (x : Growing z first end) where
   ask-first = omega (arith, ask-bay .order, ask-bay .inside, ask-bay .short)
 
   -- the structure that is left
-  grown-is : grownIn s ≡ record { chain = handlesFrom (start s) addedMasters; blocks = map cell cs ++ post }
-  grown-is = λ i. record { chain = handlesFrom (zoneHeader + masterSize * count-bays s i) addedMasters; blocks = at-new (at-first (packedLess addedBytes) (baysOf s)) i }
+  grown-is : grownIn s ≡ record { clock = s .clock; chain = handlesFrom (start s) addedMasters; blocks = map cell cs ++ post }
+  grown-is = λ i. record { clock = s .clock; chain = handlesFrom (zoneHeader + masterSize * count-bays s i) addedMasters; blocks = at-new (at-first (packedLess addedBytes) (baysOf s)) i }
 
   cs-sound : Sound cs
   cs-sound = less-sound addedBytes b refl (omega (arith, x .end-is, ask-bay .inside, ask-bay .short)) (cells-sound s v [] post b parts)
@@ -154,7 +154,7 @@ module _ (z : List ℕ) (first end : ℕ) (x : Growing z first end) where
   abbrev f : ℕ → ℕ
   f = before s v (x .none) (map cell b) (map cell cs) post addedMasters parts sz hs
 
-  with-masters : overwrite z first new ≡ lay l (start s) m (headOf (s .chain)) (map f (offsets zoneHeader (m + addedMasters))) r
+  with-masters : overwrite z first new ≡ lay (s .clock) l (start s) m (headOf (s .chain)) (map f (offsets zoneHeader (m + addedMasters))) r
   with-masters =
       let c = headOf (s .chain) in
       let bm = Row.bytesOf (map cell b) in
@@ -164,13 +164,13 @@ module _ (z : List ℕ) (first end : ℕ) (x : Growing z first end) where
       append-assoc (chainBytes first addedMasters) (bytesOf cs) (Row.bytesOf post)
       ∙ ap₂ (λ (o : ℕ) (y : List ℕ). chainBytes o addedMasters ++ y) (x .first-is) (ap (_++ Row.bytesOf post) (all-bytes cs) ∙ sym (bytes-append (map cell cs) post)) in
       ap (λ (y : List ℕ). overwrite y first new) (sym is-z ∙ encode-img s)
-      ∙ img-rest l (start s) m c 0 first (value s) (Row.bytesOf (s .blocks)) new (omega (arith, x .first-is))
-      ∙ ap (λ (y : List ℕ). img l (start s) m c (value s) (overwrite y 0 new)) old
-      ∙ ap (img l (start s) m c (value s)) (write-mid [] bm new (Row.bytesOf post) 0 refl lb ∙ regroup)
+      ∙ img-rest (s .clock) l (start s) m c 0 first (value s) (Row.bytesOf (s .blocks)) new (omega (arith, x .first-is))
+      ∙ ap (λ (y : List ℕ). img (s .clock) l (start s) m c (value s) (overwrite y 0 new)) old
+      ∙ ap (img (s .clock) l (start s) m c (value s)) (write-mid [] bm new (Row.bytesOf post) 0 refl lb ∙ regroup)
       ∙ masters-more s v (x .none) (map cell b) (map cell cs) post addedMasters parts sz hs l (start s) m c r
 
   abbrev left : List ℕ
-  left = img l (start s + masterSize * addedMasters) (m + addedMasters) (headOf (handlesFrom (start s) addedMasters)) f r
+  left = img (s .clock) l (start s + masterSize * addedMasters) (m + addedMasters) (headOf (handlesFrom (start s) addedMasters)) f r
 
   with-fields : (z₁ z₂ : List ℕ) → z₁ ≡ overwrite z first new → z₂ ≡ withFields z₁ first → z₂ ≡ left
   unfolding withFields
@@ -181,11 +181,11 @@ module _ (z : List ℕ) (first end : ℕ) (x : Growing z first end) where
       let k : (first + addedBytes - zoneHeader) / masterSize ≡ m + addedMasters = omega (arith, x .first-is) in
       e₂
       ∙ ap (λ (y : List ℕ). withFields y first) (e₁ ∙ with-masters)
-      ∙ ap (λ (j : ℕ). overwrite (overwrite (overwrite (lay l (start s) m c vs r) firstAt (toBE 4 (first + addedBytes))) mastersAt (toBE 4 j)) chainAt (toBE 2 first)) k
-      ∙ ap (λ (y : List ℕ). overwrite (overwrite y mastersAt (toBE 4 (m + addedMasters))) chainAt (toBE 2 first)) (lay-first l (start s) m c (first + addedBytes) vs r)
-      ∙ ap (λ (y : List ℕ). overwrite y chainAt (toBE 2 first)) (lay-masters l (first + addedBytes) m c (m + addedMasters) vs r)
-      ∙ lay-chain l (first + addedBytes) (m + addedMasters) c first vs r
-      ∙ ap₂ (λ (i j : ℕ). lay l i (m + addedMasters) j vs r) o (x .first-is)
+      ∙ ap (λ (j : ℕ). overwrite (overwrite (overwrite (lay (s .clock) l (start s) m c vs r) firstAt (toBE 4 (first + addedBytes))) mastersAt (toBE 4 j)) chainAt (toBE 2 first)) k
+      ∙ ap (λ (y : List ℕ). overwrite (overwrite y mastersAt (toBE 4 (m + addedMasters))) chainAt (toBE 2 first)) (lay-first (s .clock) l (start s) m c (first + addedBytes) vs r)
+      ∙ ap (λ (y : List ℕ). overwrite y chainAt (toBE 2 first)) (lay-masters (s .clock) l (first + addedBytes) m c (m + addedMasters) vs r)
+      ∙ lay-chain (s .clock) l (first + addedBytes) (m + addedMasters) c first vs r
+      ∙ ap₂ (λ (i j : ℕ). lay (s .clock) l i (m + addedMasters) j vs r) o (x .first-is)
 
   -- ---- the bay behind the masters, for their pass
 
@@ -195,7 +195,7 @@ module _ (z : List ℕ) (first end : ℕ) (x : Growing z first end) where
       let lv : length vs ≡ m + addedMasters = length-map (offsets zoneHeader (m + addedMasters)) f ∙ length-offsets zoneHeader (m + addedMasters) in
       let o : first + addedBytes ≡ zoneHeader + masterSize * length vs = omega (arith, x .first-is) in
       let k : end - (first + addedBytes) ≡ baySize cs = omega (arith, x .end-is, packed-less addedBytes b (x .enough) .size) in
-      let d : drop (first + addedBytes) z₂ ≡ r = ap₂ (λ (i : ℕ) (y : List ℕ). drop i y) o e ∙ lay-drop l (start s + masterSize * addedMasters) (m + addedMasters) (headOf (handlesFrom (start s) addedMasters)) vs r in
+      let d : drop (first + addedBytes) z₂ ≡ r = ap₂ (λ (i : ℕ) (y : List ℕ). drop i y) o e ∙ lay-drop (s .clock) l (start s + masterSize * addedMasters) (m + addedMasters) (headOf (handlesFrom (start s) addedMasters)) vs r in
       let lc : length (bytesOf cs) ≡ baySize cs = Bytes.bytes-long cs cs-sound in
       drop-take (first + addedBytes) end z₂
       ∙ ap₂ (λ (i : ℕ) (y : List ℕ). take i y) k (d ∙ bytes-append (map cell cs) post ∙ ap (_++ Row.bytesOf post) (sym (all-bytes cs)))

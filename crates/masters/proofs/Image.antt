@@ -26,6 +26,7 @@ use Rattle.settle.specs.surgery.Masters.{setAll}
 use Rattle.settle.proofs.surgery.Image.{img, map-same, img-same, img-all, all-is, updAll, encode-img}
 use Rattle.masters.specs.chain.Chain.{chainBytes}
 use Rattle.masters.proofs.chain.Words.{words-chain}
+use Rattle.kinds.specs.Kinds.{is}
 
 -- the blocks mid at the front become mid′, the chain was empty
 module _ (s : Structure) (v : Valid s) (none : s .chain ≡ []) (mid mid′ post : List Block) (n : ℕ) (e : s .blocks ≡ mid ++ post)
@@ -38,7 +39,7 @@ module _ (s : Structure) (v : Valid s) (none : s .chain ≡ []) (mid mid′ post
   ks = handlesFrom (start s) n
 
   abbrev s′ : Structure
-  s′ = record { chain = ks; blocks = mid′ ++ post }
+  s′ = record { clock = s .clock; chain = ks; blocks = mid′ ++ post }
 
   abbrev at : ℕ
   at = start s + masterSize * n
@@ -90,11 +91,11 @@ module _ (s : Structure) (v : Valid s) (none : s .chain ≡ []) (mid mid′ post
       ∙ ap (map before) (sym (offsets-add zoneHeader m n))
 
   -- the new masters' bytes in front of the blocks are the end of the table
-  pub masters-more : (l f k c : ℕ) (r : List ℕ) → lay l f k c (map (value s) (offsets zoneHeader m)) (chainBytes (start s) n ++ r) ≡ lay l f k c (map before all) r
+  pub masters-more : (l f k c : ℕ) (r : List ℕ) → lay (s .clock) l f k c (map (value s) (offsets zoneHeader m)) (chainBytes (start s) n ++ r) ≡ lay (s .clock) l f k c (map before all) r
   masters-more l f k c r =
-      ap (λ (x : List ℕ). lay l f k c (map (value s) (offsets zoneHeader m)) (x ++ r)) (sym (words-chain (λ j. nextOf j ks) (start s) n (λ g i. refl)) ∙ words-values (λ j. nextOf j ks) (offsets (start s) n))
-      ∙ lay-more l f k c (map (value s) (offsets zoneHeader m)) (map (λ j. nextOf j ks) (offsets (start s) n)) r
-      ∙ ap (λ (vs : List ℕ). lay l f k c vs r) table-is
+      ap (λ (x : List ℕ). lay (s .clock) l f k c (map (value s) (offsets zoneHeader m)) (x ++ r)) (sym (words-chain (λ j. nextOf j ks) (start s) n (λ g i. refl)) ∙ words-values (λ j. nextOf j ks) (offsets (start s) n))
+      ∙ lay-more (s .clock) l f k c (map (value s) (offsets zoneHeader m)) (map (λ j. nextOf j ks) (offsets (start s) n)) r
+      ∙ ap (λ (vs : List ℕ). lay (s .clock) l f k c vs r) table-is
 
   -- ---- the masters' pass
 
@@ -105,16 +106,16 @@ module _ (s : Structure) (v : Valid s) (none : s .chain ≡ []) (mid mid′ post
   inside k l = omega (arith, among k, ap (occurs k) (offsets-add zoneHeader m n), occurs-append k (offsets zoneHeader m) (offsets (start s) n))
 
   -- a block behind the first ones stands where it stood
-  place-behind : (k : ℕ) → occurs k (handlesOf mid′) ≡ 0 → placeOf k (start s) (s .blocks) ≡ placeOf k (start s′) (mid′ ++ post)
+  place-behind : (k : ℕ) → occurs k (handlesOf mid′) ≡ 0 → placeOf (is k) (start s) (s .blocks) ≡ placeOf (is k) (start s′) (mid′ ++ post)
   place-behind k q =
       let o : start s + sizes mid ≡ start s′ + sizes mid′ = omega (arith, start-more) in
-      let u : placeOf k (start s) (mid ++ post) ≡ placeOf k (start s + sizes mid) post = place-append k (start s) mid post ∙ (rw (ap (occurs k) (sym hs) ∙ q)) in
-      let w : placeOf k (start s′) (mid′ ++ post) ≡ placeOf k (start s′ + sizes mid′) post = place-append k (start s′) mid′ post ∙ (rw q) in
-      ap (placeOf k (start s)) e ∙ u ∙ ap (λ (i : ℕ). placeOf k i post) o ∙ sym w
+      let u : placeOf (is k) (start s) (mid ++ post) ≡ placeOf (is k) (start s + sizes mid) post = place-append k (start s) mid post ∙ (rw (ap (occurs k) (sym hs) ∙ q)) in
+      let w : placeOf (is k) (start s′) (mid′ ++ post) ≡ placeOf (is k) (start s′ + sizes mid′) post = place-append k (start s′) mid′ post ∙ (rw q) in
+      ap (placeOf (is k) (start s)) e ∙ u ∙ ap (λ (i : ℕ). placeOf (is k) i post) o ∙ sym w
 
-  place-front : (k : ℕ) → 0 < occurs k (handlesOf mid′) → placeOf k (start s′) (mid′ ++ post) ≡ placeOf k at mid′
+  place-front : (k : ℕ) → 0 < occurs k (handlesOf mid′) → placeOf (is k) (start s′) (mid′ ++ post) ≡ placeOf (is k) at mid′
   place-front k l =
-      ap (λ (o : ℕ). placeOf k o (mid′ ++ post)) start-more
+      ap (λ (o : ℕ). placeOf (is k) o (mid′ ++ post)) start-more
       ∙ place-append k at mid′ post
       ∙ (rw (ne-eqb (occurs k (handlesOf mid′)) 0 (λ x. omega arith)))
 
@@ -122,15 +123,15 @@ module _ (s : Structure) (v : Valid s) (none : s .chain ≡ []) (mid mid′ post
   unfolding nextOf
   holds k = all-is before at k mid′ (omega (arith, among k, offset-le k zoneHeader m)) ∙ go (occurs k (handlesOf mid′)) refl
     where
-      go : (j : ℕ) → occurs k (handlesOf mid′) ≡ j → cond (eqb j 0) (before k) (placeOf k at mid′) ≡ value s′ k
-      go zero q = ap (_+ nextOf k ks) (ap (placeOf k (start s) (s .blocks) +_) (ap (nextOf k) none) ∙ add-zero _ ∙ place-behind k q)
+      go : (j : ℕ) → occurs k (handlesOf mid′) ≡ j → cond (eqb j 0) (before k) (placeOf (is k) at mid′) ≡ value s′ k
+      go zero q = ap (_+ nextOf k ks) (ap (placeOf (is k) (start s) (s .blocks) +_) (ap (nextOf k) none) ∙ add-zero _ ∙ place-behind k q)
       go (suc j) q =
           rw (ne-eqb (suc j) 0 (λ x. omega arith))
           (sym (ap₂ _+_ (place-front k (omega arith)) (old-links k (omega (arith, among k))) ∙ add-zero _))
 
-  pub added : setAll at mid′ (img (len s) at (m + n) (headOf ks) before (bytesOf (mid′ ++ post))) ≡ encode s′
+  pub added : setAll at mid′ (img (s .clock) (len s) at (m + n) (headOf ks) before (bytesOf (mid′ ++ post))) ≡ encode s′
   added =
       let r = bytesOf (mid′ ++ post) in
-      img-all (len s) at (m + n) (headOf ks) at mid′ before r inside
-      ∙ img-same (len s) at (m + n) (headOf ks) (updAll before at mid′) (value s′) r (λ k o. holds k)
-      ∙ sym (encode-img s′ ∙ lay-same len-same start-more count-more refl (ap (λ (j : ℕ). map (value s′) (offsets zoneHeader j)) count-more) refl)
+      img-all (s .clock) (len s) at (m + n) (headOf ks) at mid′ before r inside
+      ∙ img-same (s .clock) (len s) at (m + n) (headOf ks) (updAll before at mid′) (value s′) r (λ k o. holds k)
+      ∙ sym (encode-img s′ ∙ lay-same (s .clock) len-same start-more count-more refl (ap (λ (j : ℕ). map (value s′) (offsets zoneHeader j)) count-more) refl)

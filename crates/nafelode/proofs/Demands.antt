@@ -6,12 +6,13 @@ use Prim.Native.Nat.{ℕ, zero, suc}
 use native.Mathlib.Omega.{arith}
 use lib.ListN.{length, drop, replicate}
 use lib.Dec.{eqb·suc-zero}
+use borrow.Author.Tests.{ne-eqb}
 use Rattle.format.specs.WellFormed.{wellFormed, countOf}
 use Rattle.structure.specs.Structure.{encode, decode}
 use Rattle.bigendian.specs.BigEndian.{Bytes, slice}
-use Rattle.calls.specs.Calls.{Target, Call, check, view, Answer, told, toldTwo, refused}
-use Rattle.calls.specs.Table.{first, order, badInitialize, initRefusal}
-use Rattle.zone.specs.Work.{work, fresh}
+use Rattle.calls.specs.Calls.{Target, Call, PageCall, create-page, use-page, mark-page, drop-page, check, view, Answer, told, toldTwo, Beside, alone, lends, part, of-page, beside, refused}
+use Rattle.calls.specs.Table.{Facts, first, order, badInitialize, pageValue, valueBeside, refusalValue, initRefusal}
+use Rattle.zone.specs.Work.{facts, work, fresh}
 use Rattle.zone.specs.Call.{result, outcome, inLine, zoneIn, numberOf, Result, callWith, initializeWith}
 use Rattle.zone.specs.Census.{strata, Counted, counted}
 use Rattle.zone.specs.View.{viewStart, viewLength}
@@ -26,14 +27,18 @@ use Rattle.nafelode.proofs.ViewPlace.{start-tied, length-tied}
 use Rattle.nafelode.specs.Demands.{OneRefusal, Demand1, Worked, Demand2, Demand3}
 use Rattle.zone.proofs.Theorem.{the-list}
 
-one-refusal : (c : Call) (entry : List ℕ) (a : Answer) (exit : List ℕ) → Promise c entry a exit → OneRefusal (numberOf c entry) (refused c (numberOf c entry)) entry a exit
+-- what it answers when it is refused with n
+abbrev refusedIn : Call → List ℕ → ℕ → Answer
+refusedIn c entry n = refused c n (refusalValue n c (facts (wellFormed entry) (zoneIn entry)))
+
+one-refusal : (c : Call) (entry : List ℕ) (a : Answer) (exit : List ℕ) → Promise c entry a exit → OneRefusal (numberOf c entry) (refusedIn c entry (numberOf c entry)) entry a exit
 one-refusal c entry a exit k = go (numberOf c entry) k
   where
     worked-number : (t : Bool) → (cond t (outcome entry (decode entry) (work c (zoneIn entry))) (result (told 0 0) entry)) .answer .number ≡ 0
     worked-number true = work-number c (zoneIn entry)
     worked-number false = refl
 
-    go : (n : ℕ) → result a exit ≡ callWith n c entry → OneRefusal n (refused c n) entry a exit
+    go : (n : ℕ) → result a exit ≡ callWith n c entry → OneRefusal n (refusedIn c entry n) entry a exit
     go zero k = record { done = λ q. ap (λ (r : Result). r .answer .number) k ∙ worked-number (wellFormed entry); refused = λ ne. absurd (ne refl) }
     go (suc n) k = let e = rw (eqb·suc-zero n) at k in record { done = λ q. absurd (omega (arith, q)); refused = λ ne. (ap (λ (r : Result). r .answer) e, ap (λ (r : Result). r .bytes) e) }
 
@@ -48,9 +53,26 @@ init-refusal n m entry a exit k = go (badInitialize (length entry) n m .holds) k
     go true k = record { done = λ z. absurd (omega (arith, z)); refused = λ ne. (ap (λ (r : Result). r .answer) k, ap (λ (r : Result). r .bytes) k) }
     go false k = record { done = λ z. ap (λ (r : Result). r .answer .number) k; refused = λ ne. absurd (ne refl) }
 
+-- the value of a refusal is 0, but for 12
+value-0 : (n : ℕ) (c : Call) (f : Facts) → (n ≡ 12 → ⊥) → refusalValue n c f ≡ 0
+value-0 n c f ne = go (beside c)
+  where
+    page : (p : PageCall) → pageValue n p f ≡ 0
+    page (create-page k) = rw (ne-eqb n 12 ne)
+    page use-page = refl
+    page (mark-page m) = refl
+    page drop-page = refl
+
+    go : (b : Beside) → valueBeside n b f ≡ 0
+    go alone = refl
+    go (lends second) = refl
+    go part = refl
+    go (of-page k p) = page p
+
 pub demand-1 : Demand1
 demand-1 = record {
   of-calls = one-refusal;
+  value = λ c entry a exit k ne nt. ap (λ (r : Answer). r .value) (one-refusal c entry a exit k .refused ne .0) ∙ value-0 (numberOf c entry) c _ nt;
   of-initialize = init-refusal;
   of-census = λ zone n cs e w. let q : counted n cs ≡ counted 1 (replicate strata 0) = e ∙ rw w in (ap (λ (c : Counted). c .number) q, ap (λ (c : Counted). c .counts) q);
   of-walker = λ zone at w e f. e ∙ rw f;

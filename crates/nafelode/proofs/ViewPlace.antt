@@ -14,13 +14,14 @@ use Rattle.bigendian.proofs.Parts.{drop-take}
 use Rattle.block_type.specs.Limits.{masterSize}
 use Rattle.format.specs.WellFormed.{wellFormed, zoneOf, firstField, lengthField, masterAt, isMaster, splitBlocks}
 use Rattle.format.proofs.Handles.{handles}
-use Rattle.calls.specs.Calls.{Target, by-handle, by-pointer, view}
+use Rattle.calls.specs.Calls.{Target, by-handle, by-pointer, by-name, view}
 use Rattle.zone.specs.Call.{numberOf}
 use Rattle.zone.specs.View.{dataAt, viewStart, viewLength}
 use Rattle.access.specs.Edit as Edit
 use Rattle.access.proofs.PlaceLaws.{by-count, place-no, handle-fits}
 use Rattle.access.specs.locate.Locate.{targetPlace, absentNumber}
 use Rattle.access.proofs.locate.Laws.{place-by-handle}
+use Rattle.access.proofs.locate.Offset.{offset-is}
 use Rattle.stretch.specs.Stretch as Walked
 use Rattle.stretch.specs.Stretch.{stretchNumber}
 use Rattle.stretch.proofs.Answers.{Case, ill, lost, past, short, fits, the-case, absent-some, view-number}
@@ -36,6 +37,7 @@ master-same s h l =
 
 place-tied : (t : Target) (s : List ℕ) → Bytes s → wellFormed s ≡ true → (targetPlace t (zoneOf s) ≡ 0 → ⊥) → targetPlace t (zoneOf s) ≡ dataAt t s
 place-tied (by-pointer p) s y w l = target-is p (zoneOf s) l
+place-tied (by-name n) s y w l = offset-is n s
 place-tied (by-handle h) s y w l = go (isMaster (firstField (zoneOf s)) h) refl
   where
     iz : IsZone (zoneOf s)

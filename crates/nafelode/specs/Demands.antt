@@ -10,9 +10,9 @@ use lib.ListN.{length, drop, replicate}
 use Rattle.bigendian.specs.BigEndian.{Bytes, slice}
 use Rattle.format.specs.WellFormed.{wellFormed, countOf}
 use Rattle.structure.specs.Structure.{encode, decode}
-use Rattle.calls.specs.Calls.{Target, Call, check, view, Answer, told, toldTwo, beside, secondOf, refused}
-use Rattle.calls.specs.Table.{initRefusal}
-use Rattle.zone.specs.Work.{work, fresh}
+use Rattle.calls.specs.Calls.{Target, Call, check, view, Answer, told, toldTwo, beside, Given, refused}
+use Rattle.calls.specs.Table.{refusalValue, initRefusal}
+use Rattle.zone.specs.Work.{facts, work, fresh}
 use Rattle.zone.specs.Call.{inLine, zoneIn, numberOf, replacing}
 use Rattle.zone.specs.Census.{strata, counted, census}
 use Rattle.zone.specs.Walker.{Walked, walked, walkStep}
@@ -23,13 +23,16 @@ use Rattle.zone.specs.Claim.{TheList}
 -- ---- "1. If a call is given any buffer and any numbers, it returns and stays inside the buffer. It does its work or gives the one
 -- refusal that document 01's order picks, with value 0, and a refused call changes no byte of any lent buffer."
 
--- n is the number that the order picks, 0 for none; r is what a refused call answers: 0 for each value, and lent buffers as they were
+-- n is the number that the order picks, 0 for none; r is what a refused call answers: 0 for each value, and lent buffers as they were. (Of a create
+-- that is refused with 12 the value "alone among refusals, is that block's name": document 02, U5)
 pub record OneRefusal (n : ℕ) (r : Answer) (entry : List ℕ) (a : Answer) (exit : List ℕ) : Type 0 where
   pub done : n ≡ 0 → a .number ≡ 0
   pub refused : (n ≡ 0 → ⊥) → (a ≡ r) × (exit ≡ entry)
 
 pub record Demand1 : Type 0 where
-  pub of-calls : (c : Call) (entry : List ℕ) (a : Answer) (exit : List ℕ) → Promise c entry a exit → OneRefusal (numberOf c entry) (refused c (numberOf c entry)) entry a exit
+  pub of-calls : (c : Call) (entry : List ℕ) (a : Answer) (exit : List ℕ) → Promise c entry a exit → OneRefusal (numberOf c entry) (refused c (numberOf c entry) (refusalValue (numberOf c entry) c (facts (wellFormed entry) (zoneIn entry)))) entry a exit
+  -- "with value 0", whatever the call, but for 12
+  pub value : (c : Call) (entry : List ℕ) (a : Answer) (exit : List ℕ) → Promise c entry a exit → (numberOf c entry ≡ 0 → ⊥) → (numberOf c entry ≡ 12 → ⊥) → a .value ≡ 0
   pub of-initialize : (n m : ℕ) (entry : List ℕ) (a : Answer) (exit : List ℕ) → InitPromise n m entry a exit → OneRefusal (initRefusal (length entry) n m) (told 2 0) entry a exit
   pub of-census : (zone : List ℕ) (n : ℕ) (cs : List ℕ) → counted n cs ≡ census zone → wellFormed zone ≡ false → (n ≡ 1) × (cs ≡ replicate strata 0)
   pub of-walker : (zone : List ℕ) (at : ℕ) (w : Walked) → w ≡ walkStep zone at → wellFormed zone ≡ false → w ≡ walked 1 0 0 0 at
@@ -41,7 +44,7 @@ pub record Demand1 : Type 0 where
 pub record Worked (c : Call) (entry : List ℕ) (a : Answer) (exit : List ℕ) : Type 0 where
   pub answer : a ≡ (work c (zoneIn entry)) .answer
   pub bytes : exit ≡ replacing entry (decode entry) (inLine ((work c (zoneIn entry)) .next))
-  pub zone : Bytes entry → Bytes (secondOf (beside c)) → wellFormed exit ≡ true
+  pub zone : Bytes entry → Given (beside c) → wellFormed exit ≡ true
 
 pub record Demand2 : Type 0 where
   pub of-calls : (c : Call) (entry : List ℕ) (a : Answer) (exit : List ℕ) → Promise c entry a exit → wellFormed entry ≡ true → numberOf c entry ≡ 0 → Worked c entry a exit

@@ -4,7 +4,7 @@ ghost use mathlib.Core.Path.{_≡_};
 ghost use mathlib.Core.Bool.{cond};
 ghost use Prim.Native.Nat.{_+_};
 ghost use lib.ListN.{length};
-ghost use Rattle.calls.specs.Calls.{allocate-relocatable, allocate-fixed, free-handle, free-pointer, resize, size, read, write, view, compact, sums, check, length-of, enlarge, shrink, roster, told, shows, toldTwo, toldWith};
+ghost use Rattle.calls.specs.Calls.{allocate-relocatable, allocate-fixed, free-handle, free-pointer, resize, size, read, write, view, compact, sums, check, length-of, enlarge, shrink, roster, on-page, create-page, use-page, mark-page, drop-page, set-dirty, clear-dirty, set-lock, clear-lock, told, shows, toldTwo, toldWith};
 ghost use Rattle.zone.specs.Promise.{Promise, InitPromise};
 ghost use Rattle.access.specs.locate.Named.{targetOf};
 ghost use Rattle.zone.specs.View.{viewStart, viewLength};
@@ -61,6 +61,61 @@ pub fn resize(zone: &mut [u8], h: u32, c: u32) -> Told
     ensures { λ r. ⌜ Promise (resize h c) (now (zone .entry)) (told (r .number) (r .value)) (now (zone .exit)) ⌝ }
 {
     resize::resize(zone, h, c)
+}
+
+// A page of this name for c data bytes, in the place that a relocatable block gets; where no bay's sum is enough, unlocked pages go first, in their turn.
+// Answers its data offset, or beside 12 the name of the dirty page that would have to go.
+pub fn create_page(zone: &mut [u8], name: u32, c: u32) -> Told
+    ensures { λ r. ⌜ Promise (on-page name (create-page c)) (now (zone .entry)) (told (r .number) (r .value)) (now (zone .exit)) ⌝ }
+{
+    create::create_page(zone, name, c)
+}
+
+// Steps the clock and stamps the page of this name with it. Answers its data offset.
+pub fn use_page(zone: &mut [u8], name: u32) -> Told
+    ensures { λ r. ⌜ Promise (on-page name use-page) (now (zone .entry)) (told (r .number) (r .value)) (now (zone .exit)) ⌝ }
+{
+    pages::status::use_page(zone, name)
+}
+
+// The page of this name is dirty: a create that would have to drop it is refused.
+pub fn set_dirty(zone: &mut [u8], name: u32) -> Told
+    ensures { λ r. ⌜ Promise (on-page name (mark-page set-dirty)) (now (zone .entry)) (told (r .number) (r .value)) (now (zone .exit)) ⌝ }
+{
+    let number = pages::status::set_dirty(zone, name);
+    Told { number, value: 0 }
+}
+
+// The page of this name is dirty no longer.
+pub fn clear_dirty(zone: &mut [u8], name: u32) -> Told
+    ensures { λ r. ⌜ Promise (on-page name (mark-page clear-dirty)) (now (zone .entry)) (told (r .number) (r .value)) (now (zone .exit)) ⌝ }
+{
+    let number = pages::status::clear_dirty(zone, name);
+    Told { number, value: 0 }
+}
+
+// The page of this name is locked: no create drops it.
+pub fn set_lock(zone: &mut [u8], name: u32) -> Told
+    ensures { λ r. ⌜ Promise (on-page name (mark-page set-lock)) (now (zone .entry)) (told (r .number) (r .value)) (now (zone .exit)) ⌝ }
+{
+    let number = pages::status::set_lock(zone, name);
+    Told { number, value: 0 }
+}
+
+// The page of this name is locked no longer.
+pub fn clear_lock(zone: &mut [u8], name: u32) -> Told
+    ensures { λ r. ⌜ Promise (on-page name (mark-page clear-lock)) (now (zone .entry)) (told (r .number) (r .value)) (now (zone .exit)) ⌝ }
+{
+    let number = pages::status::clear_lock(zone, name);
+    Told { number, value: 0 }
+}
+
+// Drops the page of this name, dirty and locked or not.
+pub fn drop_page(zone: &mut [u8], name: u32) -> Told
+    ensures { λ r. ⌜ Promise (on-page name drop-page) (now (zone .entry)) (told (r .number) (r .value)) (now (zone .exit)) ⌝ }
+{
+    let number = pages::drop::drop_page(zone, name);
+    Told { number, value: 0 }
 }
 
 // Compacts every bay. Answers the largest sum.

@@ -11,7 +11,7 @@ use mir.Syntax.{w32}
 use Rattle.block_type.specs.Limits.{longestZone}
 use Rattle.bigendian.specs.BigEndian.{Bytes, slice}
 use Rattle.format.specs.WellFormed.{lengthField}
-use Rattle.calls.specs.Calls.{Target, by-handle, by-pointer, Answer, size, read, write, view, check, toldTwo, shows}
+use Rattle.calls.specs.Calls.{Target, by-handle, by-pointer, by-name, Answer, size, read, write, view, check, toldTwo, shows}
 use Rattle.zone.specs.Promise.{Promise}
 use Rattle.access.proofs.locate.Data.{target-fits}
 use Rattle.access.proofs.Checked.{fields-of}
@@ -27,8 +27,11 @@ use Rattle.nafelode_c.specs.Named.{named}
 pub named-handle : (kind n : ℕ) → kind ≡ 0 → by-handle n ≡ named kind n
 named-handle kind n e = rw e
 
-pub named-pointer : (kind n : ℕ) → (kind ≡ 0 → ⊥) → by-pointer n ≡ named kind n
-named-pointer kind n e = rw (ne-eqb kind 0 e)
+pub named-name : (kind n : ℕ) → kind ≡ 2 → by-name n ≡ named kind n
+named-name kind n e = rw e
+
+pub named-pointer : (kind n : ℕ) → (kind ≡ 0 → ⊥) → (kind ≡ 2 → ⊥) → by-pointer n ≡ named kind n
+named-pointer kind n e f = rw (ne-eqb kind 0 e) (rw (ne-eqb kind 2 f))
 
 module _ (t u : Target) (e : t ≡ u) (s : List ℕ) (a : Answer) where
   pub size-named : Promise (size t) s a s → Promise (size u) s a s

@@ -1,11 +1,11 @@
-// The library for C: every call of document 01 under a C name, thin over crate nafelode (a view over crate stretch, since C gets its
+// The library for C: every call of document 01, and of document 02 those on pages, under a C name, thin over crate nafelode (a view over crate stretch, since C gets its
 // offset and not a slice). In C a slice is a pointer and a length.
 // nafelode.h is made from this file: its declarations, and the comments of the structs and of the exported functions.
 ghost use mathlib.Core.Path.{_≡_};
 ghost use Prim.Native.Nat.{_+_, _≤_};
 ghost use lib.ListN.{length};
 ghost use Rattle.format.specs.WellFormed.{lengthField};
-ghost use Rattle.calls.specs.Calls.{told, shows, toldTwo, toldWith, allocate-relocatable, allocate-fixed, free-handle, free-pointer, resize, size, read, write, view, compact, sums, check, length-of, enlarge, shrink, roster};
+ghost use Rattle.calls.specs.Calls.{told, shows, toldTwo, toldWith, allocate-relocatable, allocate-fixed, free-handle, free-pointer, resize, size, read, write, view, compact, sums, check, length-of, enlarge, shrink, roster, on-page, create-page, use-page, mark-page, drop-page, set-dirty, clear-dirty, set-lock, clear-lock};
 ghost use Rattle.bigendian.specs.BigEndian.{slice};
 ghost use Rattle.zone.specs.Promise.{Promise, InitPromise};
 ghost use Rattle.zone.specs.Census.{counted, census};
@@ -17,7 +17,7 @@ use nafelode::Stretch;
 use nafelode::Target;
 use nafelode::Walker;
 
-// The refusal number, 0 if the call is done, and the value, 0 when refused.
+// The refusal number, 0 if the call is done, and the value, 0 when refused (but for a create refused with 12).
 #[repr(C)]
 pub struct Told {
     pub number: u32,
@@ -46,7 +46,7 @@ pub struct Part {
     pub length: u32,
 }
 
-// The refusal number, and a block's type (0 free, 1 fixed, 2 relocatable), offset and size; 0 for each where no block starts.
+// The refusal number, and a block's type (0 free, 1 fixed, 2 relocatable, 3 page), offset and size; 0 for each where no block starts.
 #[repr(C)]
 pub struct Step {
     pub number: u32,
@@ -69,6 +69,9 @@ fn block_of(kind: u32, block: u32) -> Target
 {
     if kind == 0 {
         return Target::Handle(block);
+    }
+    if kind == 2 {
+        return Target::Name(block);
     }
     Target::Pointer(block)
 }
@@ -161,9 +164,9 @@ pub extern "C" fn nafelode_resize(zone: &mut [u8], handle: u32, c: u32) -> Told
     }
 }
 
-// The data size of a block, which may exceed what was asked for. kind 0: block is a handle; any other kind: a pointer.
+// The data size of a block, which may exceed what was asked for. kind 0: block is a handle; 2: a page's name; any other kind: a pointer.
 // Value: the data size in bytes.
-// Refused: 1 zone not well-formed, 6 handle not live, 7 pointer not that of a fixed block.
+// Refused: 1 zone not well-formed, 6 handle not live, 13 no page has this name, 7 pointer not that of a fixed block.
 #[no_mangle]
 pub extern "C" fn nafelode_size(zone: &[u8], kind: u32, block: u32) -> Told
     ensures { λ r. ⌜ Promise (size (named kind block)) (now (zone .entry)) (told (r .number) (r .value)) (now (zone .entry)) ⌝ }
@@ -176,11 +179,11 @@ pub extern "C" fn nafelode_size(zone: &[u8], kind: u32, block: u32) -> Told
     }
 }
 
-// Copies count bytes of a block from an offset on to the start of out; later bytes of out stay. kind 0: block is a handle; any other
-// kind: a pointer.
+// Copies count bytes of a block from an offset on to the start of out; later bytes of out stay. kind 0: block is a handle; 2: a page's
+// name; any other kind: a pointer.
 // Answers the refusal number, 0 if done.
-// Refused: 1 zone not well-formed, 6 handle not live, 7 pointer not that of a fixed block, 8 offset + count above the data size,
-// 10 out shorter than count.
+// Refused: 1 zone not well-formed, 6 handle not live, 13 no page has this name, 7 pointer not that of a fixed block, 8 offset + count
+// above the data size, 10 out shorter than count.
 #[no_mangle]
 pub extern "C" fn nafelode_read(
     zone: &[u8],
@@ -204,10 +207,11 @@ pub extern "C" fn nafelode_read(
     )
 }
 
-// Copies count bytes from the start of src to a block, from an offset on. kind 0: block is a handle; any other kind: a pointer.
+// Copies count bytes from the start of src to a block, from an offset on. kind 0: block is a handle; 2: a page's name; any other kind: a pointer.
+// A write by name makes no page dirty: nafelode_set_dirty does.
 // Answers the refusal number, 0 if done.
-// Refused: 1 zone not well-formed, 6 handle not live, 7 pointer not that of a fixed block, 8 offset + count above the data size,
-// 10 src shorter than count.
+// Refused: 1 zone not well-formed, 6 handle not live, 13 no page has this name, 7 pointer not that of a fixed block, 8 offset + count
+// above the data size, 10 src shorter than count.
 #[no_mangle]
 pub extern "C" fn nafelode_write(
     zone: &mut [u8],
@@ -232,10 +236,10 @@ pub extern "C" fn nafelode_write(
 }
 
 // Where count bytes of a block from an offset on lie in the zone. They lie there until the next call that changes the zone.
-// kind 0: block is a handle; any other kind: a pointer.
+// kind 0: block is a handle; 2: a page's name; any other kind: a pointer.
 // Answers offset and length of that part, 0 and 0 when refused. (A view of no bytes at a block that is there has its offset.)
-// Refused, though it carries no number: zone not well-formed, handle not live, pointer not that of a fixed block, offset + count above
-// the data size.
+// Refused, though it carries no number: zone not well-formed, handle not live, no page of this name, pointer not that of a fixed block,
+// offset + count above the data size.
 #[no_mangle]
 pub extern "C" fn nafelode_view(zone: &[u8], kind: u32, block: u32, offset: u32, count: u32) -> Part
     ensures { λ r. ⌜ Promise (view (named kind block) offset count) (now (zone .entry)) (shows 0 (slice (now (zone .entry)) (r .offset) (r .length))) (now (zone .entry)) ⌝ }
@@ -262,7 +266,111 @@ pub extern "C" fn nafelode_view(zone: &[u8], kind: u32, block: u32, offset: u32,
     }
 }
 
-// Compacts every bay: relocatable blocks slide to its start.
+// Creates a page: a block that is found by a name, here for c data bytes, which are zero; neither dirty nor locked.
+// It is placed as a relocatable block is, and slides as one does.
+// Where no bay's sum is enough, pages that are not locked are dropped, greatest age first, the smaller name among equals, until one is.
+// Age is clock minus stamp, modulo 256, before this call.
+// Then the clock steps by one, modulo 256, and stamps the page.
+// Value: the offset of its first data byte, which is valid until the next call that changes the zone. When refused with 12: the name of the dirty page
+// that the dropping would reach, where nothing is dropped.
+// Refused: 1 zone not well-formed, 11 a page has this name, 3 c above 32756, 5 no space even without all pages that are not locked, 12 a dirty page would
+// be dropped.
+#[no_mangle]
+pub extern "C" fn nafelode_create_page(zone: &mut [u8], name: u32, c: u32) -> Told
+    ensures { λ r. ⌜ Promise (on-page name (create-page c)) (now (zone .entry)) (told (r .number) (r .value)) (now (zone .exit)) ⌝ }
+{
+    let t = nafelode::create_page(zone, name, c);
+    Told {
+        number: t.number,
+        value: t.value,
+    }
+}
+
+// Uses a page: the clock steps by one, modulo 256, and stamps it.
+// Value: the offset of its first data byte, which is valid until the next call that changes the zone.
+// Refused: 1 zone not well-formed, 13 no page has this name.
+#[no_mangle]
+pub extern "C" fn nafelode_use_page(zone: &mut [u8], name: u32) -> Told
+    ensures { λ r. ⌜ Promise (on-page name use-page) (now (zone .entry)) (told (r .number) (r .value)) (now (zone .exit)) ⌝ }
+{
+    let t = nafelode::use_page(zone, name);
+    Told {
+        number: t.number,
+        value: t.value,
+    }
+}
+
+// Makes a page dirty: it has changes that are saved nowhere else, and a create that would have to drop it is refused.
+// Value: 0.
+// Refused: 1 zone not well-formed, 13 no page has this name.
+#[no_mangle]
+pub extern "C" fn nafelode_set_dirty(zone: &mut [u8], name: u32) -> Told
+    ensures { λ r. ⌜ Promise (on-page name (mark-page set-dirty)) (now (zone .entry)) (told (r .number) (r .value)) (now (zone .exit)) ⌝ }
+{
+    let t = nafelode::set_dirty(zone, name);
+    Told {
+        number: t.number,
+        value: t.value,
+    }
+}
+
+// Makes a page dirty no longer: it is saved.
+// Value: 0.
+// Refused: 1 zone not well-formed, 13 no page has this name.
+#[no_mangle]
+pub extern "C" fn nafelode_clear_dirty(zone: &mut [u8], name: u32) -> Told
+    ensures { λ r. ⌜ Promise (on-page name (mark-page clear-dirty)) (now (zone .entry)) (told (r .number) (r .value)) (now (zone .exit)) ⌝ }
+{
+    let t = nafelode::clear_dirty(zone, name);
+    Told {
+        number: t.number,
+        value: t.value,
+    }
+}
+
+// Locks a page: no create drops it.
+// Value: 0.
+// Refused: 1 zone not well-formed, 13 no page has this name.
+#[no_mangle]
+pub extern "C" fn nafelode_set_lock(zone: &mut [u8], name: u32) -> Told
+    ensures { λ r. ⌜ Promise (on-page name (mark-page set-lock)) (now (zone .entry)) (told (r .number) (r .value)) (now (zone .exit)) ⌝ }
+{
+    let t = nafelode::set_lock(zone, name);
+    Told {
+        number: t.number,
+        value: t.value,
+    }
+}
+
+// Locks a page no longer.
+// Value: 0.
+// Refused: 1 zone not well-formed, 13 no page has this name.
+#[no_mangle]
+pub extern "C" fn nafelode_clear_lock(zone: &mut [u8], name: u32) -> Told
+    ensures { λ r. ⌜ Promise (on-page name (mark-page clear-lock)) (now (zone .entry)) (told (r .number) (r .value)) (now (zone .exit)) ⌝ }
+{
+    let t = nafelode::clear_lock(zone, name);
+    Told {
+        number: t.number,
+        value: t.value,
+    }
+}
+
+// Drops a page: its block is free. Neither dirty nor lock prevents that.
+// Value: 0.
+// Refused: 1 zone not well-formed, 13 no page has this name.
+#[no_mangle]
+pub extern "C" fn nafelode_drop_page(zone: &mut [u8], name: u32) -> Told
+    ensures { λ r. ⌜ Promise (on-page name drop-page) (now (zone .entry)) (told (r .number) (r .value)) (now (zone .exit)) ⌝ }
+{
+    let t = nafelode::drop_page(zone, name);
+    Told {
+        number: t.number,
+        value: t.value,
+    }
+}
+
+// Compacts every bay: relocatable blocks and pages slide to its start.
 // Value: the largest bay's sum of free bytes.
 // Refused: 1 zone not well-formed.
 #[no_mangle]

@@ -8,17 +8,17 @@ use native.Mathlib.Omega.{arith}
 use lib.ListN.{length, getD, drop, replicate, length-replicate}
 use lib.Dec.{eqb}
 use Rattle.bigendian.specs.BigEndian.{Bytes, fromBE, slice}
-use Rattle.bigendian.proofs.Bytes.{bytes-none}
 use Rattle.memory.specs.Zeros.{allZero}
 use Rattle.format.specs.WellFormed.{wellFormed, headerOk}
-use Rattle.calls.specs.Calls.{Call, by-handle, allocate-relocatable, allocate-fixed, free-handle, free-pointer, resize, read, write, compact, enlarge, shrink, Answer, beside, secondOf, refused}
-use Rattle.calls.specs.Table.{Facts, cause, refusalOf, first, order, badInitialize}
+use Rattle.calls.specs.Calls.{Call, by-handle, allocate-relocatable, allocate-fixed, free-handle, free-pointer, resize, read, write, compact, enlarge, shrink, Answer, beside, Given, refused}
+use Rattle.calls.specs.Table.{Facts, cause, refusalOf, refusalValue, first, order, badInitialize}
 use Rattle.ledger.specs.Ledger as Book
 use Rattle.ledger.specs.Ledger.{Ledger}
 use Rattle.zone.specs.Work.{facts, fresh}
 use Rattle.zone.specs.Call as Zone
 use Rattle.zone.specs.Call.{inLine, zoneIn, result, callWith, initializeWith}
 use Rattle.structure.specs.Structure.{encode}
+use Rattle.zone.specs.Claim.{compared}
 use Rattle.zone.proofs.Initial.{Accepted, accepted, fresh-stored}
 use Rattle.zone.proofs.Theorem.{Point, onward, first-point}
 use Rattle.records.specs.Records.{Action, initialize, call, read-byte, nothing, actions, actionOf, Ran, act, Line, line, text, printed, recordsOf, output, withValue, withByte, ran, recordLength, aAt, bAt, dAt}
@@ -27,9 +27,11 @@ use Rattle.records.specs.Book.{bufferLength, bookCall, bookAct, bookLine
 -- ---- the calls that a record can ask for: they are lent bytes, and refused with 1 where there is no zone
 
 record Plain (c : Call) : Type 0 where
-  lent : Bytes (secondOf (beside c))
+  lent : Given (beside c)
   ill : (f : Facts) → f .well ≡ false → refusalOf c f ≡ 1
-  told : refused c 1 .number ≡ 1
+  value : (f : Facts) → refusalValue 1 c f ≡ 0
+  told : refused c 1 0 .number ≡ 1
+  whole : (a : Answer) → compared c a ≡ a
 
 one-lent : (x : ℕ) → x < 256 → Bytes (x ∷ [])
 one-lent x l zero = l
@@ -54,16 +56,16 @@ all-asks : (a b d : ℕ) → All (actions a b d)
 unfolding actions
 all-asks a b d =
     one-more asks-initialize
-    (one-more (asks-call (allocate-relocatable a) (record { lent = bytes-none; ill = λ f w. rw w; told = refl }))
-    (one-more (asks-call (allocate-fixed a) (record { lent = bytes-none; ill = λ f w. rw w; told = refl }))
-    (one-more (asks-call (free-handle a) (record { lent = bytes-none; ill = λ f w. rw w; told = refl }))
-    (one-more (asks-call (free-pointer a) (record { lent = bytes-none; ill = λ f w. rw w; told = refl }))
-    (one-more (asks-call (resize a b) (record { lent = bytes-none; ill = λ f w. rw w; told = refl }))
-    (one-more (asks-call (write (by-handle a) b 1 (d % 256 ∷ [])) (record { lent = one-lent (d % 256) (omega arith); ill = λ f w. rw w; told = refl }))
+    (one-more (asks-call (allocate-relocatable a) (record { lent = tt; ill = λ f w. rw w; value = λ f. refl; told = refl; whole = λ a. refl }))
+    (one-more (asks-call (allocate-fixed a) (record { lent = tt; ill = λ f w. rw w; value = λ f. refl; told = refl; whole = λ a. refl }))
+    (one-more (asks-call (free-handle a) (record { lent = tt; ill = λ f w. rw w; value = λ f. refl; told = refl; whole = λ a. refl }))
+    (one-more (asks-call (free-pointer a) (record { lent = tt; ill = λ f w. rw w; value = λ f. refl; told = refl; whole = λ a. refl }))
+    (one-more (asks-call (resize a b) (record { lent = tt; ill = λ f w. rw w; value = λ f. refl; told = refl; whole = λ a. refl }))
+    (one-more (asks-call (write (by-handle a) b 1 (d % 256 ∷ [])) (record { lent = one-lent (d % 256) (omega arith); ill = λ f w. rw w; value = λ f. refl; told = refl; whole = λ a. refl }))
     (one-more asks-byte
-    (one-more (asks-call compact (record { lent = bytes-none; ill = λ f w. rw w; told = refl }))
-    (one-more (asks-call (enlarge a) (record { lent = bytes-none; ill = λ f w. rw w; told = refl }))
-    (one-more (asks-call (shrink a) (record { lent = bytes-none; ill = λ f w. rw w; told = refl }))
+    (one-more (asks-call compact (record { lent = tt; ill = λ f w. rw w; value = λ f. refl; told = refl; whole = λ a. refl }))
+    (one-more (asks-call (enlarge a) (record { lent = tt; ill = λ f w. rw w; value = λ f. refl; told = refl; whole = λ a. refl }))
+    (one-more (asks-call (shrink a) (record { lent = tt; ill = λ f w. rw w; value = λ f. refl; told = refl; whole = λ a. refl }))
     no-more))))))))))
 
 asks : (r : List ℕ) → Asks (actionOf r)
@@ -94,16 +96,18 @@ record Agrees (r : Ran) (b : Line × Option Ledger) : Type 0 where
   kept : Kept (r .bytes) (b .1)
 
 -- a call with no zone
-ill-call : (c : Call) → Plain c → Zone.call c (replicate bufferLength 0) ≡ result (refused c 1) (replicate bufferLength 0)
-ill-call c k = ap (λ (n : ℕ). callWith n c (replicate bufferLength 0)) (k .ill (facts (wellFormed (replicate bufferLength 0)) (zoneIn (replicate bufferLength 0))) no-zone)
+ill-call : (c : Call) → Plain c → Zone.call c (replicate bufferLength 0) ≡ result (refused c 1 0) (replicate bufferLength 0)
+ill-call c k =
+    let f = facts (wellFormed (replicate bufferLength 0)) (zoneIn (replicate bufferLength 0)) in
+    ap (λ (n : ℕ). callWith n c (replicate bufferLength 0)) (k .ill f no-zone) ∙ ap (λ (v : ℕ). result (refused c 1 v) (replicate bufferLength 0)) (k .value f)
 
 -- v is the value that the line shows: 0 of a refused call
-module _ (c : Call) (v : Answer → ℕ) (k : Plain c) (v-0 : v (refused c 1) ≡ 0) where
+module _ (c : Call) (v : Answer → ℕ) (k : Plain c) (v-0 : v (refused c 1 0) ≡ 0) where
   call-agrees : {bs : List ℕ} {b : Option Ledger} → Kept bs b → Agrees (ran (line (Zone.call c bs .answer .number) (v (Zone.call c bs .answer))) (Zone.call c bs .bytes)) (bookCall c v b)
   call-agrees blank = rw (ill-call c k) (record { shown = ap₂ line (k .told) v-0; kept = blank })
   call-agrees {bs} (going e p) =
       let o = onward c (k .lent) p in
-      record { shown = ap (λ (a : Answer). line (a .number) (v a)) (o .same); kept = going (o .long ∙ e) (o .point) }
+      record { shown = ap (λ (a : Answer). line (a .number) (v a)) (sym (k .whole _) ∙ o .same); kept = going (o .long ∙ e) (o .point) }
 
 module _ (n m : ℕ) {bs : List ℕ} {b : Option Ledger} (k : Kept bs b) where
   -- by whether cause 2 holds
@@ -130,7 +134,7 @@ unfolding act withValue withByte
 act-agrees (asks-initialize {n} {m}) k = init-agrees n m k
 act-agrees (asks-call c p) k = call-agrees c (λ (a : Answer). a .value) p refl k
 act-agrees (asks-byte {h} {i}) k =
-    call-agrees (read (by-handle h) i 1 (0 ∷ [])) (λ (a : Answer). getD (a .bytes) 0 0) (record { lent = one-lent 0 (omega arith); ill = λ f w. rw w; told = refl }) refl k
+    call-agrees (read (by-handle h) i 1 (0 ∷ [])) (λ (a : Answer). getD (a .bytes) 0 0) (record { lent = one-lent 0 (omega arith); ill = λ f w. rw w; value = λ f. refl; told = refl; whole = λ a. refl }) refl k
 act-agrees asks-nothing k = record { shown = refl; kept = k }
 
 lines-agree : (rs : List (List ℕ)) {bs : List ℕ} {b : Option Ledger} → Kept bs b → printed rs bs ≡ bookLines rs b

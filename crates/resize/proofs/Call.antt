@@ -7,7 +7,6 @@ use Prim.Native.Nat.{ℕ}
 use mir.Val.{Fits}
 use mir.Syntax.{w8}
 use lib.ListN.{length, getD, take, drop}
-use Rattle.bigendian.proofs.Bytes.{bytes-none}
 use Rattle.structure.specs.Structure.{decodeZone, encode}
 use Rattle.calls.specs.Calls.{told, resize}
 use Rattle.zone.specs.Group.{flatten}
@@ -35,8 +34,8 @@ module _ (s : List ℕ) (h c number l a b at n st e : ℕ) (t : Bool) (way : Way
       record {
         passed = k;
         answer = refl;
-        line = ap₂ (λ (i : ℕ) (o : Option (List ℕ)). record { chain = d .chain; blocks = flatten (resizeIn h i (Option·getD o []) (baysOf d)) }) (sym (is-ready .is-a)) (content-live (take l s) h c (passed-live (take l s) h c (length s) k));
+        line = ap₂ (λ (i : ℕ) (o : Option (List ℕ)). record { clock = d .clock; chain = d .chain; blocks = flatten (resizeIn h i (Option·getD o []) (baysOf d)) }) (sym (is-ready .is-a)) (content-live (take l s) h c (passed-live (take l s) h c (length s) k));
       }
 
   pub call-end : (y : List ℕ) → ((i : ℕ) → Fits w8 (getD s i 0)) → y ≡ encode (resizedTo h a (decodeZone (take l s))) → result (told 0 0) (y ++ drop l s) ≡ call (resize h c) s
-  call-end y g q = frame-done (resize h c) s number l _ p g z does bytes-none refl y q
+  call-end y g q = frame-done (resize h c) s number l _ p g z does tt refl y q

@@ -9,12 +9,12 @@ use lib.ListN.{length}
 use lib.Dec.{eqb}
 use borrow.Author.Tests.{eqb-true}
 use Rattle.bigendian.specs.BigEndian.{Bytes}
-use Rattle.bigendian.proofs.Bytes.{bytes-none}
 use Rattle.block_type.specs.Limits.{relocHeader, up4}
 use Rattle.calls.specs.Calls.{by-handle, Answer, told, shows, Call, resize, size, view}
 use Rattle.calls.specs.Bays.{Bays, last, more, over, orElse, mapS, maxS}
 use Rattle.zone.specs.PickBays.{onLow}
-use Rattle.kinds.specs.Kinds.{Item, is}
+use Rattle.kinds.specs.Kinds.{Item, item, is, onData}
+use Rattle.kinds.proofs.KindLaws.{is-self}
 use Rattle.calls.specs.State.{get, alter, sized, Fixed, content, ownSum}
 use Rattle.calls.specs.Table.{below, isNone}
 use Rattle.calls.proofs.First.{or-left}
@@ -32,7 +32,7 @@ use Rattle.bay.proofs.Resize.{length-sized}
 use Rattle.zone.proofs.Own.{own-shaped}
 use Rattle.zone.proofs.Found.{resize-found, block-named}
 use Rattle.zone.proofs.Walk.{each-got}
-use Rattle.zone.proofs.Handles.{count-remove-same}
+use Rattle.zone.proofs.HowMany.{count-remove-same}
 use Rattle.zone.proofs.Grouped.{single-live}
 use Rattle.zone.proofs.Run.{well-whole}
 use Rattle.zone.proofs.Once.{Named, unnamed, named, often, count-get, blockOf}
@@ -42,21 +42,21 @@ use Rattle.call_laws.proofs.Placed.{low-found}
 
 -- ---- the item of a handle, in one bay
 
-get-alter : (h a : ℕ) (es : List Item) → get h (map (alter h (sized a)) es) ≡ over (resized a) (get h es)
+get-alter : (h a : ℕ) (es : List Item) → get (is h) (map (alter (is h) (onData (sized a))) es) ≡ over (resized a) (get (is h) es)
 get-alter h a [] = refl
 get-alter h a (i ∷ es) = go (is h i) refl (get-alter h a es)
   where
-    go : (t : Bool) → is h i ≡ t → get h (map (alter h (sized a)) es) ≡ over (resized a) (get h es) → get h (map (alter h (sized a)) (i ∷ es)) ≡ over (resized a) (get h (i ∷ es))
+    go : (t : Bool) → is h i ≡ t → get (is h) (map (alter (is h) (onData (sized a))) es) ≡ over (resized a) (get (is h) es) → get (is h) (map (alter (is h) (onData (sized a))) (i ∷ es)) ≡ over (resized a) (get (is h) (i ∷ es))
     go true q f = rw (q, q)
     go false q f = rw (q, q) f
 
 -- ---- in the bays
 
-own-has : (h a : ℕ) (b : List Cell) → own h a b ≡ true → count h (items b) ≡ 1
-own-has h a b t = go (eqb (count h (items b)) 1) refl t
+own-has : (h a : ℕ) (b : List Cell) → own h a b ≡ true → count (is h) (items b) ≡ 1
+own-has h a b t = go (eqb (count (is h) (items b)) 1) refl t
   where
-    go : (u : Bool) → eqb (count h (items b)) 1 ≡ u → cond u (roomFor a (baySum b) (get h (items b))) false ≡ true → count h (items b) ≡ 1
-    go true e t = eqb-true (count h (items b)) 1 e
+    go : (u : Bool) → eqb (count (is h) (items b)) 1 ≡ u → cond u (roomFor a (baySum b) (get (is h) (items b))) false ≡ true → count (is h) (items b) ≡ 1
+    go true e t = eqb-true (count (is h) (items b)) 1 e
     go false e t = absurd (false≢true t)
 
 -- where the own bay has room, the item is found at its new size
@@ -64,19 +64,19 @@ own-found : (h a : ℕ) (s : Bays (List Cell) Fixed) → live h s ≤ 1
     → Each (λ (u : Bays (List Cell) Fixed). (1 ≤ live h s) × (blockOf h u ≡ over (resized a) (blockOf h s))) (onLow (own h a) (reshape h a) s)
 own-found h a (last b) l =
     each-cond (own h a b)
-    (λ t. just (omega (arith, own-has h a b t), ap (get h) (own-shaped h a b t .same) ∙ get-alter h a (items b))) nothing
+    (λ t. just (omega (arith, own-has h a b t), ap (get (is h)) (own-shaped h a b t .same) ∙ get-alter h a (items b))) nothing
 own-found h a (more b x s) l =
     each-cond (own h a b)
-    (λ t. just (omega (arith, own-has h a b t), ap (λ (o : Option Item). orElse o (blockOf h s)) (ap (get h) (own-shaped h a b t .same) ∙ get-alter h a (items b)) ∙ first (get h (items b)) refl (own-has h a b t)))
+    (λ t. just (omega (arith, own-has h a b t), ap (λ (o : Option Item). orElse o (blockOf h s)) (ap (get (is h)) (own-shaped h a b t .same) ∙ get-alter h a (items b)) ∙ first (get (is h) (items b)) refl (own-has h a b t)))
     (each-over (more b x) (λ u q. (omega (arith, q .0), later u (q .0) (q .1))) (own-found h a s (omega arith)))
   where
-    first : (o : Option Item) → get h (items b) ≡ o → count h (items b) ≡ 1 → orElse (over (resized a) o) (blockOf h s) ≡ over (resized a) (orElse o (blockOf h s))
-    first none e k = absurd (omega (arith, count-get h (items b) (omega arith), ap often e))
+    first : (o : Option Item) → get (is h) (items b) ≡ o → count (is h) (items b) ≡ 1 → orElse (over (resized a) o) (blockOf h s) ≡ over (resized a) (orElse o (blockOf h s))
+    first none e k = absurd (omega (arith, count-get (is h) (items b) (omega arith), ap often e))
     first (some i) e k = refl
 
-    later : (u : Bays (List Cell) Fixed) → 1 ≤ live h s → blockOf h u ≡ over (resized a) (blockOf h s) → orElse (get h (items b)) (blockOf h u) ≡ over (resized a) (orElse (get h (items b)) (blockOf h s))
+    later : (u : Bays (List Cell) Fixed) → 1 ≤ live h s → blockOf h u ≡ over (resized a) (blockOf h s) → orElse (get (is h) (items b)) (blockOf h u) ≡ over (resized a) (orElse (get (is h) (items b)) (blockOf h s))
     later u k q =
-        let n = get-none h (items b) (omega arith) in
+        let n = get-none (is h) (items b) (omega arith) in
         ap (λ (o : Option Item). orElse o (blockOf h u)) n ∙ q ∙ sym (ap (λ (o : Option Item). over (resized a) (orElse o (blockOf h s))) n)
 
 -- ---- the call
@@ -98,7 +98,7 @@ pub record NewSize (h c : ℕ) (s : List ℕ) : Type 0 where
 
 module _ (s : List ℕ) (h c : ℕ) (y : Bytes s) (e : asked (resize h c) s .number ≡ 0) where
   ok : Accepted (resize h c) s
-  ok = accepted (resize h c) s (λ n. refl) refl e
+  ok = accepted (resize h c) s (λ n v. refl) refl e
 
   abbrev z : Zone
   z = zoneIn s
@@ -113,14 +113,14 @@ module _ (s : List ℕ) (h c : ℕ) (y : Bytes s) (e : asked (resize h c) s .num
   abbrev held : Bays (List Cell) Fixed → Option (List ℕ)
   held u = content items (by-handle h) u
 
-  gone : live h (mapS (release h) (z .bays)) ≡ 0
-  gone = mapS-zero (λ (b : List Cell). count h (items b)) (release h) (λ b. ap (count h) (release-items h b) ∙ count-remove-same h (items b)) (z .bays)
+  gone : live h (mapS (release (is h)) (z .bays)) ≡ 0
+  gone = mapS-zero (λ (b : List Cell). count (is h) (items b)) (release (is h)) (λ b. ap (count (is h)) (release-items (is h) b) ∙ count-remove-same (is h) (items b)) (z .bays)
 
-  after-found : (d : List ℕ) → blockOf h (z .bays) ≡ some (record { handle = h; bytes = d }) → Each (λ (u : Bays (List Cell) Fixed). held u ≡ some (sized a d)) (resizeIn h a (record { handle = h; bytes = d }) (z .bays))
+  after-found : (d : List ℕ) → blockOf h (z .bays) ≡ some (item h d) → Each (λ (u : Bays (List Cell) Fixed). held u ≡ some (sized a d)) (resizeIn h a (item h d) (z .bays))
   after-found d f =
-      let i : Item = record { handle = h; bytes = d } in
+      let i : Item = item h d in
       each-weaken (λ u q. ap (over (λ (j : Item). j .bytes)) q)
-      (each-orElse (each-weaken (λ u q. q .1 ∙ ap (over (resized a)) f) (own-found h a (z .bays) once)) (low-found (resized a i) (mapS (release h) (z .bays)) gone))
+      (each-orElse (each-weaken (λ u q. q .1 ∙ ap (over (resized a)) f) (own-found h a (z .bays) once)) (low-found (is h) (resized a i) (is-self h (sized a d)) (mapS (release (is h)) (z .bays)) gone))
 
   abbrev next : Zone
   next = (work (resize h c) z) .next
@@ -151,6 +151,6 @@ module _ (s : List ℕ) (h c : ℕ) (y : Bytes s) (e : asked (resize h c) s .num
 
   pub resize-told : NewSize h c s
   resize-told = record {
-    long = after ok y bytes-none (size (by-handle h)) ∙ size-there next (by-handle h) (kept-held .2) ∙ ap (told 0) (length-sized a d);
-    kept = after ok y bytes-none (view (by-handle h) 0 a) ∙ view-there next (by-handle h) (sized a d) a (sym (length-sized a d)) (kept-held .2) ∙ ap (λ (x : List ℕ). shows 0 (sized a x)) (sym shown-is);
+    long = after ok y tt (size (by-handle h)) ∙ size-there next (by-handle h) (kept-held .2) ∙ ap (told 0) (length-sized a d);
+    kept = after ok y tt (view (by-handle h) 0 a) ∙ view-there next (by-handle h) (sized a d) a (sym (length-sized a d)) (kept-held .2) ∙ ap (λ (x : List ℕ). shows 0 (sized a x)) (sym shown-is);
   }

@@ -11,7 +11,7 @@ use Rattle.structure.specs.Structure.{Structure, encode, decodeZone}
 use Rattle.access.specs.Edit.{dataIn, dataOf}
 use Rattle.calls.specs.Bays.{mapS, onLowest}
 use Rattle.calls.specs.State.{sized, ownSum}
-use Rattle.kinds.specs.Kinds.{item}
+use Rattle.kinds.specs.Kinds.{item, is}
 use Rattle.bay.specs.Bay.{baySum, items, release, reshape}
 use Rattle.zone.specs.Group.{flatten}
 use Rattle.zone.specs.Work.{has, placeLow}
@@ -35,8 +35,9 @@ module _ (z : List ℕ) (h a : ℕ) where
 
   by : Bool → Structure
   by t = record {
+    clock = s .clock;
     chain = s .chain;
-    blocks = flatten (cond t (onLowest (has h) (reshape h a) (baysOf s)) (placeLow (item h (sized a (dataOf h (s .blocks)))) (mapS (release h) (baysOf s))));
+    blocks = flatten (cond t (onLowest (has h) (reshape h a) (baysOf s)) (placeLow (item h (sized a (dataOf h (s .blocks)))) (mapS (release (is h)) (baysOf s))));
   }
 
   stays : reach ≡ true → resizedTo h a s ≡ reshaped h a s

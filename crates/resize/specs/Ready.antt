@@ -28,7 +28,7 @@ use Rattle.structure.specs.IsZone.{IsZone}
 
 -- the structure with a data bytes in the block of handle h
 abbrev pub resizedTo : ℕ → ℕ → Structure → Structure
-resizedTo h a s = record { chain = s .chain; blocks = flatten (resizeIn h a (dataOf h (s .blocks)) (group (start s) (s .blocks))) }
+resizedTo h a s = record { clock = s .clock; chain = s .chain; blocks = flatten (resizeIn h a (dataOf h (s .blocks)) (group (start s) (s .blocks))) }
 
 -- "no bay as required" for a data bytes of handle h
 abbrev pub noRoom : List ℕ → ℕ → ℕ → Bool

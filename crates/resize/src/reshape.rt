@@ -1,6 +1,5 @@
 // A block gets another size in its own bay: where it stands, or in the bay laid out as compacted.
 use access::row;
-use zone_check::block_check;
 ghost use mathlib.Core.Path.{_≡_};
 ghost use Prim.Native.Nat.{_+_, _-_, _≤_, min};
 ghost use lib.ListN.{length};

@@ -5,3 +5,4 @@ pub mod Placed
 pub mod RoomLaws
 pub mod LowestRoom
 pub mod InBay
+pub mod InZone

@@ -2,19 +2,18 @@
 // of that.
 use access::row;
 use block_type::BlockType;
-use zone_check::block_check;
 ghost use mathlib.Core.Path.{_≡_};
 ghost use mathlib.Core.List.{[], _∷_};
 ghost use Prim.Native.Nat.{_-_, _<_, _≤_};
 ghost use lib.ListN.{length, drop};
 ghost use Rattle.bigendian.specs.BigEndian.{overwrite};
-ghost use Rattle.block_type.specs.Limits.{longestZone};
+ghost use Rattle.block_type.specs.Limits.{pageHeader, longestZone};
 ghost use Rattle.access.specs.row.Row.{Row};
 ghost use Rattle.bay.specs.Bay.{held, gap};
 ghost use Rattle.bay.specs.Sound.{bytesOf};
 ghost use Rattle.bays.specs.Places.{baysAt};
 ghost use Rattle.room.specs.place.Hole.{holeN, holeIf, tighterN};
-ghost use Rattle.room.specs.place.Fit.{blank, Fit};
+ghost use Rattle.room.specs.place.Fit.{blank, blankPage, Fit};
 ghost use Rattle.room.specs.place.Room.{siteN, siteBy, lowSite, ReadFor};
 
 // A free block of a bay, where one is found.
@@ -162,6 +161,23 @@ pub fn cut_block(z: &mut [u8], at: usize, n: usize, need: usize, h: usize)
         (BlockType::RELOCATABLE_CODE as usize * BlockType::TYPE_UNIT + need / 2) as u32,
     );
     bigendian::put2(z, at + BlockType::TAG_AT, h as u32);
+    if need < n {
+        bigendian::put4(z, at + need, ((n - need) / 2) as u32);
+    }
+}
+
+// A page of need bytes with that name and stamp from the low end of the free block of n bytes at `at`; the rest of that stays free.
+pub fn cut_page(z: &mut [u8], at: usize, n: usize, need: usize, name: u32, stamp: u32)
+    requires { ⌜ Fit (now z) at n need 0 × (pageHeader ≤ need) ⌝ }
+    ensures { λ _. ⌜ now (z .exit) ≡ overwrite (now (z .entry)) at (bytesOf (held (blankPage need name stamp) ∷ gap (n - need) [])) ⌝ }
+{
+    bigendian::put2(
+        z,
+        at,
+        (BlockType::PAGE_CODE as usize * BlockType::TYPE_UNIT + need / 2) as u32,
+    );
+    bigendian::put4(z, at + BlockType::TAG_AT, name);
+    bigendian::put2(z, at + BlockType::STATUS_AT, stamp);
     if need < n {
         bigendian::put4(z, at + need, ((n - need) / 2) as u32);
     }

@@ -24,6 +24,7 @@ use Rattle.settle.proofs.surgery.Image.{img, encode-img, img-chain, img
 use Rattle.settle.proofs.surgery.Sound.{handle-once}
 use Rattle.settle.proofs.surgery.Replace.{occurs-parts, place-same, place-mid, replaced}
 use Rattle.settle.proofs.Cells.{all-bytes, all-sizes, all-set, all-sound}
+use Rattle.kinds.specs.Kinds.{is}
 
 -- the cells cs′ in the place of cs, and the chain ks in the place of the old one; no master is lost or had twice
 module _ (s : Structure) (v : Valid s) (pre post : List Block) (cs cs′ : List Cell) (ks : List ℕ) (e : s .blocks ≡ pre ++ (map cell cs ++ post)) (so : Sound cs′)
@@ -37,7 +38,7 @@ module _ (s : Structure) (v : Valid s) (pre post : List Block) (cs cs′ : List 
   mid′ = map cell cs′
 
   abbrev s′ : Structure
-  s′ = record { chain = ks; blocks = pre ++ (mid′ ++ post) }
+  s′ = record { clock = s .clock; chain = ks; blocks = pre ++ (mid′ ++ post) }
 
   abbrev a : ℕ
   a = start s + sizes pre
@@ -63,20 +64,20 @@ module _ (s : Structure) (v : Valid s) (pre post : List Block) (cs cs′ : List 
     holds : (k : ℕ) → 0 < occurs k (offsets zoneHeader (count s)) → updAll g a mid′ k ≡ value s′ k
     holds k o = all-is g a k mid′ (omega (arith, once k)) ∙ go (occurs k (handlesOf mid′)) refl
       where
-        go : (n : ℕ) → occurs k (handlesOf mid′) ≡ n → cond (eqb n 0) (g k) (placeOf k a mid′) ≡ value s′ k
+        go : (n : ℕ) → occurs k (handlesOf mid′) ≡ n → cond (eqb n 0) (g k) (placeOf (is k) a mid′) ≡ value s′ k
         go zero q = out k o q
         go (suc n) q =
             rw (ne-eqb (suc n) 0 (λ x. omega arith))
             (sym (ap₂ (λ (x y : ℕ). x + y) (place-mid s v pre mid mid′ post ks e sz snd ct k (omega (arith, once k)) (omega arith)) (next-none k ks (omega (arith, once k))) ∙ add-zero _))
 
-    pub settle-any : settled (img (len s) (start s) (count s) (headOf ks) g (Row.bytesOf (s .blocks))) a cs′ ≡ encode s′
+    pub settle-any : settled (img (s .clock) (len s) (start s) (count s) (headOf ks) g (Row.bytesOf (s .blocks))) a cs′ ≡ encode s′
     unfolding settled
     settle-any =
         let l = len s in let f = start s in let m = count s in let c = headOf ks in
         let r = Row.bytesOf (s .blocks) in
-        rw (all-bytes cs′, all-set a cs′ (overwrite (img l f m c g r) a (Row.bytesOf mid′)))
-        (ap (Masters.setAll a mid′) (img-rest l f m c (sizes pre) a g r (Row.bytesOf mid′) refl)
-        ∙ img-all l f m c a mid′ g (overwrite r (sizes pre) (Row.bytesOf mid′)) inside
+        rw (all-bytes cs′, all-set a cs′ (overwrite (img (s .clock) l f m c g r) a (Row.bytesOf mid′)))
+        (ap (Masters.setAll a mid′) (img-rest (s .clock) l f m c (sizes pre) a g r (Row.bytesOf mid′) refl)
+        ∙ img-all (s .clock) l f m c a mid′ g (overwrite r (sizes pre) (Row.bytesOf mid′)) inside
         ∙ replaced s v pre mid mid′ post ks e sz snd ct (updAll g a mid′) holds)
 
   -- the chain's head is written first, and no master but those of the run changes
@@ -84,13 +85,13 @@ module _ (s : Structure) (v : Valid s) (pre post : List Block) (cs cs′ : List 
       → settled (overwrite (encode s) chainAt (toBE 2 (headOf ks))) a cs′ ≡ encode s′
   settle-chain o =
       ap (λ (x : List ℕ). settled (overwrite x chainAt (toBE 2 (headOf ks))) a cs′) (encode-img s)
-      ∙ ap (λ (x : List ℕ). settled x a cs′) (img-chain (len s) (start s) (count s) (headOf (s .chain)) (headOf ks) (value s) (Row.bytesOf (s .blocks)))
+      ∙ ap (λ (x : List ℕ). settled x a cs′) (img-chain (s .clock) (len s) (start s) (count s) (headOf (s .chain)) (headOf ks) (value s) (Row.bytesOf (s .blocks)))
       ∙ settle-any (value s) (λ k l q. let w = o k l q in value-same k (w .0) q (w .1))
 
 -- the same handles and the same chain
 module _ (s : Structure) (v : Valid s) (pre post : List Block) (cs cs′ : List Cell) (e : s .blocks ≡ pre ++ (map cell cs ++ post)) (so : Sound cs′)
     (z : baySize cs′ ≡ baySize cs) (hs : handlesOf (map cell cs′) ≡ handlesOf (map cell cs)) where
-  pub settle : settled (encode s) (start s + sizes pre) cs′ ≡ encode (record { chain = s .chain; blocks = pre ++ (map cell cs′ ++ post) })
+  pub settle : settled (encode s) (start s + sizes pre) cs′ ≡ encode (record { clock = s .clock; chain = s .chain; blocks = pre ++ (map cell cs′ ++ post) })
   settle =
       let own : (k : ℕ) → occurs k (handlesOf (map cell cs′)) + occurs k (s .chain) ≡ occurs k (handlesOf (map cell cs)) + occurs k (s .chain) = λ k. rw hs in
       let ct : length (handlesOf (map cell cs′)) + length (s .chain) ≡ length (handlesOf (map cell cs)) + length (s .chain) = rw hs in

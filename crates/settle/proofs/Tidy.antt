@@ -19,7 +19,7 @@ use Rattle.settle.proofs.surgery.Sound.{lastFree, firstFree, tiled-left
 use Rattle.settle.proofs.surgery.Replace.{sizes-parts, moved-valid, start-same}
 use Rattle.settle.proofs.Cells.{all-sizes, all-sound}
 use Rattle.settle.proofs.Bay.{cells-sound}
-use Rattle.settle.proofs.Compact.{compact-handles}
+use Rattle.settle.proofs.Compact.{compact-handles, compact-names}
 
 gap-tiled : (n : ℕ) → n % 4 ≡ 0 → n ≤ longestZone → Tiled false (map cell (gap n []))
 gap-tiled zero q l = tt
@@ -37,12 +37,12 @@ module _ (s : Structure) (v : Valid s) (pre post : List Block) (cs : List Cell) 
   sz : sizes (map cell (compactBay cs)) ≡ sizes (map cell cs)
   sz = sym (all-sizes (compactBay cs)) ∙ tidy-size cs ∙ all-sizes cs
 
-  pub compact-start : start (record { chain = s .chain; blocks = pre ++ (map cell (compactBay cs) ++ post) }) ≡ start s
+  pub compact-start : start (record { clock = s .clock; chain = s .chain; blocks = pre ++ (map cell (compactBay cs) ++ post) }) ≡ start s
   compact-start =
       start-same s v pre (map cell cs) (map cell (compactBay cs)) post (s .chain) e sz (all-sound (compactBay cs) (compact-sound cs short (cells-sound s v pre post cs e)))
       (rw (compact-handles cs))
 
-  pub compact-valid : lastFree false pre ≡ false → firstFree post ≡ false → Valid (record { chain = s .chain; blocks = pre ++ (map cell (compactBay cs) ++ post) })
+  pub compact-valid : lastFree false pre ≡ false → firstFree post ≡ false → Valid (record { clock = s .clock; chain = s .chain; blocks = pre ++ (map cell (compactBay cs) ++ post) })
   compact-valid l r =
       let t : Tiled false (pre ++ (map cell cs ++ post)) = subst (Tiled false) e (v .tiled) in
       let u = tiled-right false pre (map cell cs ++ post) t in
@@ -52,6 +52,7 @@ module _ (s : Structure) (v : Valid s) (pre post : List Block) (cs : List Cell) 
       (rw l (tiled-join false (map cell (compactBay cs)) post
       (packed-tiled _ cs (gap (baySum cs) []) (tiled-left _ (map cell cs) post u) (gap-tiled (baySum cs) (sum-four cs so) (omega (arith, bsize-split cs, short))))
       (tiled-any _ _ post r (tiled-right _ (map cell cs) post u)))))
+      (λ n. rw (compact-names cs) (omega arith))
 
 -- ---- of a bay among bays: it ends at a fixed block, or where the blocks end
 
@@ -71,8 +72,8 @@ module _ {f : List Cell → List Cell} where
   at-right (at-later a) = at-right a
 
 module _ (s : Structure) (v : Valid s) {f : List Cell → List Cell} {u u′ : Bays (List Cell) Fixed} (pre post : List Block) (cs : List Cell) (at : At f u u′ pre cs post) (e : s .blocks ≡ flatten u) where
-  pub bay-valid : Valid (record { chain = s .chain; blocks = pre ++ (map cell (compactBay cs) ++ post) })
+  pub bay-valid : Valid (record { clock = s .clock; chain = s .chain; blocks = pre ++ (map cell (compactBay cs) ++ post) })
   bay-valid = compact-valid s v pre post cs (e ∙ at-old at) (at-left at) (at-right at)
 
-  pub bay-start : start (record { chain = s .chain; blocks = pre ++ (map cell (compactBay cs) ++ post) }) ≡ start s
+  pub bay-start : start (record { clock = s .clock; chain = s .chain; blocks = pre ++ (map cell (compactBay cs) ++ post) }) ≡ start s
   bay-start = compact-start s v pre post cs (e ∙ at-old at)

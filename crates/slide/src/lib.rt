@@ -3,7 +3,6 @@ pub mod blank;
 pub mod way;
 
 use block_type::BlockType;
-use zone_check::block_check;
 ghost use mathlib.Core.Path.{_≡_};
 ghost use mathlib.Core.List.{[], _++_};
 ghost use Prim.Native.Nat.{_+_, _-_, _%_, _<_, _≤_};

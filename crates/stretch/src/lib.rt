@@ -1,4 +1,4 @@
-// Size, read and view of a block that is named by handle or by pointer.
+// Size, read and view of a block that is named by handle, by pointer or by name.
 pub mod write;
 
 use access::locate;

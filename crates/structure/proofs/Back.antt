@@ -12,15 +12,15 @@ use lib.Seq.{drop-at}
 use Rattle.format.specs.Occurs.{occurs}
 use Rattle.bigendian.specs.BigEndian.{fromBE, toBE, slice}
 use Rattle.bigendian.proofs.Laws.{length-toBE, be-front}
-use Rattle.block_type.specs.Limits.{freeCode, fixedCode, fixedHeader, fixedLimit, relocHeader, zoneHeader, freeHeader, handleRange, masterSize, smallestBlock, argumentRange}
+use Rattle.block_type.specs.Limits.{freeCode, fixedCode, fixedHeader, fixedLimit, relocHeader, zoneHeader, freeHeader, handleRange, masterSize, smallestBlock, argumentRange, tagAt, typeUnit}
 use Rattle.memory.specs.Zeros.{allZero}
-use Rattle.format.specs.WellFormed.{typeOf, sizeOf, isFree, isReloc, isMaster, masterAt, relocs, offsets, chain}
+use Rattle.format.specs.WellFormed.{typeOf, sizeOf, nameOf, isFree, isReloc, isPage, isMaster, masterAt, relocs, names, offsets, chain}
 use Rattle.format.specs.OneWalk.{links, typeRule, freeRule, relocRule, blockOk, blocksOk, ruleOf}
 use Rattle.format.proofs.Masters.{Master}
 use Rattle.format.proofs.Count.{one-same}
-use Rattle.structure.specs.Structure.{Block, fixed, size, code, fixedTag, encodeBlock, decodeBlock, byType, sizes, headOf, placeOf, nextOf, words, join, cell, handlesOf}
-use Rattle.kinds.specs.Kinds.{itemIn, itemSize, Item, is, codeOf, mastersOf}
-use Rattle.kinds.proofs.KindLaws.{facts, item-back, is-header, ok-of, rule-of, masters-long}
+use Rattle.structure.specs.Structure.{Block, fixed, size, code, fixedTag, encodeBlock, decodeBlock, byType, sizes, headOf, placeOf, nextOf, words, join, cell, handlesOf, namesIn}
+use Rattle.kinds.specs.Kinds.{itemIn, itemSize, Item, is, codeOf, tagOf, mastersOf}
+use Rattle.kinds.proofs.KindLaws.{facts, is-header, ok-of, rule-of, masters-long, names-of}
 use Rattle.bay.specs.Bay.{Cell, free, held, cellCode}
 use Rattle.bay.specs.Bytes.{encodeCell}
 use Rattle.bay.specs.Sound.{decodeCell, Sound1}
@@ -59,9 +59,10 @@ not-fixed : (c : Cell) → cellCode c ≡ fixedCode → ⊥
 not-fixed (free n) q = omega arith
 not-fixed (held e) q = facts e .movable q
 
-item-of : (i : Item) → Sound1 (held i) → itemIn (encodeBlock (cell (held i))) ≡ i
+-- the header behind type and size, and the data
+tag-of : (i : Item) → drop tagAt (encodeBlock (cell (held i))) ≡ tagOf i ++ i .bytes
 unfolding encodeBlock
-item-of i s = item-back i (itemSize i / 2) (omega (arith, s .1)) (s .2)
+tag-of i = let v = codeOf i * typeUnit + itemSize i / 2 in drop-at (toBE 2 v) (tagOf i ++ i .bytes) tagAt (length-toBE 2 v)
 
 pub enc-cell : (c : Cell) → Sound1 c → Enc (cell c)
 unfolding encodeBlock
@@ -100,10 +101,22 @@ not-first : (t : Bool) (n : ℕ) → cond t 1 0 + n ≤ 1 → 0 < n → t ≡ fa
 not-first true n l u = let x : ⊥ = omega arith in absurd x
 not-first false n l u = refl
 
+-- the name of a block, where it is a page
+abbrev namesOf1 : List ℕ → List ℕ
+namesOf1 b = cond (isPage b) (nameOf b ∷ []) []
+
+names-cons : (b : List ℕ) (bs : List (List ℕ)) → names (b ∷ bs) ≡ namesOf1 b ++ names bs
+unfolding names
+names-cons b bs = go (isPage b)
+  where
+    go : (t : Bool) → cond t (nameOf b ∷ names bs) (names bs) ≡ cond t (nameOf b ∷ []) [] ++ names bs
+    go true = refl
+    go false = refl
+
 -- ---- all blocks; each handle's master holds its block's place
 
 pub record Placed (z : List ℕ) (first at : ℕ) (bs : List Block) : Type 0 where
-  pub holds : (h : ℕ) → 0 < occurs h (handlesOf bs) → Master first h × (masterAt z h ≡ placeOf h at bs)
+  pub holds : (h : ℕ) → 0 < occurs h (handlesOf bs) → Master first h × (masterAt z h ≡ placeOf (is h) at bs)
   pub single : (h : ℕ) → occurs h (handlesOf bs) ≤ 1
 
 -- what the bytes of all the blocks say
@@ -111,31 +124,33 @@ pub record Encs (z : List ℕ) (first : ℕ) (prev : Bool) (at : ℕ) (bs : List
   pub walk : blocksOk z first prev at (map encodeBlock bs) ≡ true
   pub back : map decodeBlock (map encodeBlock bs) ≡ bs
   pub counts : relocs (map encodeBlock bs) ≡ length (handlesOf bs)
+  pub names : names (map encodeBlock bs) ≡ namesIn bs
   pub sums : length (join (map encodeBlock bs)) ≡ sizes bs
 
 module _ (z : List ℕ) (first : ℕ) (small : first ≤ handleRange) where
   cons : (prev next : Bool) (at : ℕ) (b : Block) (bs : List Block) → Enc b → blockOk z first prev at (encodeBlock b) ≡ true → isFree (encodeBlock b) ≡ next
-      → cond (isReloc (encodeBlock b)) 1 0 + length (handlesOf bs) ≡ length (handlesOf (b ∷ bs)) → Encs z first next (at + size b) bs → Encs z first prev at (b ∷ bs)
+      → cond (isReloc (encodeBlock b)) 1 0 + length (handlesOf bs) ≡ length (handlesOf (b ∷ bs)) → namesOf1 (encodeBlock b) ++ namesIn bs ≡ namesIn (b ∷ bs) → Encs z first next (at + size b) bs → Encs z first prev at (b ∷ bs)
   unfolding blocksOk relocs join sizes
-  cons prev next at b bs e g f c r = record {
+  cons prev next at b bs e g f c n r = record {
     walk = rw (g, f, e .long) (r .walk);
     back = ap₂ (λ (x : Block) (xs : List Block). x ∷ xs) (e .back) (r .back);
     counts = ap (λ (n : ℕ). cond (isReloc (encodeBlock b)) 1 0 + n) (r .counts) ∙ c;
+    names = names-cons (encodeBlock b) (map encodeBlock bs) ∙ ap (namesOf1 (encodeBlock b) ++_) (r .names) ∙ n;
     sums = omega (arith, length-append (encodeBlock b) (join (map encodeBlock bs)), e .long, r .sums);
   }
 
   pub encs : (prev : Bool) (at : ℕ) (bs : List Block) → Tiled prev bs → Placed z first at bs → Encs z first prev at bs
-  unfolding blocksOk relocs join sizes handlesOf typeRule isFree isReloc occurs placeOf
-  encs prev at [] t p = record { walk = refl; back = refl; counts = refl; sums = refl }
+  unfolding blocksOk relocs names join sizes handlesOf namesIn typeRule isFree isReloc isPage occurs placeOf
+  encs prev at [] t p = record { walk = refl; back = refl; counts = refl; names = refl; sums = refl }
   encs prev at (cell (free n) ∷ bs) t p =
       let e = enc-cell (free n) (t .1, t .2, t .3) in
       let k = e .kind in
-      cons prev true at (cell (free n)) bs e (good-of z first prev at (cell (free n)) e (t .1) (t .2) (rw k (free-good n prev (t .0)))) (rw k) (rw k (zero-add _))
+      cons prev true at (cell (free n)) bs e (good-of z first prev at (cell (free n)) e (t .1) (t .2) (rw k (free-good n prev (t .0)))) (rw k) (rw k (zero-add _)) (rw k)
       (encs true (at + n) bs (t .4) (record { holds = p .holds; single = p .single }))
   encs prev at (fixed d ∷ bs) t p =
       let e = enc-fixed d (t .0) (t .1) in
       let k = e .kind in
-      cons prev false at (fixed d) bs e (good-of z first prev at (fixed d) e (omega (arith, t .0)) (t .0) (rw k)) (rw k) (rw k (zero-add _))
+      cons prev false at (fixed d) bs e (good-of z first prev at (fixed d) e (omega (arith, t .0)) (t .0) (rw k)) (rw k) (rw k (zero-add _)) (rw k)
       (encs false (at + (fixedHeader + length d)) bs (t .3) (record { holds = p .holds; single = p .single }))
   encs prev at (cell (held i) ∷ bs) t p =
       let own : (h : ℕ) → is h i ≡ true → Master first h × (masterAt z h ≡ at + relocHeader) = λ h y.
@@ -146,8 +161,8 @@ module _ (z : List ℕ) (first : ℕ) (small : first ≤ handleRange) where
       let k = e .kind in
       let f = facts i in
       cons prev false at (cell (held i)) bs e (good-of z first prev at (cell (held i)) e (omega (arith, f .low)) (t .0)
-      (rule-of z first prev at (encodeBlock (cell (held i))) i (item-of i (t .0, t .1, ok)) k (omega (arith, e .same)) (λ h y. reloc-good z first at h (own h y .0) (own h y .1))))
-      (rw (k, ne-eqb (codeOf i) freeCode (λ x. omega (arith, f .used)))) (rw k (omega (arith, masters-long i, length-append (mastersOf i) (handlesOf bs))))
+      (rule-of z first prev at (encodeBlock (cell (held i))) i k (omega (arith, e .same)) (tag-of i) ok (λ h y. reloc-good z first at h (own h y .0) (own h y .1))))
+      (rw (k, ne-eqb (codeOf i) freeCode (λ x. omega (arith, f .used)))) (rw k (omega (arith, masters-long i, length-append (mastersOf i) (handlesOf bs)))) (ap (_++ namesIn bs) (names-of i (encodeBlock (cell (held i))) k (tag-of i) ok))
       (encs false (at + itemSize i) bs (t .3) (record {
         holds = λ g l. let r = p .holds g (omega (arith, occurs-held g i bs)) in
             (r .0, (rw (not-first (is g i) (occurs g (handlesOf bs)) (omega (arith, occurs-held g i bs, p .single g)) l) at (r .1)));

@@ -9,6 +9,7 @@ use Rattle.bay.specs.Bay.{Cell, free, held, gap}
 use Rattle.bay.proofs.Sound as Sound
 use Rattle.structure.specs.Structure.{Block, cell, sizes, placeOf, handlesOf}
 use Rattle.structure.specs.Valid.{Tiled}
+use Rattle.kinds.specs.Kinds.{is}
 
 pub gap-sizes : (n : ℕ) → sizes (map cell (gap n [])) ≡ n
 unfolding sizes
@@ -20,7 +21,7 @@ unfolding handlesOf
 gap-handles zero = refl
 gap-handles (suc n) = refl
 
-pub gap-place : (h o n : ℕ) → placeOf h o (map cell (gap n [])) ≡ 0
+pub gap-place : (h o n : ℕ) → placeOf (is h) o (map cell (gap n [])) ≡ 0
 unfolding placeOf
 gap-place h o zero = refl
 gap-place h o (suc n) = refl

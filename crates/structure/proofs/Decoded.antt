@@ -11,7 +11,7 @@ use borrow.Author.Tests.{eqb-true, eqb-false, ne-eqb}
 use Rattle.block_type.specs.Limits.{fixedHeader, relocHeader, freeCode, fixedCode}
 use Rattle.format.specs.Occurs.{occurs}
 use Rattle.format.proofs.Bool.{and-left, and-right}
-use Rattle.format.specs.WellFormed.{typeOf, sizeOf, handleOf, isFree, isReloc, isMaster, masterAt, relocs, chain}
+use Rattle.format.specs.WellFormed.{typeOf, sizeOf, handleOf, nameOf, isFree, isReloc, isPage, isMaster, masterAt, relocs, chain}
 use Rattle.format.specs.OneWalk.{links, blockOk, blocksOk}
 use Rattle.format.proofs.Walk.{is-good}
 use Rattle.format.proofs.Count.{one, one-same, one-other}
@@ -19,7 +19,7 @@ use Rattle.format.proofs.Handles.{handles, total, is-held}
 use Rattle.kinds.specs.Kinds.{itemIn, headerOf, itemSize, is}
 use Rattle.kinds.proofs.KindLaws.{Read, is-header, read}
 use Rattle.bay.specs.Bay.{free, held}
-use Rattle.structure.specs.Structure.{Block, fixed, size, decodeBlock, byType, sizes, headOf, placeOf, nextOf, cell, handlesOf}
+use Rattle.structure.specs.Structure.{Block, fixed, size, decodeBlock, byType, sizes, headOf, placeOf, nextOf, cell, handlesOf, namesIn}
 
 module _ (z : List ℕ) (first : ℕ) (prev : Bool) (at : ℕ) (b : List ℕ) (g : blockOk z first prev at b ≡ true) where
   -- by type
@@ -55,14 +55,24 @@ module _ (z : List ℕ) (first : ℕ) (prev : Bool) (at : ℕ) (b : List ℕ) (g
       go true = omega arith
       go false = omega arith
 
-  pub place-dec : (h o : ℕ) (bs : List Block) → placeOf h o (decodeBlock b ∷ bs) ≡ cond (isReloc b && eqb h (handleOf b)) (o + relocHeader) (placeOf h (o + size (decodeBlock b)) bs)
+  pub names-dec : (bs : List Block) → namesIn (decodeBlock b ∷ bs) ≡ cond (isPage b) (nameOf b ∷ namesIn bs) (namesIn bs)
+  unfolding decodeBlock namesIn isPage
+  names-dec bs =
+      by (λ k. namesIn (byType k (cell (free (sizeOf b))) (fixed (drop fixedHeader b)) (cell (held (itemIn b))) ∷ bs) ≡ cond (isPage b) (nameOf b ∷ namesIn bs) (namesIn bs))
+      (λ e. rw e) (λ e. rw e) (λ k e x. ap (_++ namesIn bs) (x .names) ∙ join-cond (isPage b))
+    where
+      join-cond : (t : Bool) → cond t (nameOf b ∷ []) [] ++ namesIn bs ≡ cond t (nameOf b ∷ namesIn bs) (namesIn bs)
+      join-cond true = refl
+      join-cond false = refl
+
+  pub place-dec : (h o : ℕ) (bs : List Block) → placeOf (is h) o (decodeBlock b ∷ bs) ≡ cond (isReloc b && eqb h (handleOf b)) (o + relocHeader) (placeOf (is h) (o + size (decodeBlock b)) bs)
   unfolding decodeBlock placeOf isReloc
   place-dec h o bs =
-      by (λ k. placeOf h o (byType k (cell (free (sizeOf b))) (fixed (drop fixedHeader b)) (cell (held (itemIn b))) ∷ bs)
-      ≡ cond (isReloc b && eqb h (handleOf b)) (o + relocHeader) (placeOf h (o + size (byType k (cell (free (sizeOf b))) (fixed (drop fixedHeader b)) (cell (held (itemIn b))))) bs))
-      (λ e. rw e) (λ e. rw e) (λ k e x. its (is h (itemIn b)) (is-header h (itemIn b)) ∙ ap (λ (t : Bool). cond t (o + relocHeader) (placeOf h (o + itemSize (itemIn b)) bs)) (x .one h))
+      by (λ k. placeOf (is h) o (byType k (cell (free (sizeOf b))) (fixed (drop fixedHeader b)) (cell (held (itemIn b))) ∷ bs)
+      ≡ cond (isReloc b && eqb h (handleOf b)) (o + relocHeader) (placeOf (is h) (o + size (byType k (cell (free (sizeOf b))) (fixed (drop fixedHeader b)) (cell (held (itemIn b))))) bs))
+      (λ e. rw e) (λ e. rw e) (λ k e x. its (is h (itemIn b)) (is-header h (itemIn b)) ∙ ap (λ (t : Bool). cond t (o + relocHeader) (placeOf (is h) (o + itemSize (itemIn b)) bs)) (x .one h))
     where
-      its : (t : Bool) → (t ≡ true → headerOf (itemIn b) ≡ relocHeader) → cond t (o + headerOf (itemIn b)) (placeOf h (o + itemSize (itemIn b)) bs) ≡ cond t (o + relocHeader) (placeOf h (o + itemSize (itemIn b)) bs)
+      its : (t : Bool) → (t ≡ true → headerOf (itemIn b) ≡ relocHeader) → cond t (o + headerOf (itemIn b)) (placeOf (is h) (o + itemSize (itemIn b)) bs) ≡ cond t (o + relocHeader) (placeOf (is h) (o + itemSize (itemIn b)) bs)
       its true f = ap (o +_) (f refl)
       its false f = refl
 
@@ -82,7 +92,7 @@ module _ (z : List ℕ) (first : ℕ) where
 
   -- the place of a handle's block is what its master holds
   pub places : (prev : Bool) (at h : ℕ) (bs : List (List ℕ)) → blocksOk z first prev at bs ≡ true
-      → placeOf h at (map decodeBlock bs) ≡ cond (eqb (occurs h (handles bs)) 0) 0 (masterAt z h)
+      → placeOf (is h) at (map decodeBlock bs) ≡ cond (eqb (occurs h (handles bs)) 0) 0 (masterAt z h)
   unfolding blocksOk handles occurs placeOf
   places prev at h [] g = refl
   places prev at h (b ∷ bs) g =
@@ -91,13 +101,13 @@ module _ (z : List ℕ) (first : ℕ) where
       ∙ go (isReloc b) refl g₀ (size-dec z first prev at b g₀) (places (isFree b) (at + length b) h bs (and-right (blockOk z first prev at b) _ g))
     where
       go : (t : Bool) → isReloc b ≡ t → blockOk z first prev at b ≡ true → size (decodeBlock b) ≡ length b
-          → placeOf h (at + length b) (map decodeBlock bs) ≡ cond (eqb (occurs h (handles bs)) 0) 0 (masterAt z h)
-          → cond (t && eqb h (handleOf b)) (at + relocHeader) (placeOf h (at + size (decodeBlock b)) (map decodeBlock bs))
+          → placeOf (is h) (at + length b) (map decodeBlock bs) ≡ cond (eqb (occurs h (handles bs)) 0) 0 (masterAt z h)
+          → cond (t && eqb h (handleOf b)) (at + relocHeader) (placeOf (is h) (at + size (decodeBlock b)) (map decodeBlock bs))
           ≡ cond (eqb (occurs h (cond t (handleOf b ∷ handles bs) (handles bs))) 0) 0 (masterAt z h)
       go false e g₀ s i = rw s i
       go true e g₀ s i = same (eqb h (handleOf b)) refl
         where
-          same : (u : Bool) → eqb h (handleOf b) ≡ u → cond u (at + relocHeader) (placeOf h (at + size (decodeBlock b)) (map decodeBlock bs)) ≡ cond (eqb (one h (handleOf b) + occurs h (handles bs)) 0) 0 (masterAt z h)
+          same : (u : Bool) → eqb h (handleOf b) ≡ u → cond u (at + relocHeader) (placeOf (is h) (at + size (decodeBlock b)) (map decodeBlock bs)) ≡ cond (eqb (one h (handleOf b) + occurs h (handles bs)) 0) 0 (masterAt z h)
           same true q =
               let eh = eqb-true h (handleOf b) q in
               let m = is-held z first prev at b g₀ e in

@@ -9,15 +9,16 @@ use borrow.Author.Tests.{eqb-true, eqb-false, eq-eqb, ne-eqb, le-leb}
 use lib.ListN.{length, getD, drop, length-append}
 use lib.Seq.{take-at, drop-at, drop-drop}
 use Rattle.format.specs.Occurs.{occurs}
-use Rattle.block_type.specs.Limits.{fixedHeader, longestZone, masterSize, mostMasters, zoneHeader, handleRange, argumentRange, firstBlock, zerosAt}
+use Rattle.block_type.specs.Limits.{fixedHeader, longestZone, masterSize, mostMasters, zoneHeader, handleRange, argumentRange, firstBlock, zeroAt}
 use Rattle.bigendian.specs.BigEndian.{toBE}
 use Rattle.bigendian.proofs.Laws.{be-toBE, length-toBE}
-use Rattle.format.specs.WellFormed.{headerOk, lengthField, firstField, mastersField, chainField, splitBlocks, masterAt, relocs, zoneOf, wellFormed, offsets}
+use Rattle.format.specs.WellFormed.{headerOk, lengthField, firstField, mastersField, chainField, clockField, splitBlocks, masterAt, relocs, zoneOf, wellFormed, offsets}
 use Rattle.format.proofs.OneWalk.{one-walk}
+use Rattle.format.proofs.Distinct.{once-distinct}
 use Rattle.format.specs.OneWalk.{bodyOk}
 use Rattle.format.proofs.Masters.{Master}
 use Rattle.format.proofs.Count.{All, one-same, one-other, occurs-offset, length-offsets, all-of}
-use Rattle.structure.specs.Structure.{Block, fixed, Structure, encodeBlock, sizes, count, start, len, headOf, placeOf, nextOf, value, words, join, header, encode, decodeZone, decode, cell, handlesOf}
+use Rattle.structure.specs.Structure.{Block, fixed, Structure, encodeBlock, sizes, count, start, len, headOf, placeOf, nextOf, value, words, join, header, encode, decodeZone, decode, cell, handlesOf, namesIn}
 use Rattle.bay.specs.Bay.{free, held}
 use Rattle.kinds.specs.Kinds.{itemSize, headerOf, is}
 use Rattle.structure.proofs.Codec.{blocks-join}
@@ -28,37 +29,36 @@ use Rattle.structure.proofs.Append.{occurs-held}
 
 -- ---- the header
 
-pub record Head (e : List ℕ) (l f m c : ℕ) (t : List ℕ) : Type 0 where
+pub record Head (e : List ℕ) (l f m c k : ℕ) (t : List ℕ) : Type 0 where
   pub is-len : lengthField e ≡ l
   pub is-first : firstField e ≡ f
   pub is-masters : mastersField e ≡ m
   pub is-chain : chainField e ≡ c
-  pub first-zero : getD e zerosAt 0 ≡ 0
-  pub second-zero : getD e (zerosAt + 1) 0 ≡ 0
+  pub is-clock : clockField e ≡ k
+  pub zero : getD e zeroAt 0 ≡ 0
   pub rest : drop zoneHeader e ≡ t
   pub long : length e ≡ zoneHeader + length t
 
-pub head-of : (l f m c : ℕ) (t : List ℕ) → l < argumentRange → f < argumentRange → m < argumentRange → c < handleRange
-    → Head ((toBE 4 l ++ (toBE 4 f ++ (toBE 4 m ++ (toBE 2 c ++ 0 ∷ 0 ∷ [])))) ++ t) l f m c t
+pub head-of : (l f m c k : ℕ) (t : List ℕ) → l < argumentRange → f < argumentRange → m < argumentRange → c < handleRange
+    → Head ((toBE 4 l ++ (toBE 4 f ++ (toBE 4 m ++ (toBE 2 c ++ k ∷ 0 ∷ [])))) ++ t) l f m c k t
 unfolding toBE
-head-of l f m c t hl hf hm hc = record {
+head-of l f m c k t hl hf hm hc = record {
   is-len = be-toBE 4 l hl;
   is-first = be-toBE 4 f hf;
   is-masters = be-toBE 4 m hm;
   is-chain = be-toBE 2 c hc;
-  first-zero = refl;
-  second-zero = refl;
+  is-clock = refl;
+  zero = refl;
   rest = refl;
   long = omega arith;
 }
 
-pub header-of : (e : List ℕ) (l f m c : ℕ) (t : List ℕ) → Head e l f m c t → l % 4 ≡ 0 → l ≤ length e → l ≤ longestZone → m ≤ mostMasters → f ≡ zoneHeader + masterSize * m → f ≤ l → headerOk e ≡ true
+pub header-of : (e : List ℕ) (l f m c k : ℕ) (t : List ℕ) → Head e l f m c k t → l % 4 ≡ 0 → l ≤ length e → l ≤ longestZone → m ≤ mostMasters → f ≡ zoneHeader + masterSize * m → f ≤ l → headerOk e ≡ true
 unfolding headerOk
-header-of e l f m c t h q r u few st w =
+header-of e l f m c k t h q r u few st w =
     rw (
       le-leb zoneHeader (length e) (omega arith),
-      h .first-zero,
-      h .second-zero,
+      h .zero,
       h .is-len,
       h .is-first,
       h .is-masters,
@@ -94,25 +94,25 @@ unfolding occurs nextOf
 next-none h [] e = refl
 next-none h (k ∷ ks) e = rw (ne-eqb h k (λ x. omega (arith, one-same h k x))) (next-none h ks (omega arith))
 
-pub place-none : (h at : ℕ) (bs : List Block) → occurs h (handlesOf bs) ≡ 0 → placeOf h at bs ≡ 0
+pub place-none : (h at : ℕ) (bs : List Block) → occurs h (handlesOf bs) ≡ 0 → placeOf (is h) at bs ≡ 0
 unfolding occurs placeOf handlesOf
 place-none h at [] e = refl
 place-none h at (cell (free n) ∷ bs) e = place-none h (at + n) bs e
 place-none h at (fixed d ∷ bs) e = place-none h (at + (fixedHeader + length d)) bs e
 place-none h at (cell (held e) ∷ bs) q = go (is h e) (sym (occurs-held h e bs) ∙ q) (place-none h (at + itemSize e) bs)
   where
-    go : (t : Bool) → cond t 1 0 + occurs h (handlesOf bs) ≡ 0 → (occurs h (handlesOf bs) ≡ 0 → placeOf h (at + itemSize e) bs ≡ 0) → cond t (at + headerOf e) (placeOf h (at + itemSize e) bs) ≡ 0
+    go : (t : Bool) → cond t 1 0 + occurs h (handlesOf bs) ≡ 0 → (occurs h (handlesOf bs) ≡ 0 → placeOf (is h) (at + itemSize e) bs ≡ 0) → cond t (at + headerOf e) (placeOf (is h) (at + itemSize e) bs) ≡ 0
     go true q r = let x : ⊥ = omega arith in absurd x
     go false q r = r (omega arith)
 
-place-le : (h at : ℕ) (bs : List Block) → placeOf h at bs ≤ at + sizes bs
+place-le : (h at : ℕ) (bs : List Block) → placeOf (is h) at bs ≤ at + sizes bs
 unfolding placeOf sizes
 place-le h at [] = omega arith
 place-le h at (cell (free n) ∷ bs) = omega (arith, place-le h (at + n) bs)
 place-le h at (fixed d ∷ bs) = omega (arith, place-le h (at + (fixedHeader + length d)) bs)
 place-le h at (cell (held e) ∷ bs) = go (is h e) (place-le h (at + itemSize e) bs)
   where
-    go : (t : Bool) → placeOf h (at + itemSize e) bs ≤ at + itemSize e + sizes bs → cond t (at + headerOf e) (placeOf h (at + itemSize e) bs) ≤ at + (itemSize e + sizes bs)
+    go : (t : Bool) → placeOf (is h) (at + itemSize e) bs ≤ at + itemSize e + sizes bs → cond t (at + headerOf e) (placeOf (is h) (at + itemSize e) bs) ≤ at + (itemSize e + sizes bs)
     go true i = omega arith
     go false i = omega arith
 
@@ -151,14 +151,14 @@ module _ (s : Structure) (v : Valid s) where
   value-le : (h : ℕ) → value s h < argumentRange
   value-le h = omega (arith, place-le h (start s) (s .blocks), next-le (firstBlock mostMasters) h (s .chain) links-le, v .short)
 
-  pub heads : (t : List ℕ) → Head (encode s ++ t) (len s) (start s) (count s) (headOf (s .chain)) ((words (value s) (offsets zoneHeader (count s)) ++ join (map encodeBlock (s .blocks))) ++ t)
+  pub heads : (t : List ℕ) → Head (encode s ++ t) (len s) (start s) (count s) (headOf (s .chain)) (s .clock) ((words (value s) (offsets zoneHeader (count s)) ++ join (map encodeBlock (s .blocks))) ++ t)
   unfolding encode header
-  heads t = rw (append-assoc (toBE 4 (len s) ++ (toBE 4 (start s) ++ (toBE 4 (count s) ++ (toBE 2 (headOf (s .chain)) ++ 0 ∷ 0 ∷ [])))) _ t)
-      (head-of (len s) (start s) (count s) (headOf (s .chain)) _ (omega (arith, v .short)) (omega (arith, v .short)) (omega (arith, v .few)) (omega (arith, head-le (firstBlock mostMasters) (s .chain) links-le)))
+  heads t = rw (append-assoc (toBE 4 (len s) ++ (toBE 4 (start s) ++ (toBE 4 (count s) ++ (toBE 2 (headOf (s .chain)) ++ s .clock ∷ 0 ∷ [])))) _ t)
+      (head-of (len s) (start s) (count s) (headOf (s .chain)) (s .clock) _ (omega (arith, v .short)) (omega (arith, v .short)) (omega (arith, v .few)) (omega (arith, head-le (firstBlock mostMasters) (s .chain) links-le)))
 
-  pub heads-self : Head (encode s) (len s) (start s) (count s) (headOf (s .chain)) (words (value s) (offsets zoneHeader (count s)) ++ join (map encodeBlock (s .blocks)))
+  pub heads-self : Head (encode s) (len s) (start s) (count s) (headOf (s .chain)) (s .clock) (words (value s) (offsets zoneHeader (count s)) ++ join (map encodeBlock (s .blocks)))
   unfolding encode header
-  heads-self = head-of (len s) (start s) (count s) (headOf (s .chain)) _ (omega (arith, v .short)) (omega (arith, v .short)) (omega (arith, v .few)) (omega (arith, head-le (firstBlock mostMasters) (s .chain) links-le))
+  heads-self = head-of (len s) (start s) (count s) (headOf (s .chain)) (s .clock) _ (omega (arith, v .short)) (omega (arith, v .short)) (omega (arith, v .few)) (omega (arith, head-le (firstBlock mostMasters) (s .chain) links-le))
 
   length-header : length (header s) ≡ zoneHeader
   unfolding header
@@ -203,7 +203,7 @@ module _ (s : Structure) (v : Valid s) where
   unfolding encode table
   length-is = omega (arith, length-append (header s) (table ++ join (map encodeBlock (s .blocks))), length-header, length-append table (join (map encodeBlock (s .blocks))), length-table, es .sums)
 
-  blocks-is : splitBlocks (drop (start s) e) ≡ map encodeBlock (s .blocks)
+  pub blocks-is : splitBlocks (drop (start s) e) ≡ map encodeBlock (s .blocks)
   blocks-is = ap (λ (t : List ℕ). splitBlocks t) rest-is ∙ blocks-join e (start s) false (start s) (map encodeBlock (s .blocks)) (es .walk)
 
   relocs-is : relocs (splitBlocks (drop (start s) e)) ≡ length (handlesOf (s .blocks))
@@ -216,9 +216,9 @@ module _ (s : Structure) (v : Valid s) where
   unfolding bodyOk
   body-is =
       rw (left-is, le-leb (relocs (splitBlocks (drop (start s) e))) (count s) (omega (arith, relocs-is)), blocks-is, es .walk)
-      (chain-links e (start s) (s .chain) linked)
+      (rw (chain-links e (start s) (s .chain) linked, es .names) (once-distinct (namesIn (s .blocks)) (v .apart)))
 
-  zone-is : (t : List ℕ) → zoneOf (e ++ t) ≡ e
+  pub zone-is : (t : List ℕ) → zoneOf (e ++ t) ≡ e
   zone-is t = rw (heads t .is-len) (take-at e t (len s) length-is)
 
   len-four : len s % 4 ≡ 0
@@ -230,7 +230,7 @@ module _ (s : Structure) (v : Valid s) where
       let h = heads t in
       rw (
         one-walk (e ++ t),
-        header-of (e ++ t) (len s) (start s) (count s) (headOf (s .chain)) _ h len-four (omega (arith, length-append e t, length-is)) (v .short) (v .few) refl (omega arith),
+        header-of (e ++ t) (len s) (start s) (count s) (headOf (s .chain)) (s .clock) _ h len-four (omega (arith, length-append e t, length-is)) (v .short) (v .few) refl (omega arith),
         zone-is t,
         h .is-first,
         h .is-masters,
@@ -242,5 +242,5 @@ module _ (s : Structure) (v : Valid s) where
   unfolding decode decodeZone
   decode-encode t =
       let h = heads-self in
-      rw (zone-is t, h .is-first, h .is-masters, h .is-chain, left-is, blocks-is)
-      (λ i. record { chain = chain-back e (start s) (s .chain) linked i; blocks = es .back i })
+      rw (zone-is t, h .is-first, h .is-masters, h .is-chain, h .is-clock, left-is, blocks-is)
+      (λ i. record { clock = s .clock; chain = chain-back e (start s) (s .chain) linked i; blocks = es .back i })

@@ -8,11 +8,11 @@ use lib.Dec.{eqb}
 use borrow.Author.Tests.{not-true, ne-eqb}
 use lib.ListN.{length, drop, length-append, length-drop}
 use Rattle.format.specs.Occurs.{occurs}
-use Rattle.block_type.specs.Limits.{longestZone, zoneHeader, fixedHeader, freeCode}
+use Rattle.block_type.specs.Limits.{longestZone, zoneHeader, fixedHeader, freeCode, clockAt}
 use Rattle.bigendian.specs.BigEndian.{Bytes}
 use Rattle.bigendian.proofs.Bytes.{bytes-drop, bytes-left, bytes-right}
 use Rattle.format.proofs.Bool.{and-left, and-right}
-use Rattle.format.specs.WellFormed.{firstField, mastersField, chainField, typeOf, sizeOf, handleOf, isFree, isReloc, splitBlocks, relocs, wellFormed, zoneOf, offsets, chain}
+use Rattle.format.specs.WellFormed.{firstField, mastersField, chainField, typeOf, sizeOf, handleOf, nameOf, isFree, isReloc, isPage, splitBlocks, relocs, names, wellFormed, zoneOf, offsets, chain}
 use Rattle.format.specs.OneWalk.{typeRule, freeRule, blockOk, blocksOk, ruleOf}
 use Rattle.format.proofs.Walk.{Good, is-good, size-used}
 use Rattle.format.proofs.Masters.{Master}
@@ -20,7 +20,7 @@ use Rattle.format.proofs.Count.{occurs-offset, all-at}
 use Rattle.format.proofs.Live.{owned}
 use Rattle.format.proofs.Chain.{chain-low}
 use Rattle.format.proofs.Handles.{handles, handles-high}
-use Rattle.structure.specs.Structure.{fixed, decodeBlock, byType, join, decodeZone, decode, cell, handlesOf}
+use Rattle.structure.specs.Structure.{fixed, decodeBlock, byType, join, decodeZone, decode, cell, handlesOf, namesIn}
 use Rattle.kinds.specs.Kinds.{itemIn}
 use Rattle.kinds.proofs.KindLaws.{read}
 use Rattle.bay.specs.Bay.{free, held}
@@ -28,7 +28,8 @@ use Rattle.structure.proofs.Codec.{join-blocks}
 use Rattle.structure.proofs.Table.{Whole, whole, count-is, len-is}
 use Rattle.structure.proofs.Round.{offset-is}
 use Rattle.structure.specs.Valid.{Tiled, Valid}
-use Rattle.structure.proofs.Decoded.{handle-dec}
+use Rattle.structure.proofs.Decoded.{handle-dec, names-dec}
+use Rattle.format.proofs.Distinct.{distinct-once}
 
 module _ (z : List ℕ) (first : ℕ) where
   pub handles-decs : (prev : Bool) (at : ℕ) (bs : List (List ℕ)) → blocksOk z first prev at bs ≡ true → handlesOf (map decodeBlock bs) ≡ handles bs
@@ -37,6 +38,13 @@ module _ (z : List ℕ) (first : ℕ) where
   handles-decs prev at (b ∷ bs) g =
       handle-dec z first prev at b (and-left _ (blocksOk z first (isFree b) (at + length b) bs) g) (map decodeBlock bs)
       ∙ ap (λ (hs : List ℕ). cond (isReloc b) (handleOf b ∷ hs) hs) (handles-decs (isFree b) (at + length b) bs (and-right (blockOk z first prev at b) _ g))
+
+  pub names-decs : (prev : Bool) (at : ℕ) (bs : List (List ℕ)) → blocksOk z first prev at bs ≡ true → namesIn (map decodeBlock bs) ≡ names bs
+  unfolding names blocksOk namesIn
+  names-decs prev at [] g = refl
+  names-decs prev at (b ∷ bs) g =
+      names-dec z first prev at b (and-left _ (blocksOk z first (isFree b) (at + length b) bs) g) (map decodeBlock bs)
+      ∙ ap (λ (ns : List ℕ). cond (isPage b) (nameOf b ∷ ns) ns) (names-decs (isFree b) (at + length b) bs (and-right (blockOk z first prev at b) _ g))
 
   pub tiled-decs : (prev : Bool) (at : ℕ) (bs : List (List ℕ)) → blocksOk z first prev at bs ≡ true → Bytes (join bs) → length (join bs) ≤ longestZone → Tiled prev (map decodeBlock bs)
   unfolding blocksOk join decodeBlock isFree typeRule freeRule
@@ -92,6 +100,8 @@ module _ (z : List ℕ) (w : Whole z) where
             (omega (arith, ap length j, length-drop (firstField z) z, w .all, w .limit));
         owned = λ h. ap (λ (hs : List ℕ). occurs h hs + occurs h ch) (handles-decs z (firstField z) false (firstField z) bs (w .parts .walk))
             ∙ owns h ∙ ap (λ (n : ℕ). occurs h (offsets zoneHeader n)) (sym (count-is z w));
+        apart = λ n. rw (names-decs z (firstField z) false (firstField z) bs (w .parts .walk)) (distinct-once (names bs) (w .parts .apart) n);
+        byte = w .bytes clockAt;
         few = omega (arith, count-is z w, w .few);
         short = omega (arith, len-is z w, w .limit);
       }

@@ -9,12 +9,12 @@ use borrow.Author.Tests.{ne-eqb}
 use lib.ListN.{length, getD, drop, length-append, length-take, length-drop, take-append-drop}
 use lib.Seq.{getD-take, drop-cons}
 use Rattle.format.specs.Occurs.{occurs}
-use Rattle.block_type.specs.Limits.{longestZone, masterSize, mostMasters, zoneHeader, lengthAt, firstAt, mastersAt, chainAt, zerosAt}
+use Rattle.block_type.specs.Limits.{longestZone, masterSize, mostMasters, zoneHeader, lengthAt, firstAt, mastersAt, chainAt, clockAt, zeroAt}
 use Rattle.bigendian.specs.BigEndian.{fromBE, toBE, Bytes}
 use Rattle.bigendian.proofs.Parts.{slice-take}
 use Rattle.bigendian.proofs.Bytes.{bytes-take, bytes-drop}
 use Rattle.format.proofs.Bool.{and-left, and-right}
-use Rattle.format.specs.WellFormed.{headerOk, lengthField, firstField, mastersField, chainField, splitBlocks, masterAt, relocs, zoneOf, wellFormed, offsets, chain}
+use Rattle.format.specs.WellFormed.{headerOk, lengthField, firstField, mastersField, chainField, clockField, splitBlocks, masterAt, relocs, zoneOf, wellFormed, offsets, chain}
 use Rattle.format.proofs.OneWalk.{one-walk}
 use Rattle.format.specs.OneWalk.{bodyOk}
 use Rattle.format.proofs.Masters.{Master}
@@ -27,6 +27,7 @@ use Rattle.structure.specs.Structure.{Structure, encodeBlock, decodeBloc
 use Rattle.structure.proofs.Codec.{tiles-bytes, join-blocks}
 use Rattle.structure.proofs.Words.{peel, words-of, words-same}
 use Rattle.structure.proofs.Decoded.{sizes-decs, counts-decs, places, head-chain, nexts}
+use Rattle.kinds.specs.Kinds.{is}
 
 pub all-offsets : (P : ℕ → Type 0) (first k n : ℕ) → ((h : ℕ) → Master first h → P h) → zoneHeader ≤ k → k % 4 ≡ 0 → k + masterSize * n ≤ first → All P (offsets k n)
 unfolding offsets
@@ -47,13 +48,13 @@ total-join [] = refl
 total-join (b ∷ bs) = omega (arith, length-append b (join bs), total-join bs)
 
 -- the header's bytes, field by field
-glue : (z : List ℕ) → Bytes z → zoneHeader ≤ length z → getD z zerosAt 0 ≡ 0 → getD z (zerosAt + 1) 0 ≡ 0 → (l f m c : ℕ) (t : List ℕ)
+glue : (z : List ℕ) → Bytes z → zoneHeader ≤ length z → getD z zeroAt 0 ≡ 0 → (l f m c : ℕ) (t : List ℕ)
     → l ≡ lengthField z → f ≡ firstField z → m ≡ mastersField z → c ≡ chainField z → t ≡ drop zoneHeader z
-    → (toBE 4 l ++ (toBE 4 f ++ (toBE 4 m ++ (toBE 2 c ++ 0 ∷ 0 ∷ [])))) ++ t ≡ z
-glue z y n z₁ z₂ l f m c t e₁ e₂ e₃ e₄ e =
+    → (toBE 4 l ++ (toBE 4 f ++ (toBE 4 m ++ (toBE 2 c ++ clockField z ∷ 0 ∷ [])))) ++ t ≡ z
+glue z y n z₂ l f m c t e₁ e₂ e₃ e₄ e =
     rw (e₁, e₂, e₃, e₄) (simp append-assoc
     (peel 4 lengthAt z _ y (omega arith) (peel 4 firstAt z _ y (omega arith) (peel 4 mastersAt z _ y (omega arith) (peel 2 chainAt z _ y (omega arith)
-    (sym (drop-cons z zerosAt 0 (omega arith) ∙ ap₂ (λ (x : ℕ) (xs : List ℕ). x ∷ xs) z₁ (drop-cons z (zerosAt + 1) 0 (omega arith) ∙ ap₂ (λ (x : ℕ) (xs : List ℕ). x ∷ xs) z₂ (sym e)))))))))
+    (sym (drop-cons z clockAt 0 (omega arith) ∙ ap (clockField z ∷_) (drop-cons z zeroAt 0 (omega arith) ∙ ap₂ (λ (x : ℕ) (xs : List ℕ). x ∷ xs) z₂ (sym e)))))))))
 
 -- ---- the whole zone
 
@@ -62,8 +63,7 @@ pub record Whole (z : List ℕ) : Type 0 where
   pub bytes : Bytes z
   pub long : zoneHeader ≤ length z
   pub all : lengthField z ≡ length z
-  pub first-zero : getD z zerosAt 0 ≡ 0
-  pub second-zero : getD z (zerosAt + 1) 0 ≡ 0
+  pub zero : getD z zeroAt 0 ≡ 0
   pub begin : firstField z ≡ zoneHeader + masterSize * mastersField z
   pub within : firstField z ≤ length z
   pub few : mastersField z ≤ mostMasters
@@ -91,7 +91,7 @@ module _ (z : List ℕ) (w : Whole z) where
   unfolding decodeZone
   value-is h q =
       ap₂ (λ (a b : ℕ). a + b)
-      (ap (λ (o : ℕ). placeOf h o (map decodeBlock bs)) start-is ∙ places z (firstField z) false (firstField z) h bs (w .parts .walk))
+      (ap (λ (o : ℕ). placeOf (is h) o (map decodeBlock bs)) start-is ∙ places z (firstField z) false (firstField z) h bs (w .parts .walk))
       (nexts z (firstField z) (mastersField z - relocs bs) (chainField z) h (w .parts .ends))
       ∙ one-of (occurs h (handles bs)) (occurs h (chain z (mastersField z - relocs bs) (chainField z))) (masterAt z h)
       (owned z (firstField z) (mastersField z) (chainField z) (w .begin) (w .parts) h q)
@@ -116,8 +116,8 @@ module _ (z : List ℕ) (w : Whole z) where
 
   -- the bytes of a zone are those of its structure
   pub encode-zone : encode (decodeZone z) ≡ z
-  unfolding encode header
-  encode-zone = glue z (w .bytes) (w .long) (w .first-zero) (w .second-zero) (len st) (start st) (count st) (headOf (st .chain)) _ len-is start-is count-is head-is rest-is
+  unfolding encode header decodeZone
+  encode-zone = glue z (w .bytes) (w .long) (w .zero) (len st) (start st) (count st) (headOf (st .chain)) _ len-is start-is count-is head-is rest-is
 
 -- ---- from the buffer to the zone
 
@@ -136,8 +136,7 @@ whole s y w =
       bytes = bytes-take (lengthField s) s y;
       long = omega arith;
       all = omega arith;
-      first-zero = getD-take (lengthField s) s zerosAt 0 (omega arith) ∙ f .first-zero;
-      second-zero = getD-take (lengthField s) s (zerosAt + 1) 0 (omega arith) ∙ f .second-zero;
+      zero = getD-take (lengthField s) s zeroAt 0 (omega arith) ∙ f .zero;
       begin = omega arith;
       within = omega arith;
       few = omega arith;

@@ -2,13 +2,13 @@
 use mathlib.Core.Path.{_≡_}
 use mathlib.Core.List.{List, [], _∷_}
 use mathlib.Core.Bool.{Bool, true, false}
-use Prim.Native.Nat.{ℕ, _+_, _%_, _≤_}
+use Prim.Native.Nat.{ℕ, _+_, _%_, _≤_, _<_}
 use lib.ListN.{length}
-use Rattle.block_type.specs.Limits.{fixedHeader, fixedLimit, largestBlock, longestZone, mostMasters, zoneHeader, smallestBlock}
+use Rattle.block_type.specs.Limits.{stampRange, fixedHeader, fixedLimit, largestBlock, longestZone, mostMasters, zoneHeader, smallestBlock}
 use Rattle.bigendian.specs.BigEndian.{Bytes}
 use Rattle.format.specs.WellFormed.{offsets}
 use Rattle.format.specs.Occurs.{occurs}
-use Rattle.structure.specs.Structure.{Block, fixed, Structure, count, len, cell, handlesOf}
+use Rattle.structure.specs.Structure.{Block, fixed, Structure, count, len, cell, handlesOf, namesIn}
 use Rattle.kinds.specs.Kinds.{itemSize, Written}
 use Rattle.bay.specs.Bay.{free, held}
 
@@ -23,5 +23,8 @@ pub record Valid (s : Structure) : Type 0 where
   pub tiled : Tiled false (s .blocks)
   -- every master is one block's or in the chain once
   pub owned : (h : ℕ) → occurs h (handlesOf (s .blocks)) + occurs h (s .chain) ≡ occurs h (offsets zoneHeader (count s))
+  -- no name twice, and the clock is a byte
+  pub apart : (n : ℕ) → occurs n (namesIn (s .blocks)) ≤ 1
+  pub byte : s .clock < stampRange
   pub few : count s ≤ mostMasters
   pub short : len s ≤ longestZone

@@ -6,6 +6,7 @@ use lib.ListN.{drop}
 use Rattle.bay.proofs.Each.{each-weaken}
 use Rattle.block_type.specs.Limits.{longestZone}
 use Rattle.calls.specs.State.{newItem}
+use Rattle.calls.specs.Pages.{newPage}
 use Rattle.zone.specs.Search.{lookup, placeLow, placeHigh, joinAt, resizeIn}
 use Rattle.zone.proofs.Walk.{Closed, any}
 use Rattle.zone.specs.Work.{Zone}
@@ -21,7 +22,10 @@ bounded-closed = record {
   high = λ z n b lim g. each-weaken (λ r u. record { within = g .within; limit = g .limit }) (any (placeHigh n (z .len) (z .bays)));
   drop = λ z h g. each-weaken (λ e u. record { within = g .within; limit = g .limit }) (any (lookup h z));
   join = λ z p g. each-weaken (λ b u. record { within = g .within; limit = g .limit }) (any (joinAt p (z .bays)));
-  edit = λ z h f y g. record { within = g .within; limit = g .limit };
+  edit = λ z ok f y g. record { within = g .within; limit = g .limit };
+  page = λ z n ck c i lim k a g. each-weaken (λ b u. record { within = g .within; limit = g .limit }) (any (placeLow (newPage n ck c) (z .bays)));
+  clear = λ z ok f g. record { within = g .within; limit = g .limit };
+  step = λ z g. record { within = g .within; limit = g .limit };
   edit-fixed = λ z p f y g. record { within = g .within; limit = g .limit };
   resize = λ z h a q g. each-weaken (λ e u lim. each-weaken (λ b u. record { within = g .within; limit = g .limit }) (any (resizeIn h a e (z .bays)))) (any (lookup h z));
   compactBay = λ z g. record { within = g .within; limit = g .limit };
@@ -39,7 +43,10 @@ long-closed n = record {
   high = λ z n b lim g. each-weaken (λ r u. record { long = g .long }) (any (placeHigh n (z .len) (z .bays)));
   drop = λ z h g. each-weaken (λ e u. record { long = g .long }) (any (lookup h z));
   join = λ z p g. each-weaken (λ b u. record { long = g .long }) (any (joinAt p (z .bays)));
-  edit = λ z h f y g. record { long = g .long };
+  edit = λ z ok f y g. record { long = g .long };
+  page = λ z n ck c i lim k a g. each-weaken (λ b u. record { long = g .long }) (any (placeLow (newPage n ck c) (z .bays)));
+  clear = λ z ok f g. record { long = g .long };
+  step = λ z g. record { long = g .long };
   edit-fixed = λ z p f y g. record { long = g .long };
   resize = λ z h a q g. each-weaken (λ e u lim. each-weaken (λ b u. record { long = g .long }) (any (resizeIn h a e (z .bays)))) (any (lookup h z));
   compactBay = λ z g. record { long = g .long };

@@ -10,7 +10,7 @@ use lib.Dec.{eqb, leb}
 use borrow.Author.Tests.{leb-true, ne-eqb}
 use Rattle.block_type.specs.Limits.{up4, relocNeed, addedBytes}
 use Rattle.calls.specs.Calls.{Target, by-handle, by-pointer, allocate-relocatable}
-use Rattle.calls.specs.Bays.{Bays, last, more, over, orElse, onLowest, onFirst, findF, maxS}
+use Rattle.calls.specs.Bays.{Bays, last, more, over, orElse, onLowest, onFirst, findF, maxS, findS}
 use Rattle.kinds.specs.Kinds.{Item, itemSize, is}
 use Rattle.calls.specs.State.{get, newItem, top, Fixed, fsize, pointer, content}
 use Rattle.calls.specs.Table.{below, isNone, isEmpty, refusalOf}
@@ -25,7 +25,10 @@ use Rattle.bay.proofs.Perm.{perm-count, perm-get}
 use Rattle.zone.specs.Work as Work
 use Rattle.zone.specs.Work.{Zone, facts, withMaster, work}
 use Rattle.zone.specs.Search.{placeLow}
-use Rattle.zone.proofs.Once.{blockOf}
+use Rattle.kinds.specs.Kinds.{hasName}
+use Rattle.calls.specs.Calls.{by-name}
+use Rattle.zone.proofs.HowMany.{many}
+use Rattle.zone.proofs.Once.{blockBy, blockOf}
 use Rattle.zone.proofs.Found.{low-found}
 use Rattle.zone.proofs.Passed.{passed}
 use Rattle.zone.proofs.WithMaster.{with-chain, with-room}
@@ -40,7 +43,7 @@ use Rattle.zone.proofs.MetBlocks.{spotsS}
 
 module _ {X : Type 0} (φ : Bays (List Cell) Fixed → X) (end : (b d : List Cell) → φ (last b) ≡ φ (last d))
     (next : (b d : List Cell) (x : Fixed) (s u : Bays (List Cell) Fixed) → φ s ≡ φ u → φ (more b x s) ≡ φ (more d x u)) where
-  lowest-blind : (t : List Cell → Bool) (f : List Cell → List Cell) (s : Bays (List Cell) Fixed) → φ (onLowest t f s) ≡ φ s
+  pub lowest-blind : (t : List Cell → Bool) (f : List Cell → List Cell) (s : Bays (List Cell) Fixed) → φ (onLowest t f s) ≡ φ s
   lowest-blind t f (last b) = end (f b) b
   lowest-blind t f (more b x s) = cond-one φ (t b) (next (f b) b x s s refl) (next b b x (onLowest t f s) s (lowest-blind t f s))
 
@@ -59,26 +62,26 @@ fixed-kept p c z = alloc-blind (findF (λ (x : Fixed). eqb p (pointer x))) (λ b
 
 -- ---- the block of another handle
 
-first-find : (k n : ℕ) (s : Bays (List Cell) Fixed) → blockOf k (onFirst (packedLess n) s) ≡ blockOf k s
-first-find k n (last b) = ap (get k) (less-items n b)
-first-find k n (more b x s) = ap (λ (es : List Item). orElse (get k es) (blockOf k s)) (less-items n b)
+first-find : (ok : Item → Bool) (n : ℕ) (s : Bays (List Cell) Fixed) → blockBy ok (onFirst (packedLess n) s) ≡ blockBy ok s
+first-find ok n (last b) = ap (get ok) (less-items n b)
+first-find ok n (more b x s) = ap (λ (es : List Item). orElse (get ok es) (blockBy ok s)) (less-items n b)
 
-with-find : (k : ℕ) (z : Zone) → blockOf k (withMaster z .bays) ≡ blockOf k (z .bays)
-with-find k z = cond-one (λ (v : Zone). blockOf k (v .bays)) (isEmpty (z .chain)) (first-find k addedBytes (z .bays)) refl
+with-find : (ok : Item → Bool) (z : Zone) → blockBy ok (withMaster z .bays) ≡ blockBy ok (z .bays)
+with-find ok z = cond-one (λ (v : Zone). blockBy ok (v .bays)) (isEmpty (z .chain)) (first-find ok addedBytes (z .bays)) refl
 
-module _ (k : ℕ) (e : Item) (other : is k e ≡ false) where
-  put-find : (b : List Cell) → itemSize e ≤ baySum b → count k (items b) ≤ 1 → get k (items (put e b)) ≡ get k (items b)
+module _ (ok : Item → Bool) (e : Item) (other : ok e ≡ false) where
+  put-find : (b : List Cell) → itemSize e ≤ baySum b → count ok (items b) ≤ 1 → get ok (items (put e b)) ≡ get ok (items b)
   put-find b l n =
       let p = put-keeps e b l .perm in
-      let q : count k (e ∷ items b) ≡ count k (items b) = rw other in
-      perm-get k p (omega (arith, perm-count k p, q)) ∙ (rw other)
+      let q : count ok (e ∷ items b) ≡ count ok (items b) = rw other in
+      perm-get ok p (omega (arith, perm-count ok p, q)) ∙ (rw other)
 
-  place-find : (s : Bays (List Cell) Fixed) → live k s ≤ 1 → Each (λ (u : Bays (List Cell) Fixed). blockOf k u ≡ blockOf k s) (placeLow e s)
+  pub place-find : (s : Bays (List Cell) Fixed) → many ok s ≤ 1 → Each (λ (u : Bays (List Cell) Fixed). blockBy ok u ≡ blockBy ok s) (placeLow e s)
   place-find (last b) n = each-cond (leb (itemSize e) (baySum b)) (λ t. just (put-find b (leb-true (itemSize e) (baySum b) t) n)) nothing
   place-find (more b x s) n =
       each-cond (leb (itemSize e) (baySum b))
-      (λ t. just (ap (λ (o : Option Item). orElse o (blockOf k s)) (put-find b (leb-true (itemSize e) (baySum b) t) (omega arith))))
-      (each-over (more b x) (λ u q. ap (orElse (get k (items b))) q) (place-find s (omega arith)))
+      (λ t. just (ap (λ (o : Option Item). orElse o (blockBy ok s)) (put-find b (leb-true (itemSize e) (baySum b) t) (omega arith))))
+      (each-over (more b x) (λ u q. ap (orElse (get ok (items b))) q) (place-find s (omega arith)))
 
 -- ---- every block
 
@@ -86,26 +89,27 @@ module _ (c : ℕ) (z : Zone) (w : Whole z) (e : refusalOf (allocate-relocatable
   abbrev v : Zone
   v = withMaster z
 
-  handle-kept : (k : ℕ) (i : Item) → blockOf k (z .bays) ≡ some i → blockOf k ((work (allocate-relocatable c) z) .next .bays) ≡ some i
-  handle-kept k i q = go (v .chain) refl (with-chain z) ∙ there
+  full : Whole v
+  full = with-whole z w c e
+
+  -- a block that the new one is not
+  block-kept : (ok : Item → Bool) → many ok (v .bays) ≤ 1 → ((h : ℕ) (hs : List ℕ) → v .chain ≡ h ∷ hs → ok (newItem h c) ≡ false) → blockBy ok ((work (allocate-relocatable c) z) .next .bays) ≡ blockBy ok (z .bays)
+  block-kept ok once other = go (v .chain) refl (with-chain z) ∙ with-find ok z
     where
-      full : Whole v
-      full = with-whole z w c e
-
-      there : blockOf k (v .bays) ≡ some i
-      there = with-find k z ∙ q
-
-      alive : 1 ≤ live k (v .bays)
-      alive = each-some (subst (Each (Found (full .m) k v)) there (found (full .m) k v)) .once-live
-
-      go : (hs : List ℕ) → v .chain ≡ hs → isEmpty hs ≡ false → blockOf k (Work.placeLow (newItem (top hs) c) (v .bays)) ≡ blockOf k (v .bays)
+      go : (hs : List ℕ) → v .chain ≡ hs → isEmpty hs ≡ false → blockBy ok (Work.placeLow (newItem (top hs) c) (v .bays)) ≡ blockBy ok (v .bays)
       go [] q n = absurd (true≢false n)
       go (h ∷ hs) q n =
           let new : Item = newItem h c in
           let size : itemSize new ≡ relocNeed c = omega (arith, length-replicate {A = ℕ} (up4 c) 0) in
           let need : below (maxS baySum (v .bays)) (itemSize new) ≡ false = rw (size, with-room z true) (or-left _ _ (passed (allocate-relocatable c) z e 5 refl)) in
-          let other : is k new ≡ false = ne-eqb k h (λ x. omega (arith, alive, chained (full .m) v (full .owned) h hs q .0, ap (λ (j : ℕ). live j (v .bays)) x)) in
-          each-got {Q = λ (u : Bays (List Cell) Fixed). blockOf k u ≡ blockOf k (v .bays)} (low-found baySum (itemSize new) (put new) (v .bays)) need (place-find k new other (v .bays) (single-live v full k))
+          each-got {Q = λ (u : Bays (List Cell) Fixed). blockBy ok u ≡ blockBy ok (v .bays)} (low-found baySum (itemSize new) (put new) (v .bays)) need (place-find ok new (other h hs q) (v .bays) once)
+
+  handle-kept : (k : ℕ) (i : Item) → blockOf k (z .bays) ≡ some i → blockOf k ((work (allocate-relocatable c) z) .next .bays) ≡ some i
+  handle-kept k i q =
+      block-kept (is k) (single-live v full k) (λ h hs r. ne-eqb k h (λ x. omega (arith, alive, chained (full .m) v (full .owned) h hs r .0, ap (λ (j : ℕ). live j (v .bays)) x))) ∙ q
+    where
+      alive : 1 ≤ live k (v .bays)
+      alive = each-some (subst (Each (Found (full .m) k v)) (with-find (is k) z ∙ q) (found (full .m) k v)) .once-live
 
   pub content-kept : (t : Target) → isNone (over length (content items t (z .bays))) ≡ false → content items t ((work (allocate-relocatable c) z) .next .bays) ≡ content items t (z .bays)
   content-kept (by-handle k) n = go (blockOf k (z .bays)) refl n
@@ -115,3 +119,4 @@ module _ (c : ℕ) (z : Zone) (w : Whole z) (e : refusalOf (allocate-relocatable
       go none q n = absurd (true≢false n)
       go (some i) q n = ap (over (λ (i : Item). i .bytes)) (handle-kept k i q ∙ sym q)
   content-kept (by-pointer p) n = ap (over (λ (x : Fixed). x .bytes)) (fixed-kept p c z)
+  content-kept (by-name k) n = ap (over (λ (i : Item). i .bytes)) (block-kept (hasName k) (full .apart .apart k) (λ h hs q. refl))

@@ -67,7 +67,7 @@ masterBytes m z [] = []
 masterBytes m z (h ∷ hs) = big 4 (masterOf m z h) ++ masterBytes m z hs
 
 abbrev pub headerBytes : ℕ → Zone → List ℕ
-headerBytes m z = big 4 (z .len) ++ (big 4 (firstBlock m) ++ (big 4 m ++ (big 2 (headOr0 (z .chain)) ++ big 2 0)))
+headerBytes m z = big 4 (z .len) ++ (big 4 (firstBlock m) ++ (big 4 m ++ (big 2 (headOr0 (z .chain)) ++ z .clock ∷ 0 ∷ [])))
 
 abbrev pub zoneBytes : ℕ → Zone → List ℕ
 zoneBytes m z = headerBytes m z ++ (masterBytes m z (handlesFrom zoneHeader m) ++ blockBytes (z .bays))

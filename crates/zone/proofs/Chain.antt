@@ -8,7 +8,7 @@ use native.Mathlib.Omega.{arith}
 use lib.ListN.{length}
 use Rattle.bigendian.specs.BigEndian.{Bytes}
 use Rattle.format.specs.WellFormed.{mastersField}
-use Rattle.calls.specs.Calls.{Call, allocate-relocatable, Answer, beside, secondOf}
+use Rattle.calls.specs.Calls.{Call, allocate-relocatable, Answer, beside, Given}
 use Rattle.calls.specs.State.{masterCount}
 use Rattle.calls.specs.Table.{refusalOf}
 use Rattle.bay.specs.Bay.{items}
@@ -33,7 +33,7 @@ pub record Next (c : Call) (z : Zone) (a : Answer) (mid : List ℕ) : Type 0 whe
   pub less : length (z .chain) ≤ length (zone .chain) + 1
   pub kept : ((k : ℕ) → c ≡ allocate-relocatable k → a .number ≡ 0 → ⊥) → length (z .chain) ≤ length (zone .chain)
 
-module _ (c : Call) {bs mid : List ℕ} {a : Answer} (z : Zone) (y : Bytes (secondOf (beside c))) (w : Whole z) (s : Stored bs z) (p : Promise c bs a mid) where
+module _ (c : Call) {bs mid : List ℕ} {a : Answer} (z : Zone) (y : Given (beside c)) (w : Whole z) (s : Stored bs z) (p : Promise c bs a mid) where
   pub next : Next c z a mid
   next = go (refusalOf c (facts true z)) refl
     where

@@ -3,7 +3,7 @@ use mathlib.Core.Path.{_≡_, subst, refl}
 use mathlib.Core.Bool.{Bool, true, false, cond}
 use mathlib.Core.Option.{Option}
 use mathlib.Core.List.{List, [], _∷_, _++_, map, List·Permᴰ, List·Permᴰ·nil, List·Permᴰ·cons, List·Permᴰ·swap, List·Permᴰ·trans, Permᴰ·symm}
-use Prim.Native.Nat.{ℕ, _+_, _-_, _%_, _≤_}
+use Prim.Native.Nat.{ℕ, _+_, _-_, _%_, _≤_, _<_}
 use native.Mathlib.Omega.{arith}
 use lib.ListN.{length, take, replicate, length-replicate}
 use lib.Dec.{leb, eqb}
@@ -12,9 +12,10 @@ use Rattle.bigendian.specs.BigEndian.{Bytes}
 use Rattle.bigendian.proofs.Bytes.{bytes-take, bytes-zeros, bytes-append}
 use Rattle.calls.specs.Bays.{Bays, last, more, onFirst, mapS, onFixed, onLast, firstS, lastS, findS}
 use Rattle.zone.specs.PickBays.{onLow, onHigh, onJoin}
-use Rattle.kinds.specs.Kinds.{Item, itemSize, is, Written, item, holding}
+use Rattle.kinds.specs.Kinds.{Item, itemSize, is, Written, item, holding, onData}
 use Rattle.kinds.proofs.KindLaws.{bytes-of, written-item, written-holding, is-header}
 use Rattle.calls.specs.State.{get, alter, sized, Fixed, fsize, pointer, alterFixed, newItem, newFixed}
+use Rattle.calls.specs.Pages.{newPage}
 use Rattle.bay.specs.Bay.{Cell, baySum, items, gap, joinBays, compactBay, put, takeHigh, release, edit, resized, reshape}
 use Rattle.bay.specs.Counted.{remove}
 use Rattle.bay.proofs.Each.{Each, nothing, just, each-cond, each-over, each-orElse, each-weaken}
@@ -22,10 +23,10 @@ use Rattle.bay.proofs.Holes.{put-keeps}
 use Rattle.bay.proofs.Laws.{cut-less, tidy-items, items-weld, items-gap, release-items, edit-items}
 use Rattle.bay.proofs.Resize.{length-sized}
 use Rattle.zone.proofs.Own.{own-shaped}
-use Rattle.block_type.specs.Limits.{relocLimit, fixedLimit, fixedHeader, up4, largestBlock}
+use Rattle.block_type.specs.Limits.{relocLimit, fixedLimit, fixedHeader, up4, largestBlock, argumentRange, pageLimit, stampRange}
 use Rattle.zone.specs.Search.{lookup, own}
 use Rattle.bay.proofs.Sound.{Block}
-use Rattle.zone.proofs.Walk.{Closed, any, Feeds}
+use Rattle.zone.proofs.Walk.{Closed, any, Feeds, Changes}
 use Rattle.zone.specs.Work.{Zone}
 
 -- ---- of every bay and every fixed block
@@ -89,11 +90,11 @@ module _ {P : Item → Type 0} where
   items-append i-nil j = j
   items-append (i-cons x i) j = i-cons x (items-append i j)
 
-  pub items-remove : (h : ℕ) {a : List Item} → Items P a → Items P (remove h a)
-  items-remove h i-nil = i-nil
-  items-remove h (i-cons {e = e} {es = es} x i) = go (is h e) (items-remove h i)
+  pub items-remove : (ok : Item → Bool) {a : List Item} → Items P a → Items P (remove ok a)
+  items-remove ok i-nil = i-nil
+  items-remove ok (i-cons {e = e} {es = es} x i) = go (ok e) (items-remove ok i)
     where
-      go : (t : Bool) → Items P (remove h es) → Items P (cond t (remove h es) (e ∷ remove h es))
+      go : (t : Bool) → Items P (remove ok es) → Items P (cond t (remove ok es) (e ∷ remove ok es))
       go true k = k
       go false k = i-cons x k
 
@@ -101,9 +102,9 @@ module _ {P : Item → Type 0} where
   items-map f h i-nil = i-nil
   items-map f h (i-cons {e = e} x i) = i-cons (h e x) (items-map f h i)
 
-  pub items-get : (h : ℕ) {a : List Item} → Items P a → Each (λ (e : Item). P e × (is h e ≡ true)) (get h a)
-  items-get h i-nil = nothing
-  items-get h (i-cons {e = e} x i) = each-cond (is h e) (λ k. just (x, k)) (items-get h i)
+  pub items-get : (ok : Item → Bool) {a : List Item} → Items P a → Each (λ (e : Item). P e × (ok e ≡ true)) (get ok a)
+  items-get ok i-nil = nothing
+  items-get ok (i-cons {e = e} x i) = each-cond (ok e) (λ k. just (x, k)) (items-get ok i)
 
 -- ---- bytes
 
@@ -140,7 +141,19 @@ item-ok h {d} y = record { written = written-item h d (y .bytes); short = omega 
 holding-ok : (h : ℕ) (e : Item) {d : List ℕ} → is h e ≡ true → ItemOk e → Data relocLimit d → ItemOk (holding e d)
 holding-ok h e {d} q k y = record { written = written-holding e d (k .written) (y .bytes); short = omega (arith, y .short, is-header h e q) }
 
-alter-data : (h : ℕ) (f : List ℕ → List ℕ) → ((l : List ℕ) → Data relocLimit l → Data relocLimit (f l)) → (e : Item) → ItemOk e → ItemOk (alter h f e)
+-- a new page
+page-ok : (n ck c : ℕ) → n < argumentRange → c ≤ pageLimit → ck < stampRange → ItemOk (newPage n ck c)
+page-ok n ck c i l k = record { written = (bytes-zeros (up4 c), (i, k)); short = omega (arith, length-replicate {A = ℕ} (up4 c) 0) }
+
+-- a block changed
+changed-ok : (ok : Item → Bool) (f : Item → Item) → Changes f → (e : Item) → ItemOk e → ItemOk (alter ok f e)
+changed-ok ok f y e d = go (ok e)
+  where
+    go : (t : Bool) → ItemOk (cond t (f e) e)
+    go true = record { written = y .writes e (d .written); short = omega (arith, y .long e, d .short) }
+    go false = d
+
+alter-data : (h : ℕ) (f : List ℕ → List ℕ) → ((l : List ℕ) → Data relocLimit l → Data relocLimit (f l)) → (e : Item) → ItemOk e → ItemOk (alter (is h) (onData f) e)
 alter-data h f k e d = go (is h e) refl
   where
     go : (t : Bool) → is h e ≡ t → ItemOk (cond t (holding e (f (e .bytes))) e)
@@ -163,8 +176,8 @@ new-fixed-ok n end b lim = record { holds = zeros-data (n - fixedHeader) fixedLi
 put-ok : (i : Item) → ItemOk i → (b : List Cell) → leb (itemSize i) (baySum b) ≡ true → BayOk b → BayOk (put i b)
 put-ok i d b t p = items-perm (Permᴰ·symm (put-keeps i b (leb-true (itemSize i) (baySum b) t) .perm)) (i-cons d p)
 
-release-ok : (h : ℕ) (b : List Cell) → BayOk b → BayOk (release h b)
-release-ok h b p = rw (release-items h b) (items-remove h p)
+release-ok : (ok : Item → Bool) (b : List Cell) → BayOk b → BayOk (release ok b)
+release-ok ok b p = rw (release-items ok b) (items-remove ok p)
 
 join-ok : (b c : List Cell) (n : ℕ) → BayOk b → BayOk c → BayOk (joinBays b (gap n c))
 join-ok b c n p q = rw (items-weld b (gap n c), items-gap n c) (items-append p q)
@@ -174,15 +187,18 @@ clean-closed = record {
   low = λ z h hs c lim q g. each-weaken (λ b r. record { clean = r }) (every-low _ (put (newItem h c)) (λ b t p. put-ok (newItem h c) (item-ok h (zeros-data (up4 c) relocLimit (omega arith))) b t p) (g .clean));
   high = λ z n b lim g. each-weaken (λ r q. record { clean = q })
       (every-high _ (takeHigh n) (newFixed n) [] _ (z .len) (λ b t p. rw (cut-less n b (leb-true n (baySum b) t) .same) p) (λ end. new-fixed-ok n end b lim) i-nil (g .clean));
-  drop = λ z h g. each-weaken (λ e u. record { clean = every-map (release h) (release-ok h) (g .clean) }) (any (lookup h z));
+  drop = λ z h g. each-weaken (λ e u. record { clean = every-map (release (is h)) (release-ok (is h)) (g .clean) }) (any (lookup h z));
   join = λ z p g. each-weaken (λ b q. record { clean = q }) (every-join _ _ (λ b c x r q s. join-ok b c (fsize x) r s) (g .clean));
-  edit = λ z h f y g. record { clean = every-map (edit h f) (λ b p. rw (edit-items h f b) (items-map (alter h f) (alter-data h f (feed-data relocLimit f (y .long) y)) p)) (g .clean) };
+  edit = λ z ok f y g. record { clean = every-map (edit ok f) (λ b p. rw (edit-items ok f b) (items-map (alter ok f) (changed-ok ok f y) p)) (g .clean) };
   edit-fixed = λ z p f y g. record { clean = every-fixed (alterFixed p f) (alter-fixed-ok p f (y .long) y) (g .clean) };
   resize = λ z h a q g. each-weaken (λ e d lim. each-weaken (λ b r. record { clean = r })
-      (each-orElse (every-low (own h a) (reshape h a) (λ b t p. rw (own-shaped h a b t .same) (items-map (alter h (sized a)) (alter-data h (sized a) (λ l d. sized-data a relocLimit l lim (d .bytes))) p)) (g .clean))
-      (every-low _ (put (resized a e)) (λ b t p. put-ok (resized a e) (holding-ok h e (d .1) (d .0) (sized-data a relocLimit (e .bytes) lim (bytes-of e (d .0 .written)))) b t p) (every-map (release h) (release-ok h) (g .clean)))))
-      (every-find (λ (e : Item). ItemOk e × (is h e ≡ true)) (λ (b : List Cell). get h (items b)) (λ b p. items-get h p) (g .clean));
+      (each-orElse (every-low (own h a) (reshape h a) (λ b t p. rw (own-shaped h a b t .same) (items-map (alter (is h) (onData (sized a))) (alter-data h (sized a) (λ l d. sized-data a relocLimit l lim (d .bytes))) p)) (g .clean))
+      (every-low _ (put (resized a e)) (λ b t p. put-ok (resized a e) (holding-ok h e (d .1) (d .0) (sized-data a relocLimit (e .bytes) lim (bytes-of e (d .0 .written)))) b t p) (every-map (release (is h)) (release-ok (is h)) (g .clean)))))
+      (every-find (λ (e : Item). ItemOk e × (is h e ≡ true)) (λ (b : List Cell). get (is h) (items b)) (λ b p. items-get (is h) p) (g .clean));
   compactBay = λ z g. record { clean = every-map compactBay (λ b p. rw (tidy-items b) p) (g .clean) };
   grow = λ z n q l o g. record { clean = every-last _ (λ p. join-ok (lastS (z .bays)) [] n p i-nil) (g .clean) };
   takeHigh = λ z j n q g. record { clean = every-last _ (λ p. rw (cut-less n (lastS (z .bays)) (omega (arith, q)) .same) p) (g .clean) };
+  page = λ z n ck c i lim k a g. each-weaken (λ b r. record { clean = r }) (every-low _ (put (newPage n ck c)) (λ b t p. put-ok (newPage n ck c) (page-ok n ck c i lim k) b t p) (g .clean));
+  clear = λ z ok f g. record { clean = every-map (release ok) (release-ok ok) (g .clean) };
+  step = λ z g. record { clean = g .clean };
 }

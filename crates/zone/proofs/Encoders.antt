@@ -13,7 +13,7 @@ use Rattle.format.specs.WellFormed.{offsets}
 use Rattle.block_type.specs.Limits.{masterSize, typeUnit, zoneHeader, fixedCode, freeHeader}
 use Rattle.bigendian.specs.BigEndian.{toBE}
 use Rattle.structure.specs.Structure as Shape
-use Rattle.structure.specs.Structure.{Block, fixed, count, fixedTag, encodeBlock, placeOf, headOf, value, words, join, encode}
+use Rattle.structure.specs.Structure.{Block, fixed, count, start, fixedTag, encodeBlock, placeOf, headOf, value, words, join, encode}
 use Rattle.calls.specs.Bays.{Bays, last, more, orElse}
 use Rattle.bay.specs.Counted as Counted
 use Rattle.bay.specs.Counted.{live}
@@ -52,14 +52,14 @@ strip-bytes (more b x s) =
 
 -- ---- masters
 
-place-bay : (h p : ℕ) (cs : List Cell) (r : List Block) → placeOf h p (flatBay cs r) ≡ Option·getD (whereIn h p cs) (placeOf h (p + baySize cs) r)
+place-bay : (h p : ℕ) (cs : List Cell) (r : List Block) → placeOf (is h) p (flatBay cs r) ≡ Option·getD (whereIn h p cs) (placeOf (is h) (p + baySize cs) r)
 unfolding placeOf
-place-bay h p [] r = ap (λ (q : ℕ). placeOf h q r) (sym (add-zero p))
-place-bay h p (free n ∷ cs) r = place-bay h (p + n) cs r ∙ ap (λ (q : ℕ). Option·getD (whereIn h (p + n) cs) (placeOf h q r)) (add-assoc p n (baySize cs))
-place-bay h p (held e ∷ cs) r = go (is h e) (place-bay h (p + itemSize e) cs r ∙ ap (λ (q : ℕ). Option·getD (whereIn h (p + itemSize e) cs) (placeOf h q r)) (add-assoc p (itemSize e) (baySize cs)))
+place-bay h p [] r = ap (λ (q : ℕ). placeOf (is h) q r) (sym (add-zero p))
+place-bay h p (free n ∷ cs) r = place-bay h (p + n) cs r ∙ ap (λ (q : ℕ). Option·getD (whereIn h (p + n) cs) (placeOf (is h) q r)) (add-assoc p n (baySize cs))
+place-bay h p (held e ∷ cs) r = go (is h e) (place-bay h (p + itemSize e) cs r ∙ ap (λ (q : ℕ). Option·getD (whereIn h (p + itemSize e) cs) (placeOf (is h) q r)) (add-assoc p (itemSize e) (baySize cs)))
   where
-    go : (t : Bool) → placeOf h (p + itemSize e) (flatBay cs r) ≡ Option·getD (whereIn h (p + itemSize e) cs) (placeOf h (p + (itemSize e + baySize cs)) r)
-        → cond t (p + headerOf e) (placeOf h (p + itemSize e) (flatBay cs r)) ≡ Option·getD (cond t (some (p + headerOf e)) (whereIn h (p + itemSize e) cs)) (placeOf h (p + (itemSize e + baySize cs)) r)
+    go : (t : Bool) → placeOf (is h) (p + itemSize e) (flatBay cs r) ≡ Option·getD (whereIn h (p + itemSize e) cs) (placeOf (is h) (p + (itemSize e + baySize cs)) r)
+        → cond t (p + headerOf e) (placeOf (is h) (p + itemSize e) (flatBay cs r)) ≡ Option·getD (cond t (some (p + headerOf e)) (whereIn h (p + itemSize e) cs)) (placeOf (is h) (p + (itemSize e + baySize cs)) r)
     go true q = refl
     go false q = q
 
@@ -67,7 +67,7 @@ getD-orElse : (a b : Option ℕ) → Option·getD (orElse a b) 0 ≡ Option·get
 getD-orElse none b = refl
 getD-orElse (some x) b = refl
 
-pub place-strip : (h p : ℕ) (s : Bays (List Cell) Fixed) → placeOf h p (flatten s) ≡ Option·getD (whereS h p s) 0
+pub place-strip : (h p : ℕ) (s : Bays (List Cell) Fixed) → placeOf (is h) p (flatten s) ≡ Option·getD (whereS h p s) 0
 unfolding placeOf
 place-strip h p (last b) = place-bay h p b []
 place-strip h p (more b x s) =
@@ -92,13 +92,13 @@ next-none h (k ∷ ks) e = go (eqb h k) (next-none h ks) e
     go true f q = absurd (omega arith)
     go false f q = f q
 
-where-count : (h p : ℕ) (cs : List Cell) → Each (λ (q : ℕ). 1 ≤ Counted.count h (items cs)) (whereIn h p cs)
+where-count : (h p : ℕ) (cs : List Cell) → Each (λ (q : ℕ). 1 ≤ Counted.count (is h) (items cs)) (whereIn h p cs)
 where-count h p [] = nothing
 where-count h p (free n ∷ cs) = where-count h (p + n) cs
 where-count h p (held e ∷ cs) = go (is h e) (where-count h (p + itemSize e) cs)
   where
-    go : (t : Bool) → Each (λ (q : ℕ). 1 ≤ Counted.count h (items cs)) (whereIn h (p + itemSize e) cs)
-        → Each (λ (q : ℕ). 1 ≤ cond t (suc (Counted.count h (items cs))) (Counted.count h (items cs))) (cond t (some (p + headerOf e)) (whereIn h (p + itemSize e) cs))
+    go : (t : Bool) → Each (λ (q : ℕ). 1 ≤ Counted.count (is h) (items cs)) (whereIn h (p + itemSize e) cs)
+        → Each (λ (q : ℕ). 1 ≤ cond t (suc (Counted.count (is h) (items cs))) (Counted.count (is h) (items cs))) (cond t (some (p + headerOf e)) (whereIn h (p + itemSize e) cs))
     go true k = just (omega arith)
     go false k = k
 
@@ -110,11 +110,15 @@ module _ (z : Zone) (w : Whole z) where
   pub master-is : (h : ℕ) → masterOf (w .m) z h ≡ value (inLine z) h
   master-is h =
       both (whereS h (zoneHeader + masterSize * w .m) (z .bays)) (where-live h (zoneHeader + masterSize * w .m) (z .bays))
-      ∙ ap₂ _+_ (sym (place-strip h (zoneHeader + masterSize * w .m) (z .bays)) ∙ ap (λ (m : ℕ). placeOf h (zoneHeader + masterSize * m) (flatten (z .bays))) (sym (count-line z w))) (next-is h (z .chain))
+      ∙ ap₂ _+_ (sym (place-strip h (zoneHeader + masterSize * w .m) (z .bays)) ∙ ap (λ (m : ℕ). placeOf (is h) (zoneHeader + masterSize * m) (flatten (z .bays))) (sym (count-line z w))) (next-is h (z .chain))
     where
       both : (o : Option ℕ) → Each (λ (q : ℕ). 1 ≤ live h (z .bays)) o → Option·getD o (Old.nextOf h (z .chain)) ≡ Option·getD o 0 + Old.nextOf h (z .chain)
       both none nothing = omega arith
       both (some q) (just l) = omega (arith, next-none h (z .chain) (omega (arith, w .owned .owns h, occurs-once h zoneHeader (w .m))))
+
+  -- of a live handle: its block's data
+  pub value-live : (h : ℕ) → 1 ≤ live h (z .bays) → value (inLine z) h ≡ placeOf (is h) (start (inLine z)) (flatten (z .bays))
+  value-live h l = omega (arith, next-is h (z .chain), next-none h (z .chain) (omega (arith, w .owned .owns h, occurs-once h zoneHeader (w .m))))
 
   table-is : (hs : List ℕ) → masterBytes (w .m) z hs ≡ words (value (inLine z)) hs
   unfolding words
@@ -127,7 +131,7 @@ module _ (z : Zone) (w : Whole z) where
       ap₂ (λ (a b : List ℕ). a ++ b) (big-is 4 (z .len) ∙ ap (toBE 4) (sym (len-line z w)))
       (ap₂ (λ (a b : List ℕ). a ++ b) (big-is 4 (zoneHeader + masterSize * w .m) ∙ ap (λ (m : ℕ). toBE 4 (zoneHeader + masterSize * m)) (sym (count-line z w)))
       (ap₂ (λ (a b : List ℕ). a ++ b) (big-is 4 (w .m) ∙ ap (toBE 4) (sym (count-line z w)))
-      (ap (λ (a : List ℕ). a ++ (0 ∷ 0 ∷ [])) (big-is 2 (headOr0 (z .chain)) ∙ ap (toBE 2) (head-is (z .chain))))))
+      (ap (λ (a : List ℕ). a ++ (z .clock ∷ 0 ∷ [])) (big-is 2 (headOr0 (z .chain)) ∙ ap (toBE 2) (head-is (z .chain))))))
 
   pub encoders : zoneBytes (w .m) z ≡ encode (inLine z)
   unfolding encode

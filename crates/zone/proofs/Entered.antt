@@ -7,13 +7,13 @@ use Prim.Native.Nat.{ℕ, _+_, _*_, _/_, _≤_, min}
 use native.Mathlib.Omega.{arith}
 use lib.ListN.{length, length-drop}
 use lib.Dec.{eqb}
-use Rattle.calls.specs.Calls.{Call, allocate-relocatable, allocate-fixed, free-handle, free-pointer, resize, size, read, write, view, compact, sums, check, length-of, enlarge, shrink, roster}
+use Rattle.calls.specs.Calls.{Call, allocate-relocatable, allocate-fixed, free-handle, free-pointer, resize, size, read, write, view, compact, sums, check, length-of, enlarge, shrink, roster, on-page, PageCall, create-page, use-page, mark-page, drop-page}
 use Rattle.calls.specs.Bays.{lastS}
 use Rattle.calls.specs.State.{Out}
 use Rattle.calls.specs.Table.{isEmpty}
 use Rattle.bay.specs.Bay.{Cell, baySum}
 use Rattle.bay.proofs.Each.{cond-one}
-use Rattle.zone.specs.Work.{Zone, moreMasters, withMaster, work, strip}
+use Rattle.zone.specs.Work.{Zone, moreMasters, withMaster, work, strip, pageWork}
 use Rattle.zone.proofs.WithMaster.{with-long}
 
 -- u is the zone after the call: an allocation has taken one free handle at most, and no other call any
@@ -23,6 +23,12 @@ pub data Starts (z u : Zone) : Call → Type 0 where
 
 pub strip-chain : (n : ℕ) (z : Zone) → (strip n z) .next .chain ≡ z .chain
 strip-chain n z = cond-one (λ (o : Out (List Cell)). o .next .chain) (eqb n 0) refl refl
+
+pub page-chain : (n : ℕ) (p : PageCall) (z : Zone) → (pageWork n p z) .next .chain ≡ z .chain
+page-chain n (create-page c) z = refl
+page-chain n use-page z = refl
+page-chain n (mark-page m) z = refl
+page-chain n drop-page z = refl
 
 abbrev pub starts : (c : Call) (z : Zone) → Starts z ((work c z) .next) c
 starts (allocate-relocatable c) z = with-handle c (omega (arith, with-long z, length-drop 1 (withMaster z .chain)))
@@ -41,6 +47,7 @@ starts length-of z = as-it-is (omega arith)
 starts (enlarge k) z = as-it-is (omega arith)
 starts (shrink k) z = as-it-is (omega (arith, ap length (strip-chain (min (k / 4 * 4) (baySum (lastS (z .bays)))) z)))
 starts (roster second) z = as-it-is (omega arith)
+starts (on-page n p) z = as-it-is (omega (arith, ap length (page-chain n p z)))
 
 -- what the work starts from
 abbrev pub from : {z u : Zone} {c : Call} → Starts z u c → Zone

@@ -8,7 +8,7 @@ use lib.ListN.{length, drop}
 use Rattle.bigendian.specs.BigEndian.{fromBE}
 use Rattle.bigendian.proofs.Parts.{slice-take}
 use Rattle.block_type.specs.Limits.{zoneHeader, firstBlock, chainAt}
-use Rattle.format.specs.WellFormed.{lengthField, firstField, mastersField, chainField, splitBlocks, relocs, chain, zoneOf}
+use Rattle.format.specs.WellFormed.{lengthField, firstField, mastersField, chainField, splitBlocks, relocs, chain, zoneOf, clockField}
 use Rattle.format.proofs.Chain.{length-chain}
 use Rattle.structure.specs.Structure.{Structure, count, headOf, decodeZone, decode}
 use Rattle.structure.proofs.Round.{heads, offset-is}
@@ -35,6 +35,9 @@ module _ (bs : List ℕ) (z : Zone) (w : Whole z) (s : Stored bs z) where
 
   pub first-read : firstField bs ≡ firstBlock (masterCount items z)
   first-read = ap firstField (s .split) ∙ heads (inLine z) (valid-line z w) (drop (z .len) bs) .is-first ∙ ap firstBlock many
+
+  pub clock-read : clockField bs ≡ z .clock
+  clock-read = ap clockField (s .split) ∙ heads (inLine z) (valid-line z w) (drop (z .len) bs) .is-clock
 
   pub chain-read : chainField bs ≡ headOf (z .chain)
   chain-read = ap chainField (s .split) ∙ heads (inLine z) (valid-line z w) (drop (z .len) bs) .is-chain

@@ -1,12 +1,12 @@
 -- A bay of a zone and a bay of the ledger that are one: the size is the capacity, and the relocatable blocks are the entries up to order.
 -- Each change of a bay that a call makes keeps it.
 use mathlib.Core.Path.{_≡_, refl, ap, ap₂, _∙_, sym}
-use mathlib.Core.Bool.{true, cond}
+use mathlib.Core.Bool.{Bool, true, cond}
 use mathlib.Core.List.{List, [], _∷_, _++_, map, List·Permᴰ, List·Permᴰ·nil, List·Permᴰ·cons, List·Permᴰ·trans, Permᴰ·append-left, Permᴰ·append-right, Permᴰ·append-nil}
 use Prim.Native.Nat.{ℕ, _+_, _%_, _≤_}
 use native.Mathlib.Omega.{arith}
 use lib.ListN.{length}
-use Rattle.kinds.specs.Kinds.{Item, itemSize, is}
+use Rattle.kinds.specs.Kinds.{Item, itemSize, is, onData}
 use Rattle.calls.specs.State.{alter, get, sized, Fixed, fsize}
 use Rattle.calls.proofs.Counted.{alter-none}
 use Rattle.ledger.specs.Ledger.{Bay, bay, sumOf, onEntries, without, less}
@@ -32,9 +32,9 @@ pub record Equal (x y : Fixed) : Type 0 where
 
 -- ---- what the ledger says of entries is what the zone's laws say of items
 
-pub without-is : (h : ℕ) (es : List Item) → without h es ≡ remove h es
-without-is h [] = refl
-without-is h (e ∷ es) = ap₂ (cond (is h e)) (without-is h es) (ap (e ∷_) (without-is h es))
+pub without-is : (ok : Item → Bool) (es : List Item) → without ok es ≡ remove ok es
+without-is ok [] = refl
+without-is ok (e ∷ es) = ap₂ (cond (ok e)) (without-is ok es) (ap (e ∷_) (without-is ok es))
 
 -- ---- one bay
 
@@ -42,11 +42,11 @@ module _ {b : List Cell} {c : Bay} (r : Fits b c) where
   pub same-sum : baySum b ≡ sumOf c
   same-sum = omega (arith, bsize-split b, perm-total (r .perm), r .size)
 
-  pub same-get : (h : ℕ) → count h (items b) ≤ 1 → get h (items b) ≡ get h (c .entries)
-  same-get h n = perm-get h (r .perm) n
+  pub same-get : (ok : Item → Bool) → count ok (items b) ≤ 1 → get ok (items b) ≡ get ok (c .entries)
+  same-get ok n = perm-get ok (r .perm) n
 
-  pub same-count : (h : ℕ) → count h (c .entries) ≡ count h (items b)
-  same-count h = sym (perm-count h (r .perm))
+  pub same-count : (ok : Item → Bool) → count ok (c .entries) ≡ count ok (items b)
+  same-count ok = sym (perm-count ok (r .perm))
 
   pub put-fits : (e : Item) → Block (itemSize e) → itemSize e ≤ baySum b → Fits (put e b) (onEntries (e ∷_) c)
   put-fits e k h = record {
@@ -55,24 +55,24 @@ module _ {b : List Cell} {c : Bay} (r : Fits b c) where
     sound = put-sound e k (r .sound);
   }
 
-  pub release-fits : (h : ℕ) → Fits (release h b) (onEntries (without h) c)
-  release-fits h = record {
-    size = release-size h b ∙ r .size;
-    perm = rw (release-items h b, without-is h (c .entries)) (perm-remove h (r .perm));
-    sound = release-sound h (r .sound);
+  pub release-fits : (ok : Item → Bool) → Fits (release ok b) (onEntries (without ok) c)
+  release-fits ok = record {
+    size = release-size ok b ∙ r .size;
+    perm = rw (release-items ok b, without-is ok (c .entries)) (perm-remove ok (r .perm));
+    sound = release-sound ok (r .sound);
   }
 
-  pub edit-fits : (h : ℕ) (f : List ℕ → List ℕ) → ((l : List ℕ) → length (f l) ≡ length l) → Fits (edit h f b) (onEntries (map (alter h f)) c)
-  edit-fits h f q = record { size = edit-size h f q b ∙ r .size; perm = rw edit-items (perm-map (alter h f) (r .perm)); sound = edit-sound h f q (r .sound) }
+  pub edit-fits : (ok : Item → Bool) (g : Item → Item) → ((e : Item) → itemSize (g e) ≡ itemSize e) → Fits (edit ok g b) (onEntries (map (alter ok g)) c)
+  edit-fits ok g q = record { size = edit-size ok g q b ∙ r .size; perm = rw edit-items (perm-map (alter ok g) (r .perm)); sound = edit-sound ok g q (r .sound) }
 
-  pub reshape-fits : (h a : ℕ) → a % 4 ≡ 0 → own h a b ≡ true → Fits (reshape h a b) (onEntries (map (alter h (sized a))) c)
+  pub reshape-fits : (h a : ℕ) → a % 4 ≡ 0 → own h a b ≡ true → Fits (reshape h a b) (onEntries (map (alter (is h) (onData (sized a)))) c)
   reshape-fits h a q t =
       let k = own-shaped h a b t in
-      record { size = k .size ∙ r .size; perm = rw (k .same) (perm-map (alter h (sized a)) (r .perm)); sound = reshape-sound h a q (r .sound) }
+      record { size = k .size ∙ r .size; perm = rw (k .same) (perm-map (alter (is h) (onData (sized a))) (r .perm)); sound = reshape-sound h a q (r .sound) }
 
   -- a bay that has not the handle
-  pub absent-fits : (h : ℕ) (f : List ℕ → List ℕ) → count h (items b) ≡ 0 → Fits b (onEntries (map (alter h f)) c)
-  absent-fits h f n = record { size = r .size; perm = rw (alter-none h f (c .entries) (same-count h ∙ n)) (r .perm); sound = r .sound }
+  pub absent-fits : (h : ℕ) (f : List ℕ → List ℕ) → count (is h) (items b) ≡ 0 → Fits b (onEntries (map (alter (is h) (onData f))) c)
+  absent-fits h f n = record { size = r .size; perm = rw (alter-none (is h) (onData f) (c .entries) (same-count (is h) ∙ n)) (r .perm); sound = r .sound }
 
   pub high-fits : (n : ℕ) → n % 4 ≡ 0 → n ≤ baySum b → Fits (takeHigh n b) (less n c)
   high-fits n q h = record { size = omega (arith, cut-less n b h .size, r .size); perm = rw (cut-less n b h .same) (r .perm); sound = cut-sound n q h (r .sound) }
@@ -93,7 +93,7 @@ module _ {b : List Cell} {c : Bay} (r : Fits b c) where
 pub fresh-fits : (n : ℕ) → n % 4 ≡ 0 → Fits (gap n []) (bay n [])
 fresh-fits n q = record { size = omega (arith, bsize-gap n []); perm = rw (items-gap n []) List·Permᴰ·nil; sound = gap-sound n q s-nil }
 
-perm-append : {a b c d : List Item} → List·Permᴰ a b → List·Permᴰ c d → List·Permᴰ (a ++ c) (b ++ d)
+pub perm-append : {a b c d : List Item} → List·Permᴰ a b → List·Permᴰ c d → List·Permᴰ (a ++ c) (b ++ d)
 perm-append {b = b} {c = c} p q = List·Permᴰ·trans (Permᴰ·append-right c p) (Permᴰ·append-left b q)
 
 pub join-fits : (n : ℕ) → n % 4 ≡ 0 → {b b′ : List Cell} {c c′ : Bay} → Fits b c → Fits b′ c′ → Fits (joinBays b (gap n b′)) (bay (c .capacity + n + c′ .capacity) (c .entries ++ c′ .entries))

@@ -10,7 +10,7 @@ use lib.ListN.{length}
 use lib.Dec.{eqb, leb}
 use Rattle.block_type.specs.Limits.{relocHeader}
 use Rattle.calls.specs.Bays.{Bays, last, more, over, orElse, onLowest, mapS, findF, maxS}
-use Rattle.kinds.specs.Kinds.{Item, item}
+use Rattle.kinds.specs.Kinds.{Item, item, is}
 use Rattle.calls.specs.State.{get, Fixed, fsize, pointer, newFixed, cutHigh, joinOver, joinAt, ownSum}
 use Rattle.calls.specs.Table.{below, isNone}
 use Rattle.zone.specs.PickBays.{onLow, onHigh, glue, onJoin}
@@ -87,7 +87,7 @@ module _ {B : Type 0} (j : B → ℕ → B → B) where
 module _ (h a : ℕ) where
   own-only : (s : Bays (List Cell) Fixed) → live h s ≤ 1 → Only (onLowest (has h) (reshape h a) s) (ownChanged h a s)
   own-only (last b) n = one-only (own h a b) _
-  own-only (more b x s) n = go (count h (items b)) (get h (items b)) (count-get h (items b) (omega arith)) n (λ l. own-only s l)
+  own-only (more b x s) n = go (count (is h) (items b)) (get (is h) (items b)) (count-get (is h) (items b) (omega arith)) n (λ l. own-only s l)
     where
       go : (k : ℕ) (o : Option Item) → k ≡ often o → k + live h s ≤ 1 → (live h s ≤ 1 → Only (onLowest (has h) (reshape h a) s) (ownChanged h a s))
           → Only (cond (not (isNone o)) (more (reshape h a b) x s) (more b x (onLowest (has h) (reshape h a) s)))
@@ -113,7 +113,7 @@ resize-only h a d s n q =
     go (leb (a - length d) (ownSum items baySum h s))
     (subst (λ (o : Option Item). Missing (not (roomFor a (ownSum items baySum h s) o)) (ownChanged h a s)) q (own-missing h a s n))
     (own-only h a s n)
-    (low-only _ _ (mapS (release h) s))
+    (low-only _ _ (mapS (release (is h)) s))
   where
     go : (u : Bool) {v w : Bays (List Cell) Fixed} {o p : Option (Bays (List Cell) Fixed)} → Missing (not u) o → Only v o → Only w p → Only (cond u v w) (orElse o p)
     go true there yes k = yes

@@ -6,11 +6,10 @@ use Prim.Native.Nat.{ℕ, _+_, _-_}
 use native.Mathlib.Omega.{arith}
 use lib.ListN.{length}
 use Rattle.bigendian.specs.BigEndian.{Bytes}
-use Rattle.bigendian.proofs.Bytes.{bytes-none}
 use Rattle.block_type.specs.Limits.{firstBlock, masterSize, addedMasters}
 use Rattle.format.specs.WellFormed.{mastersField, chainField, chain, offsets, zoneOf}
 use Rattle.format.proofs.Count.{length-offsets}
-use Rattle.calls.specs.Calls.{Target, by-handle, by-pointer, allocate-relocatable, size, Answer}
+use Rattle.calls.specs.Calls.{Target, by-handle, by-pointer, by-name, allocate-relocatable, size, Answer}
 use Rattle.calls.specs.Bays.{over}
 use Rattle.calls.specs.State.{masterCount, content, top, rest}
 use Rattle.calls.specs.Table.{isNone, isEmpty, refusalOf}
@@ -38,10 +37,11 @@ use Rattle.zone.proofs.Chain.{no-growth}
 named : (t : Target) (z : Zone) → refusalOf (size t) (facts true z) ≡ 0 → isNone (over length (content items t (z .bays))) ≡ false
 named (by-handle h) z e = or-left _ _ (passed (size (by-handle h)) z e 6 refl)
 named (by-pointer p) z e = or-left _ _ (passed (size (by-pointer p)) z e 7 refl)
+named (by-name n) z e = or-left _ _ (passed (size (by-name n)) z e 13 refl)
 
 module _ (c : ℕ) (bs after : List ℕ) (a : Answer) (y : Bytes bs) (p : Promise (allocate-relocatable c) bs a after) (d : a .number ≡ 0) (f : chainField bs ≡ 0) where
   k : Accepted (allocate-relocatable c) bs
-  k = accepted (allocate-relocatable c) bs (λ n. refl) refl (sym (ap (λ (r : Result). r .answer .number) p) ∙ d)
+  k = accepted (allocate-relocatable c) bs (λ n v. refl) refl (sym (ap (λ (r : Result). r .answer .number) p) ∙ d)
 
   abbrev z : Zone
   z = zoneIn bs
@@ -56,10 +56,10 @@ module _ (c : ℕ) (bs after : List ℕ) (a : Answer) (y : Bytes bs) (p : Promis
   u = (work (allocate-relocatable c) z) .next
 
   w′ : Whole u
-  w′ = work-whole (allocate-relocatable c) z bytes-none w (k .passed)
+  w′ = work-whole (allocate-relocatable c) z tt w (k .passed)
 
   s′ : Stored after u
-  s′ = subst (λ (b : List ℕ). Stored b u) (sym (ap (λ (r : Result). r .bytes) p)) (work-stored bs y (k .well) (allocate-relocatable c) bytes-none (k .passed))
+  s′ = subst (λ (b : List ℕ). Stored b u) (sym (ap (λ (r : Result). r .bytes) p)) (work-stored bs y (k .well) (allocate-relocatable c) tt (k .passed))
 
   none : z .chain ≡ []
   none = none-free bs z w s f
@@ -70,7 +70,7 @@ module _ (c : ℕ) (bs after : List ℕ) (a : Answer) (y : Bytes bs) (p : Promis
   more : mastersField after ≡ mastersField bs + addedMasters
   more =
       masters-read after u w′ s′
-      ∙ work-masters (allocate-relocatable c) z bytes-none w (k .passed)
+      ∙ work-masters (allocate-relocatable c) z tt w (k .passed)
       ∙ ap (masterCount items) grows
       ∙ more-masters z none
       ∙ ap (_+ addedMasters) (sym (masters-read bs z w s))

@@ -7,17 +7,17 @@ use native.Mathlib.Omega.{arith}
 use lib.ListN.{length}
 use Rattle.format.specs.Occurs.{occurs}
 use Rattle.block_type.specs.Limits.{fixedHeader, zoneHeader}
-use Rattle.structure.specs.Structure.{Structure, Block, fixed, sizes, count, start, len, cell, handlesOf}
+use Rattle.structure.specs.Structure.{Structure, Block, fixed, sizes, count, start, len, cell, handlesOf, namesIn}
 use Rattle.structure.specs.Valid.{Tiled, Valid}
-use Rattle.calls.specs.Bays.{Bays, last, more}
+use Rattle.calls.specs.Bays.{Bays, last, more, mapS}
 use Rattle.zone.specs.PickBays.{AllS}
-use Rattle.kinds.specs.Kinds.{Item, itemSize}
-use Rattle.calls.specs.State.{Fixed, masterCount}
-use Rattle.bay.specs.Bay.{Cell, free, held, items}
+use Rattle.kinds.specs.Kinds.{Item, itemSize, is}
+use Rattle.calls.specs.State.{Fixed, masterCount, withBays}
+use Rattle.bay.specs.Bay.{Cell, free, held, items, release}
 use Rattle.bay.proofs.Sound as Sound
 use Rattle.bay.proofs.Sound.{Sound, s-nil, s-end, s-free, s-held}
 use Rattle.bigendian.specs.BigEndian.{Bytes}
-use Rattle.calls.specs.Calls.{Call, beside, secondOf}
+use Rattle.calls.specs.Calls.{Call, beside, Given}
 use Rattle.calls.specs.Table.{refusalOf}
 use Rattle.bay.specs.Counted.{live}
 use Rattle.zone.proofs.Handles.{Owns, owns-closed, occurs-once}
@@ -32,11 +32,13 @@ use Rattle.zone.specs.Group.{inFront, group}
 use Rattle.zone.proofs.GroupLaws.{flatten-group}
 use Rattle.zone.specs.Work.{Zone, facts, work}
 use Rattle.zone.specs.Call.{inBays, inLine}
-use Rattle.zone.proofs.Keep.{Whole, live-strip, occurs-same, masters-same, masters-are}
+use Rattle.kinds.proofs.KindLaws as Kind
+use Rattle.zone.proofs.Names.{Apart, apart-closed, Ticks, ticks-closed}
+use Rattle.zone.proofs.Keep.{Whole, live-strip, occurs-same, masters-same, masters-are, names-strip}
 use Rattle.zone.proofs.MoreMasters.{entered-whole}
 
 pub line-bays : (buf : ℕ) (s : Structure) → inLine (inBays buf s) ≡ s
-line-bays buf s = λ i. record { chain = s .chain; blocks = flatten-group (start s) (s .blocks) i }
+line-bays buf s = λ i. record { clock = s .clock; chain = s .chain; blocks = flatten-group (start s) (s .blocks) i }
 
 -- ---- places
 
@@ -72,7 +74,7 @@ sound-group prev p [] t = (s-nil, λ e n b. s-end b)
 sound-group prev p (cell (free n) ∷ bs) t = (sound-group true (p + n) bs (t .4) .1 refl n (omega (arith, t .1, t .2)), λ e. absurd (false≢true (sym (t .0) ∙ e)))
 sound-group prev p (cell (held it) ∷ bs) t =
     let r = sound-group false (p + itemSize it) bs (t .3) .0 in
-    let k : Sound.Block (itemSize it) = omega (arith, t .0) in
+    let k : Sound.Block (itemSize it) = omega (arith, t .0, Kind.facts it .low) in
     (sound-held it k (group (p + itemSize it) bs) r, λ e n b. sound-both n it b k (group (p + itemSize it) bs) r)
 sound-group prev p (fixed d ∷ bs) t =
     let r = sound-group false (p + (fixedHeader + length d)) bs (t .3) .0 in
@@ -103,16 +105,18 @@ whole-bays buf s v l = record {
   bounded = record { within = l; limit = v .short };
   sound = sound-group false (start s) (s .blocks) (v .tiled) .0;
   clean = record { clean = clean-group false (start s) (s .blocks) (v .tiled) };
+  apart = record { apart = λ n. omega (arith, names-strip n (group (start s) (s .blocks)), ap (λ (bs : List Block). occurs n (namesIn bs)) (flatten-group (start s) (s .blocks)), v .apart n) };
+  ticks = record { byte = v .byte };
 }
 
 -- ---- every call that nothing refuses keeps it
 
 -- what is known of the bays, as the walk through the calls keeps it
-solid-of : {s : Bays (List Cell) Fixed} → AllS Sound s → Every BayOk FixedOk s → Every Sound Sized s
+pub solid-of : {s : Bays (List Cell) Fixed} → AllS Sound s → Every BayOk FixedOk s → Every Sound Sized s
 solid-of d (e-last i) = e-last d
 solid-of d (e-more {x = x} i q r) = e-more {x = x} (d .0) (record { block = omega (arith, q .by4) }) (solid-of (d .1) r)
 
-sound-of : {s : Bays (List Cell) Fixed} → Every Sound Sized s → AllS Sound s
+pub sound-of : {s : Bays (List Cell) Fixed} → Every Sound Sized s → AllS Sound s
 sound-of (e-last d) = d
 sound-of (e-more d q r) = (d, sound-of r)
 
@@ -120,10 +124,24 @@ sound-of (e-more d q r) = (d, sound-of r)
 pub single-live : (z : Zone) (w : Whole z) (h : ℕ) → live h (z .bays) ≤ 1
 single-live z w h = omega (arith, w .owned .owns h, occurs-once h zoneHeader (w .m))
 
-module _ (c : Call) (z : Zone) (y : Bytes (secondOf (beside c))) (w : Whole z) (e : refusalOf c (facts true z) ≡ 0) where
+-- blocks without a handle become free
+pub clear-whole : (z : Zone) (w : Whole z) (ok : Item → Bool) → ((h : ℕ) (e : Item) → is h e ≡ true → ok e ≡ false) → Whole (withBays (mapS (release ok) (z .bays)) z)
+clear-whole z w ok f = record {
+  m = w .m;
+  few = w .few;
+  owned = owns-closed (w .m) .clear z ok f (w .owned);
+  placed = placed-closed (w .m) .clear z ok f (w .placed);
+  bounded = bounded-closed .clear z ok f (w .bounded);
+  sound = sound-of (solid-closed .clear z ok f (record { solid = solid-of (w .sound) (w .clean .clean) }) .solid);
+  clean = clean-closed .clear z ok f (w .clean);
+  apart = apart-closed .clear z ok f (w .apart);
+  ticks = ticks-closed .clear z ok f (w .ticks);
+}
+
+module _ (c : Call) (z : Zone) (y : Given (beside c)) (w : Whole z) (e : refusalOf c (facts true z) ≡ 0) where
   -- what is kept of the zone that the work starts from
   keeps : (P : Zone → Type 0) → Closed P → P (entered c z) → P ((work c z) .next)
-  keeps P k g = work-keeps P k c z y (single-live z w) e g
+  keeps P k g = work-keeps P k c z y (single-live z w) (w .apart .apart) (w .ticks .byte) e g
 
   pub work-whole : Whole ((work c z) .next)
   work-whole =
@@ -136,6 +154,8 @@ module _ (c : Call) (z : Zone) (y : Bytes (secondOf (beside c))) (w : Whole z) (
         bounded = keeps Bounded bounded-closed (v .bounded);
         sound = sound-of (keeps Solid solid-closed (record { solid = solid-of (v .sound) (v .clean .clean) }) .solid);
         clean = keeps Clean clean-closed (v .clean);
+        apart = keeps Apart apart-closed (v .apart);
+        ticks = keeps Ticks ticks-closed (v .ticks);
       }
 
   -- as many masters as it starts with

@@ -7,7 +7,7 @@ use lib.Dec.{eqb}
 use Rattle.bigendian.specs.BigEndian.{Bytes}
 use Rattle.format.specs.WellFormed.{mastersField, chainField, wellFormed}
 use Rattle.structure.specs.Structure.{decode, headOf}
-use Rattle.calls.specs.Calls.{Call, allocate-relocatable, Answer, beside, secondOf, told}
+use Rattle.calls.specs.Calls.{Call, allocate-relocatable, Answer, beside, Given, told}
 use Rattle.bay.proofs.Each.{cond-one}
 use Rattle.zone.specs.Work.{Zone, work}
 use Rattle.zone.specs.Call.{Result, zoneIn, result, outcome, numberOf, call}
@@ -27,7 +27,7 @@ ill-stays c bs i =
     (ap (λ (t : Bool). (cond t (outcome bs (decode bs) (work c (zoneIn bs))) (result (told 0 0) bs)) .bytes) i)
     refl
 
-stays : (c : Call) (bs after : List ℕ) (a : Answer) → Bytes bs → Bytes (secondOf (beside c)) → Promise c bs a after
+stays : (c : Call) (bs after : List ℕ) (a : Answer) → Bytes bs → Given (beside c) → Promise c bs a after
     → ((k : ℕ) → c ≡ allocate-relocatable k → chainField bs ≡ 0 → a .number ≡ 0 → ⊥) → mastersField after ≡ mastersField bs
 stays c bs after a y b p f = go (wellFormed bs) refl
   where

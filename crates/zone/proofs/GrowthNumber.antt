@@ -31,7 +31,7 @@ first-sum : (s : Bays (List Cell) Fixed) → firstOf (sumsS baySum s) ≡ baySum
 first-sum (last b) = refl
 first-sum (more b x s) = refl
 
-largest-sum : (s : Bays (List Cell) Fixed) → largestOf (sumsS baySum s) ≡ maxS baySum s
+pub largest-sum : (s : Bays (List Cell) Fixed) → largestOf (sumsS baySum s) ≡ maxS baySum s
 largest-sum (last b) = omega arith
 largest-sum (more b x s) = ap (max (baySum b)) (largest-sum s)
 

@@ -7,28 +7,29 @@ use native.Mathlib.Omega.{arith}
 use lib.ListN.{length, drop}
 use lib.Dec.{eqb}
 use borrow.Author.Tests.{eqb-true}
-use Rattle.block_type.specs.Limits.{masterSize, zoneHeader}
+use Rattle.block_type.specs.Limits.{masterSize, zoneHeader, firstBlock}
 use Rattle.bigendian.specs.BigEndian.{fromBE, slice}
 use Rattle.format.specs.WellFormed.{masterAt}
-use Rattle.structure.specs.Structure.{encode}
+use Rattle.structure.specs.Structure.{encode, placeOf}
 use Rattle.structure.proofs.Round as Round
 use Rattle.structure.proofs.Round.{offset-is}
 use Rattle.calls.specs.Bays.{Bays, last, more, findF}
-use Rattle.kinds.specs.Kinds.{Item}
-use Rattle.calls.specs.State.{Fixed, pointer}
+use Rattle.kinds.specs.Kinds.{Item, is}
+use Rattle.calls.specs.State.{Fixed, pointer, masterCount}
 use Rattle.zone.specs.Search.{lookup}
+use Rattle.zone.specs.Group.{flatten}
 use Rattle.zone.specs.Work.{Zone}
 use Rattle.zone.specs.Call.{inLine}
 use Rattle.bay.proofs.Each.{Each, nothing, just, each-cond, each-weaken, each-and}
 use Rattle.zone.proofs.Handles.{found}
-use Rattle.bay.specs.Bay.{Cell}
+use Rattle.bay.specs.Bay.{Cell, items}
 use Rattle.bay.specs.Counted.{live}
 use Rattle.zone.proofs.Stands as Old
 use Rattle.zone.proofs.Stands.{AllF}
 use Rattle.zone.proofs.Bytes.{zoneBytes, masterOf, big}
-use Rattle.zone.proofs.Keep.{Whole, valid-line, count-line, masters-same}
+use Rattle.zone.proofs.Keep.{Whole, valid-line, count-line, masters-same, masters-are}
 use Rattle.zone.proofs.Run.{Stored}
-use Rattle.zone.proofs.Encoders.{encoders, master-is}
+use Rattle.zone.proofs.Encoders.{encoders, master-is, value-live}
 
 find-all : (D : Fixed → Type 0) (p : Fixed → Bool) (s : Bays (List Cell) Fixed) → AllF D s → Each (λ (x : Fixed). D x × (p x ≡ true)) (findF p s)
 find-all D p (last b) d = nothing
@@ -53,6 +54,9 @@ module _ (bs : List ℕ) (z : Zone) (w : Whole z) (s : Stored bs z) where
       ap fromBE (Old.stands-read (in-buffer k) ∙ sym (Old.stands-read (in-line k)))
       ∙ Round.master-is (inLine z) (valid-line z w) h (record { low = o .0; fits = omega (arith, count-line z w, o .1); four = o .2 })
       ∙ sym (master-is z w h)
+
+  pub place-read : (h : ℕ) → 1 ≤ live h (z .bays) → masterAt bs h ≡ placeOf (is h) (firstBlock (masterCount items z)) (flatten (z .bays))
+  place-read h l = master-read h l ∙ master-is z w h ∙ value-live z w h l ∙ ap (λ (m : ℕ). placeOf (is h) (firstBlock m) (flatten (z .bays))) (count-line z w ∙ sym (masters-are z w))
 
   -- a live handle's bytes stand from the offset in its master
   pub live-read : (h : ℕ) → Each (λ (e : Item). slice bs (masterAt bs h) (length (e .bytes)) ≡ e .bytes) (lookup h z)

@@ -65,6 +65,8 @@ module _ (buf n m : ℕ) (a : Accepted buf n m) where
     bounded = record { within = a .within; limit = a .length-limit };
     sound = gap-sound (n - firstBlock m) (omega (arith, a)) s-nil;
     clean = record { clean = e-last {b = gap (n - firstBlock m) []} (rw (items-gap (n - firstBlock m) []) i-nil) };
+    apart = record { apart = λ k. rw (items-gap (n - firstBlock m) []) (omega arith) };
+    ticks = record { byte = omega arith };
   }
 
   pub fresh-length : length (encode (inLine (fresh buf n m))) ≡ n

@@ -12,7 +12,7 @@ use Rattle.format.specs.WellFormed.{offsets}
 use Rattle.block_type.specs.Limits.{mostMasters, longestZone, masterSize, zoneHeader}
 use Rattle.format.proofs.Count.{sumOver, sum-occurs, length-offsets, occurs-append, all-of}
 use Rattle.structure.proofs.Round.{offset-le}
-use Rattle.structure.specs.Structure.{Block, fixed, sizes, count, start, len, handlesOf}
+use Rattle.structure.specs.Structure.{Block, fixed, sizes, count, start, len, handlesOf, namesIn}
 use Rattle.structure.specs.Valid.{Tiled, Valid}
 use Rattle.structure.proofs.Append.{occurs-held}
 use Rattle.calls.specs.Bays.{Bays, last, more, sumS}
@@ -22,7 +22,10 @@ use Rattle.bay.specs.Counted.{live}
 use Rattle.bay.specs.Bay.{Cell, free, held, baySize, items}
 use Rattle.bay.proofs.Sound.{Sound, s-nil, s-end, s-free, s-held}
 use Rattle.calls.specs.State.{Fixed, listed, handlesFrom, masterCount}
-use Rattle.kinds.specs.Kinds.{is, mastersOf}
+use Rattle.kinds.specs.Kinds.{is, mastersOf, hasName, namesOf}
+use Rattle.kinds.proofs.KindLaws.{name-owner}
+use Rattle.zone.proofs.HowMany.{many}
+use Rattle.zone.proofs.Names.{Apart, Ticks}
 use Rattle.bay.proofs.Perm.{listed-held}
 use Rattle.zone.proofs.Handles as Handles
 use Rattle.zone.proofs.Handles.{Owns, masters}
@@ -67,21 +70,37 @@ offsets-same h (suc n) = ap (h ∷_) (offsets-same (h + masterSize) n)
 pub masters-same : (m h : ℕ) → masters m h ≡ occurs h (offsets zoneHeader m)
 masters-same m h = occurs-same h (handlesFrom zoneHeader m) ∙ ap (occurs h) (offsets-same zoneHeader m)
 
-live-bay : (h : ℕ) (cs : List Cell) (r : List Block) → occurs h (handlesOf (flatBay cs r)) ≡ Counted.count h (items cs) + occurs h (handlesOf r)
+live-bay : (h : ℕ) (cs : List Cell) (r : List Block) → occurs h (handlesOf (flatBay cs r)) ≡ Counted.count (is h) (items cs) + occurs h (handlesOf r)
 unfolding occurs handlesOf
 live-bay h [] r = omega arith
 live-bay h (free n ∷ cs) r = live-bay h cs r
 live-bay h (held e ∷ cs) r = occurs-held h e (flatBay cs r) ∙ go (is h e) (live-bay h cs r)
   where
-    go : (t : Bool) → occurs h (handlesOf (flatBay cs r)) ≡ Counted.count h (items cs) + occurs h (handlesOf r)
-        → cond t 1 0 + occurs h (handlesOf (flatBay cs r)) ≡ cond t (suc (Counted.count h (items cs))) (Counted.count h (items cs)) + occurs h (handlesOf r)
+    go : (t : Bool) → occurs h (handlesOf (flatBay cs r)) ≡ Counted.count (is h) (items cs) + occurs h (handlesOf r)
+        → cond t 1 0 + occurs h (handlesOf (flatBay cs r)) ≡ cond t (suc (Counted.count (is h) (items cs))) (Counted.count (is h) (items cs)) + occurs h (handlesOf r)
     go true e = omega arith
     go false e = omega arith
 
 pub live-strip : (h : ℕ) (s : Bays (List Cell) Fixed) → occurs h (handlesOf (flatten s)) ≡ live h s
 unfolding occurs handlesOf
 live-strip h (last b) = live-bay h b [] ∙ add-zero _
-live-strip h (more b x s) = live-bay h b (fixed (x .bytes) ∷ flatten s) ∙ ap (Counted.count h (items b) +_) (live-strip h s)
+live-strip h (more b x s) = live-bay h b (fixed (x .bytes) ∷ flatten s) ∙ ap (Counted.count (is h) (items b) +_) (live-strip h s)
+
+names-bay : (n : ℕ) (cs : List Cell) (r : List Block) → occurs n (namesIn (flatBay cs r)) ≡ Counted.count (hasName n) (items cs) + occurs n (namesIn r)
+unfolding occurs namesIn
+names-bay n [] r = omega arith
+names-bay n (free k ∷ cs) r = names-bay n cs r
+names-bay n (held e ∷ cs) r = occurs-append n (namesOf e) (namesIn (flatBay cs r)) ∙ ap (_+ occurs n (namesIn (flatBay cs r))) (name-owner n e) ∙ go (hasName n e) (names-bay n cs r)
+  where
+    go : (t : Bool) → occurs n (namesIn (flatBay cs r)) ≡ Counted.count (hasName n) (items cs) + occurs n (namesIn r)
+        → cond t 1 0 + occurs n (namesIn (flatBay cs r)) ≡ cond t (suc (Counted.count (hasName n) (items cs))) (Counted.count (hasName n) (items cs)) + occurs n (namesIn r)
+    go true e = omega arith
+    go false e = omega arith
+
+pub names-strip : (n : ℕ) (s : Bays (List Cell) Fixed) → occurs n (namesIn (flatten s)) ≡ many (hasName n) s
+unfolding occurs namesIn
+names-strip n (last b) = names-bay n b [] ∙ add-zero _
+names-strip n (more b x s) = names-bay n b (fixed (x .bytes) ∷ flatten s) ∙ ap (Counted.count (hasName n) (items b) +_) (names-strip n s)
 
 many-bay : (cs : List Cell) (r : List Block) → length (handlesOf (flatBay cs r)) ≡ length (listed (items cs)) + length (handlesOf r)
 unfolding handlesOf
@@ -121,6 +140,8 @@ pub record Whole (z : Zone) : Type 0 where
   pub bounded : Bounded z
   pub sound : AllS Sound (z .bays)
   pub clean : Clean z
+  pub apart : Apart z
+  pub ticks : Ticks z
 
 module _ (z : Zone) (w : Whole z) where
   owns-line : (h : ℕ) → occurs h (handlesOf (flatten (z .bays))) + occurs h (z .chain) ≡ occurs h (offsets zoneHeader (w .m))
@@ -142,7 +163,7 @@ module _ (z : Zone) (w : Whole z) where
 
   -- the bays are found again
   pub bays-line : inBays (z .buf) (inLine z) ≡ z
-  bays-line = λ i. record { buf = z .buf; len = len-line i; chain = z .chain; bays = same i }
+  bays-line = λ i. record { buf = z .buf; len = len-line i; clock = z .clock; chain = z .chain; bays = same i }
     where
       same : group (start (inLine z)) (flatten (z .bays)) ≡ z .bays
       same = ap (λ (m : ℕ). group (zoneHeader + masterSize * m) (flatten (z .bays))) count-line ∙ group-flatten (w .placed .tiled)
@@ -162,6 +183,8 @@ pub valid-line : (z : Zone) → Whole z → Valid (inLine z)
 valid-line z w = record {
   tiled = tiled-strip (w .placed .tiled) (w .bounded .limit) (w .sound) (w .clean .clean);
   owned = λ h. owns-line z w h ∙ ap (λ (n : ℕ). occurs h (offsets zoneHeader n)) (sym (count-line z w));
+  apart = λ n. omega (arith, names-strip n (z .bays), w .apart .apart n);
+  byte = w .ticks .byte;
   few = omega (arith, count-line z w, w .few);
   short = omega (arith, len-line z w, w .bounded .limit);
 }

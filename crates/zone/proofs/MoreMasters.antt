@@ -10,7 +10,7 @@ use Rattle.format.specs.Occurs.{occurs}
 use Rattle.format.proofs.Count.{occurs-append}
 use Rattle.calls.specs.Calls.{Call, allocate-relocatable}
 use Rattle.calls.specs.Bays.{Bays, last, more, onFirst, firstS}
-use Rattle.kinds.specs.Kinds.{Item}
+use Rattle.kinds.specs.Kinds.{Item, is, hasName}
 use Rattle.calls.specs.State.{listed, handlesFrom, masterCount}
 use Rattle.calls.specs.Table.{isEmpty, refusalOf}
 use Rattle.bay.specs.Bay.{Cell, items, packedLess}
@@ -46,7 +46,7 @@ module _ (z : Zone) (w : Whole z) (none : z .chain ≡ []) (g : Grows z) where
   owned : (h : ℕ) → live h (moreMasters z .bays) + Handles.occurs h (moreMasters z .chain) ≡ Handles.masters (w .m + addedMasters) h
   owned h =
       let new : List ℕ = handlesFrom (firstBlock (w .m)) addedMasters in
-      let a : live h (moreMasters z .bays) ≡ live h (z .bays) = onFirst-sum (λ (b : List Cell). count h (items b)) (packedLess addedBytes) (z .bays) (ap (count h) (less-items addedBytes (firstS (z .bays)))) in
+      let a : live h (moreMasters z .bays) ≡ live h (z .bays) = onFirst-sum (λ (b : List Cell). count (is h) (items b)) (packedLess addedBytes) (z .bays) (ap (count (is h)) (less-items addedBytes (firstS (z .bays)))) in
       let b : Handles.occurs h (moreMasters z .chain) ≡ Handles.occurs h new = ap (λ (m : ℕ). Handles.occurs h (handlesFrom (firstBlock m) addedMasters)) (masters-are z w) in
       let c : Handles.occurs h (z .chain) ≡ 0 = ap (Handles.occurs h) none in
       omega (
@@ -71,6 +71,8 @@ module _ (z : Zone) (w : Whole z) (none : z .chain ≡ []) (g : Grows z) where
     bounded = record { within = w .bounded .within; limit = w .bounded .limit };
     sound = all-first (packedLess addedBytes) (λ b s. less-sound addedBytes refl s) (z .bays) (w .sound);
     clean = record { clean = every-first (packedLess addedBytes) (λ p. rw (less-items addedBytes (firstS (z .bays))) p) (w .clean .clean) };
+    apart = record { apart = λ n. omega (arith, onFirst-sum (λ (b : List Cell). count (hasName n) (items b)) (packedLess addedBytes) (z .bays) (ap (count (hasName n)) (less-items addedBytes (firstS (z .bays)))), w .apart .apart n) };
+    ticks = record { byte = w .ticks .byte };
   }
 
 module _ (z : Zone) (w : Whole z) where

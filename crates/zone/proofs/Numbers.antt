@@ -4,7 +4,7 @@ use mathlib.Core.Bool.{Bool, true, false, cond}
 use mathlib.Core.List.{List}
 use Prim.Native.Nat.{ℕ, _*_, _/_, min}
 use lib.Dec.{eqb}
-use Rattle.calls.specs.Calls.{Call, allocate-relocatable, allocate-fixed, free-handle, free-pointer, read, write, view, size, roster, check, length-of, resize, compact, sums, enlarge, shrink}
+use Rattle.calls.specs.Calls.{Call, allocate-relocatable, allocate-fixed, free-handle, free-pointer, read, write, view, size, roster, check, length-of, resize, compact, sums, enlarge, shrink, on-page, create-page, use-page, mark-page, drop-page}
 use Rattle.calls.specs.Bays.{lastS}
 use Rattle.calls.specs.State.{Out}
 use Rattle.bay.specs.Bay.{Cell, baySum}
@@ -34,3 +34,7 @@ work-number length-of z = refl
 work-number (enlarge k) z = refl
 work-number (shrink k) z = strip-number (min (k / 4 * 4) (baySum (lastS (z .bays)))) z
 work-number (roster second) z = refl
+work-number (on-page n (create-page c)) z = refl
+work-number (on-page n use-page) z = refl
+work-number (on-page n (mark-page m)) z = refl
+work-number (on-page n drop-page) z = refl

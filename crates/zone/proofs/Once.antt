@@ -13,20 +13,23 @@ use Rattle.bay.specs.Bay.{Cell, baySum, items, release}
 use Rattle.bay.specs.Counted.{remove, count}
 use Rattle.bay.proofs.Laws.{bsize-split, release-size, release-items}
 
--- the block of a handle among the bays
+-- the block that passes a test among the bays, and that of a handle
+abbrev pub blockBy : (Item → Bool) → Bays (List Cell) Fixed → Option Item
+blockBy ok s = findS (λ (b : List Cell). get ok (items b)) s
+
 abbrev pub blockOf : ℕ → Bays (List Cell) Fixed → Option Item
-blockOf h s = findS (λ (b : List Cell). get h (items b)) s
+blockOf h s = blockBy (is h) s
 
 -- what is found has the handle
 pub data Named (h : ℕ) : Option Item → Type 0 where
   unnamed : Named h none
   named : {d : List ℕ} → Named h (some (item h d))
 
-pub get-named : (h : ℕ) (es : List Item) → Named h (get h es)
+pub get-named : (h : ℕ) (es : List Item) → Named h (get (is h) es)
 get-named h [] = unnamed
 get-named h (e ∷ es) = go (is h e) refl (get-named h es)
   where
-    go : (t : Bool) → is h e ≡ t → Named h (get h es) → Named h (cond t (some e) (get h es))
+    go : (t : Bool) → is h e ≡ t → Named h (get (is h) es) → Named h (cond t (some e) (get (is h) es))
     go true q k = rw (is-item h e q) named
     go false q k = k
 
@@ -39,36 +42,36 @@ abbrev pub taken : Option Item → ℕ
 taken none = 0
 taken (some e) = itemSize e
 
-pub count-get : (h : ℕ) (es : List Item) → count h es ≤ 1 → count h es ≡ often (get h es)
-count-get h [] n = refl
-count-get h (e ∷ es) n = go (is h e) (λ k. count-get h es k) n
+pub count-get : (ok : Item → Bool) (es : List Item) → count ok es ≤ 1 → count ok es ≡ often (get ok es)
+count-get ok [] n = refl
+count-get ok (e ∷ es) n = go (ok e) (λ k. count-get ok es k) n
   where
-    go : (t : Bool) → (count h es ≤ 1 → count h es ≡ often (get h es)) → cond t (suc (count h es)) (count h es) ≤ 1
-        → cond t (suc (count h es)) (count h es) ≡ often (cond t (some e) (get h es))
+    go : (t : Bool) → (count ok es ≤ 1 → count ok es ≡ often (get ok es)) → cond t (suc (count ok es)) (count ok es) ≤ 1
+        → cond t (suc (count ok es)) (count ok es) ≡ often (cond t (some e) (get ok es))
     go true f n = omega arith
     go false f n = f n
 
-total-absent : (h : ℕ) (es : List Item) → count h es ≡ 0 → total (remove h es) ≡ total es
-total-absent h [] n = refl
-total-absent h (e ∷ es) n = go (is h e) (λ k. total-absent h es k) n
+total-absent : (ok : Item → Bool) (es : List Item) → count ok es ≡ 0 → total (remove ok es) ≡ total es
+total-absent ok [] n = refl
+total-absent ok (e ∷ es) n = go (ok e) (λ k. total-absent ok es k) n
   where
-    go : (t : Bool) → (count h es ≡ 0 → total (remove h es) ≡ total es) → cond t (suc (count h es)) (count h es) ≡ 0
-        → total (cond t (remove h es) (e ∷ remove h es)) ≡ itemSize e + total es
+    go : (t : Bool) → (count ok es ≡ 0 → total (remove ok es) ≡ total es) → cond t (suc (count ok es)) (count ok es) ≡ 0
+        → total (cond t (remove ok es) (e ∷ remove ok es)) ≡ itemSize e + total es
     go true f n = absurd (omega arith)
     go false f n = ap (itemSize e +_) (f n)
 
-total-remove : (h : ℕ) (es : List Item) → count h es ≤ 1 → total (remove h es) + taken (get h es) ≡ total es
-total-remove h [] n = refl
-total-remove h (e ∷ es) n = go (is h e) (λ k. total-remove h es k) n
+total-remove : (ok : Item → Bool) (es : List Item) → count ok es ≤ 1 → total (remove ok es) + taken (get ok es) ≡ total es
+total-remove ok [] n = refl
+total-remove ok (e ∷ es) n = go (ok e) (λ k. total-remove ok es k) n
   where
-    go : (t : Bool) → (count h es ≤ 1 → total (remove h es) + taken (get h es) ≡ total es) → cond t (suc (count h es)) (count h es) ≤ 1
-        → total (cond t (remove h es) (e ∷ remove h es)) + taken (cond t (some e) (get h es)) ≡ itemSize e + total es
-    go true f n = omega (arith, total-absent h es (omega arith))
+    go : (t : Bool) → (count ok es ≤ 1 → total (remove ok es) + taken (get ok es) ≡ total es) → cond t (suc (count ok es)) (count ok es) ≤ 1
+        → total (cond t (remove ok es) (e ∷ remove ok es)) + taken (cond t (some e) (get ok es)) ≡ itemSize e + total es
+    go true f n = omega (arith, total-absent ok es (omega arith))
     go false f n = omega (arith, f n)
 
 -- the sum of a bay whose block of handle h is freed
-pub sum-absent : (h : ℕ) (b : List Cell) → count h (items b) ≡ 0 → baySum (release h b) ≡ baySum b
-sum-absent h b n = omega (arith, bsize-split b, bsize-split (release h b), release-size h b, ap total (release-items h b), total-absent h (items b) n)
+pub sum-absent : (ok : Item → Bool) (b : List Cell) → count ok (items b) ≡ 0 → baySum (release ok b) ≡ baySum b
+sum-absent ok b n = omega (arith, bsize-split b, bsize-split (release ok b), release-size ok b, ap total (release-items ok b), total-absent ok (items b) n)
 
-pub sum-released : (h : ℕ) (b : List Cell) → count h (items b) ≤ 1 → baySum (release h b) ≡ baySum b + taken (get h (items b))
-sum-released h b n = omega (arith, bsize-split b, bsize-split (release h b), release-size h b, ap total (release-items h b), total-remove h (items b) n)
+pub sum-released : (ok : Item → Bool) (b : List Cell) → count ok (items b) ≤ 1 → baySum (release ok b) ≡ baySum b + taken (get ok (items b))
+sum-released ok b n = omega (arith, bsize-split b, bsize-split (release ok b), release-size ok b, ap total (release-items ok b), total-remove ok (items b) n)

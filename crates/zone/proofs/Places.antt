@@ -9,8 +9,9 @@ use lib.Dec.{leb, eqb}
 use borrow.Author.Tests.{leb-true}
 use Rattle.calls.specs.Bays.{Bays, last, more, onFirst, mapS, onFixed, onLast, firstS, lastS}
 use Rattle.zone.specs.PickBays.{onLow}
-use Rattle.kinds.specs.Kinds.{Item, itemSize}
+use Rattle.kinds.specs.Kinds.{Item, itemSize, is, onData}
 use Rattle.calls.specs.State.{alterFixed, pointer, Fixed, fsize, newItem, newFixed}
+use Rattle.calls.specs.Pages.{newPage}
 use Rattle.bay.specs.Bay.{Cell, baySize, baySum, gap, joinBays, compactBay, put, takeHigh, release, edit, reshape, resized}
 use Rattle.bay.proofs.Each.{Each, nothing, just, each-cond, each-over, cond-one, each-orElse, each-weaken}
 use Rattle.bay.proofs.Holes.{put-keeps}
@@ -93,12 +94,15 @@ pub placed-closed : (m : ℕ) → Closed (Placed m)
 placed-closed m = record {
   low = λ z h hs c lim q g. each-weaken (λ b r. record { tiled = r }) (low-tiled (newItem h c) (g .tiled));
   high = λ z n b lim g. each-weaken (λ r q. record { tiled = q }) (high-tiled n b (g .tiled));
-  drop = λ z h g. each-weaken (λ e u. record { tiled = map-tiled (release h) (release-size h) (g .tiled) }) (any (lookup h z));
+  drop = λ z h g. each-weaken (λ e u. record { tiled = map-tiled (release (is h)) (release-size (is h)) (g .tiled) }) (any (lookup h z));
   join = λ z p g. each-weaken (λ b q. record { tiled = q }) (join-tiled p (g .tiled));
-  edit = λ z h f y g. record { tiled = map-tiled (edit h f) (edit-size h f (y .long)) (g .tiled) };
+  edit = λ z ok f y g. record { tiled = map-tiled (edit ok f) (edit-size ok f (y .long)) (g .tiled) };
   edit-fixed = λ z p f y g. record { tiled = fixed-tiled (alterFixed p f) (alter-place p f) (alter-fsize p f (y .long)) (g .tiled) };
-  resize = λ z h a q g. each-weaken (λ e u lim. each-weaken (λ b r. record { tiled = r }) (each-orElse (onLow-tiled (own h a) (reshape h a) (λ b k. own-shaped h a b k .size) (g .tiled)) (low-tiled (resized a e) (map-tiled (release h) (release-size h) (g .tiled))))) (any (lookup h z));
+  resize = λ z h a q g. each-weaken (λ e u lim. each-weaken (λ b r. record { tiled = r }) (each-orElse (onLow-tiled (own h a) (reshape h a) (λ b k. own-shaped h a b k .size) (g .tiled)) (low-tiled (resized a e) (map-tiled (release (is h)) (release-size (is h)) (g .tiled))))) (any (lookup h z));
   compactBay = λ z g. record { tiled = map-tiled compactBay tidy-size (g .tiled) };
   grow = λ z n q l o g. record { tiled = last-tiled _ (z .len + n) (omega (arith, bsize-weld (lastS (z .bays)) (gap n []), bsize-gap n [])) (g .tiled) };
+  page = λ z n ck c i lim k a g. each-weaken (λ b r. record { tiled = r }) (low-tiled (newPage n ck c) (g .tiled));
+  clear = λ z ok f g. record { tiled = map-tiled (release ok) (release-size ok) (g .tiled) };
+  step = λ z g. record { tiled = g .tiled };
   takeHigh = λ z j n q g. record { tiled = last-tiled _ (z .len - n) (omega (arith, cut-less n (lastS (z .bays)) (omega (arith, q)) .size, last-below (g .tiled))) (g .tiled) };
 }

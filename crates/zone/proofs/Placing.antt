@@ -1,5 +1,5 @@
--- An allocation and a resize to another bay place a block by the one choice.
-use mathlib.Core.Path.{_≡_, ap, ap₂}
+-- An allocation, a create and a resize to another bay place a block by the one choice.
+use mathlib.Core.Path.{_≡_, refl, ap, ap₂}
 use mathlib.Core.List.{List, []}
 use Prim.Native.Nat.{ℕ, _-_}
 use native.Mathlib.Nat.{add-zero}
@@ -26,5 +26,6 @@ one-choice = record {
   allocated = λ c h hs z q. rw q;
   added = added;
   moved = λ h c z l. rw (lt-leb (up4 c - length (dataOf items (by-handle h) z)) (ownSum items baySum h (z .bays)) l);
+  created = λ n c z. refl;
   grown = λ h c z l. rw (le-leb (up4 c - length (dataOf items (by-handle h) z)) (ownSum items baySum h (z .bays)) l);
 }

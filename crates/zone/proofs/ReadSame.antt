@@ -6,10 +6,10 @@ use mathlib.Core.List.{List, [], _∷_, _++_}
 use Prim.Native.Nat.{ℕ, zero, suc, _+_}
 use lib.ListN.{length, take, drop}
 use lib.Dec.{eqb, eqb·suc-zero}
-use Rattle.calls.specs.Calls.{Target, by-handle, by-pointer, Call, read, Answer, shows, refused}
+use Rattle.calls.specs.Calls.{Target, by-handle, by-pointer, by-name, Call, read, Answer, shows, refused}
 use Rattle.calls.specs.Bays.{over}
 use Rattle.calls.specs.State.{content}
-use Rattle.calls.specs.Table.{cause, below, isNone, first, order, refusalOf}
+use Rattle.calls.specs.Table.{cause, below, isNone, first, order, refusalOf, refusalValue}
 use Rattle.bay.specs.Bay.{items}
 use Rattle.zone.specs.Work.{Zone, facts, work}
 use Rattle.zone.specs.Call.{Result, call}
@@ -17,10 +17,10 @@ use Rattle.zone.proofs.Keep.{Whole}
 use Rattle.zone.proofs.Run.{Stored, call-worked, call-refused}
 
 -- what a call answers; n is the refusal number
-abbrev answerWith : ℕ → Call → Zone → Answer
-answerWith n c z = cond (eqb n 0) ((work c z) .answer) (refused c n)
+abbrev pub answerWith : ℕ → Call → Zone → Answer
+answerWith n c z = cond (eqb n 0) ((work c z) .answer) (refused c n (refusalValue n c (facts true z)))
 
-answer-is : (c : Call) (bs : List ℕ) (z : Zone) → Whole z → Stored bs z → (call c bs) .answer ≡ answerWith (refusalOf c (facts true z)) c z
+pub answer-is : (c : Call) (bs : List ℕ) (z : Zone) → Whole z → Stored bs z → (call c bs) .answer ≡ answerWith (refusalOf c (facts true z)) c z
 answer-is c bs z w s = go (refusalOf c (facts true z)) refl
   where
     go : (n : ℕ) → refusalOf c (facts true z) ≡ n → (call c bs) .answer ≡ answerWith n c z
@@ -29,15 +29,16 @@ answer-is c bs z w s = go (refusalOf c (facts true z)) refl
 
 module _ (t : Target) (i n : ℕ) (second : List ℕ) where
   -- k is the number of the cause that nothing has the key; o what it names
-  abbrev shown : ℕ → Option (List ℕ) → Answer
+  abbrev pub shown : ℕ → Option (List ℕ) → Answer
   shown k o =
       let j : ℕ = first order (cause 1 false ∷ cause k (isNone (over length o)) ∷ cause 8 (below (Option·getD (over length o) 0) (i + n)) ∷ cause 10 (below (length second) n) ∷ []) in
-      cond (eqb j 0) (shows 0 (take n (drop i (Option·getD o [])) ++ drop n second)) (refused (read t i n second) j)
+      cond (eqb j 0) (shows 0 (take n (drop i (Option·getD o [])) ++ drop n second)) (refused (read t i n second) j 0)
 
 read-named : (t : Target) (i n : ℕ) (second : List ℕ) (z z′ : Zone) → content items t (z .bays) ≡ content items t (z′ .bays)
     → answerWith (refusalOf (read t i n second) (facts true z)) (read t i n second) z ≡ answerWith (refusalOf (read t i n second) (facts true z′)) (read t i n second) z′
 read-named (by-handle h) i n second z z′ q = ap (shown (by-handle h) i n second 6) q
 read-named (by-pointer p) i n second z z′ q = ap (shown (by-pointer p) i n second 7) q
+read-named (by-name k) i n second z z′ q = ap (shown (by-name k) i n second 13) q
 
 pub read-same : {bs bs′ : List ℕ} {z z′ : Zone} → Whole z → Stored bs z → Whole z′ → Stored bs′ z′ → (t : Target) (i n : ℕ) (second : List ℕ)
     → content items t (z .bays) ≡ content items t (z′ .bays) → call (read t i n second) bs .answer ≡ call (read t i n second) bs′ .answer

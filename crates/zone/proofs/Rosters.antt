@@ -17,7 +17,8 @@ use Rattle.calls.specs.State.{get, card, listed, Fixed, handlesFrom, liveCount}
 use Rattle.calls.specs.Counted.{count}
 use Rattle.calls.proofs.Counted.{get-none}
 use Rattle.ledger.specs.Ledger as Book
-use Rattle.ledger.specs.Ledger.{Ledger, entriesOf, insert, byHandle}
+use Rattle.ledger.specs.Ledger.{Ledger, entriesOf, byHandle}
+use Rattle.ledger.proofs.Sorted.{insert}
 use Rattle.ledger.proofs.Sorted.{sorted-long}
 use Rattle.bay.specs.Bay.{Cell, items}
 use Rattle.zone.specs.Work as Work
@@ -25,7 +26,8 @@ use Rattle.zone.specs.Work.{Zone, cardIf, cardsOf}
 use Rattle.zone.proofs.Keep.{Whole, masters-are}
 use Rattle.zone.proofs.Grouped.{single-live}
 use Rattle.zone.proofs.Matches.{Matches, matches, handle-same, live-same}
-use Rattle.zone.proofs.Handles.{occurs, masters, occurs-below, occurs-once, count-append}
+use Rattle.zone.proofs.Handles.{occurs, masters, occurs-below, occurs-once}
+use Rattle.zone.proofs.HowMany.{count-append}
 
 -- ---- how many there are
 
@@ -84,7 +86,7 @@ module _ (e : Item) (h : ℕ) (f : ℕ → Option Item) where
 -- ---- all records
 
 -- the blocks es, each of whose handles is a master, and once
-sorted : (es : List Item) (m : ℕ) → ((h : ℕ) → count h es ≤ masters m h) → cardsOf (λ h. get h es) (handlesFrom zoneHeader m) ≡ byHandle (listed es)
+sorted : (es : List Item) (m : ℕ) → ((h : ℕ) → count (is h) es ≤ masters m h) → cardsOf (λ h. get (is h) es) (handlesFrom zoneHeader m) ≡ byHandle (listed es)
 sorted [] m o = nothing (handlesFrom zoneHeader m)
   where
     nothing : (hs : List ℕ) → cardsOf (λ h. none) hs ≡ []
@@ -93,21 +95,21 @@ sorted [] m o = nothing (handlesFrom zoneHeader m)
 sorted (e ∷ es) m o = go (owned e) o (λ q. sorted es m q)
   where
     -- a block's handle is no other's
-    others : (e : Item) → ((h : ℕ) → cond (is h e) (suc (count h es)) (count h es) ≤ masters m h) → (h : ℕ) → count h es ≤ masters m h
+    others : (e : Item) → ((h : ℕ) → cond (is h e) (suc (count (is h) es)) (count (is h) es) ≤ masters m h) → (h : ℕ) → count (is h) es ≤ masters m h
     others e o h = fewer (is h e) (o h)
       where
-        fewer : (t : Bool) → cond t (suc (count h es)) (count h es) ≤ masters m h → count h es ≤ masters m h
+        fewer : (t : Bool) → cond t (suc (count (is h) es)) (count (is h) es) ≤ masters m h → count (is h) es ≤ masters m h
         fewer true q = omega arith
         fewer false q = q
 
-    go : {e : Item} → Owned e → ((h : ℕ) → cond (is h e) (suc (count h es)) (count h es) ≤ masters m h)
-        → (((h : ℕ) → count h es ≤ masters m h) → cardsOf (λ h. get h es) (handlesFrom zoneHeader m) ≡ byHandle (listed es))
-        → cardsOf (λ h. cond (is h e) (some e) (get h es)) (handlesFrom zoneHeader m) ≡ byHandle (map (card e) (mastersOf e) ++ listed es)
+    go : {e : Item} → Owned e → ((h : ℕ) → cond (is h e) (suc (count (is h) es)) (count (is h) es) ≤ masters m h)
+        → (((h : ℕ) → count (is h) es ≤ masters m h) → cardsOf (λ h. get (is h) es) (handlesFrom zoneHeader m) ≡ byHandle (listed es))
+        → cardsOf (λ h. cond (is h e) (some e) (get (is h) es)) (handlesFrom zoneHeader m) ≡ byHandle (map (card e) (mastersOf e) ++ listed es)
     go (own-handle h d) o r =
         let e : Item = item h d in
-        let once : suc (count h es) ≤ masters m h = rw (is-self h d) at (o h) in
+        let once : suc (count (is h) es) ≤ masters m h = rw (is-self h d) at (o h) in
         cards-same _ _ (λ k. rw (is-same k h e (is-self h d))) (handlesFrom zoneHeader m)
-        ∙ sym (insert-at e h (λ k. get k es) (get-none h es (omega (arith, once, occurs-once h zoneHeader m))) zoneHeader m (omega (arith, once)))
+        ∙ sym (insert-at e h (λ k. get (is k) es) (get-none (is h) es (omega (arith, once, occurs-once h zoneHeader m))) zoneHeader m (omega (arith, once)))
         ∙ ap (insert (card e h)) (r (others e o))
     go (own-none e p q n) o r =
         cards-same _ _ (λ h. rw (n h)) (handlesFrom zoneHeader m) ∙ r (others e o) ∙ ap (λ (hs : List ℕ). byHandle (map (card e) hs ++ listed es)) (sym p)
@@ -115,17 +117,17 @@ sorted (e ∷ es) m o = go (owned e) o (λ q. sorted es m q)
 -- ---- in bays; `all` are a bay's blocks
 
 module _ {B : Type 0} (all : B → List Item) where
-  get-append : (h : ℕ) (a b : List Item) → get h (a ++ b) ≡ orElse (get h a) (get h b)
+  get-append : (h : ℕ) (a b : List Item) → get (is h) (a ++ b) ≡ orElse (get (is h) a) (get (is h) b)
   get-append h [] b = refl
   get-append h (e ∷ a) b = go (is h e) (get-append h a b)
     where
-      go : (t : Bool) → get h (a ++ b) ≡ orElse (get h a) (get h b) → cond t (some e) (get h (a ++ b)) ≡ orElse (cond t (some e) (get h a)) (get h b)
+      go : (t : Bool) → get (is h) (a ++ b) ≡ orElse (get (is h) a) (get (is h) b) → cond t (some e) (get (is h) (a ++ b)) ≡ orElse (cond t (some e) (get (is h) a)) (get (is h) b)
       go true q = refl
       go false q = q
 
-  find-flat : (h : ℕ) (s : Bays B Fixed) → findS (λ b. get h (all b)) s ≡ get h (concatS all s)
+  find-flat : (h : ℕ) (s : Bays B Fixed) → findS (λ b. get (is h) (all b)) s ≡ get (is h) (concatS all s)
   find-flat h (last b) = refl
-  find-flat h (more b x s) = ap (orElse (get h (all b))) (find-flat h s) ∙ sym (get-append h (all b) (concatS all s))
+  find-flat h (more b x s) = ap (orElse (get (is h) (all b))) (find-flat h s) ∙ sym (get-append h (all b) (concatS all s))
 
   listed-append : (a b : List Item) → listed (a ++ b) ≡ listed a ++ listed b
   listed-append [] b = refl
@@ -135,13 +137,13 @@ module _ {B : Type 0} (all : B → List Item) where
   listed-flat (last b) = refl
   listed-flat (more b x s) = ap (listed (all b) ++_) (listed-flat s) ∙ sym (listed-append (all b) (concatS all s))
 
-  count-flat : (h : ℕ) (s : Bays B Fixed) → sumS (λ b. count h (all b)) s ≡ count h (concatS all s)
+  count-flat : (h : ℕ) (s : Bays B Fixed) → sumS (λ b. count (is h) (all b)) s ≡ count (is h) (concatS all s)
   count-flat h (last b) = refl
-  count-flat h (more b x s) = ap (count h (all b) +_) (count-flat h s) ∙ sym (count-append h (all b) (concatS all s))
+  count-flat h (more b x s) = ap (count (is h) (all b) +_) (count-flat h s) ∙ sym (count-append (is h) (all b) (concatS all s))
 
   -- THROUGH THE MASTERS, or sorted
-  pub in-order : (s : Bays B Fixed) (m : ℕ) → ((h : ℕ) → sumS (λ b. count h (all b)) s ≤ masters m h)
-      → cardsOf (λ h. findS (λ b. get h (all b)) s) (handlesFrom zoneHeader m) ≡ byHandle (concatS (λ b. listed (all b)) s)
+  pub in-order : (s : Bays B Fixed) (m : ℕ) → ((h : ℕ) → sumS (λ b. count (is h) (all b)) s ≤ masters m h)
+      → cardsOf (λ h. findS (λ b. get (is h) (all b)) s) (handlesFrom zoneHeader m) ≡ byHandle (concatS (λ b. listed (all b)) s)
   in-order s m o =
       cards-same _ _ (λ h. find-flat h s) (handlesFrom zoneHeader m)
       ∙ sorted (concatS all s) m (λ h. omega (arith, o h, count-flat h s))
@@ -158,8 +160,8 @@ module _ (z : Zone) (w : Whole z) where
   cards-long = ap length zone-sorted ∙ sorted-long (concatS (λ (b : List Cell). listed (items b)) (z .bays)) ∙ length-all (λ (b : List Cell). listed (items b)) (z .bays)
 
 pub roster-same : {z : Zone} {k : Ledger} → Whole z → Matches z k → Work.cards z ≡ Book.cards k
-roster-same w (matches {buf = buf} {len = len} {chain = chain} {s = s} {t = t} l) =
-    let z : Zone = record { buf = buf; len = len; chain = chain; bays = s } in
+roster-same w (matches {buf = buf} {len = len} {clock = clock} {chain = chain} {s = s} {t = t} l) =
+    let z : Zone = record { buf = buf; len = len; clock = clock; chain = chain; bays = s } in
     rw (masters-are z w)
-    (cards-same _ _ (handle-same l (single-live z w)) (handlesFrom zoneHeader (w .m))
+    (cards-same _ _ (handle-same l (single-live z w) (w .apart .apart)) (handlesFrom zoneHeader (w .m))
     ∙ in-order entriesOf t (w .m) (λ h. omega (arith, live-same l h, w .owned .owns h)))

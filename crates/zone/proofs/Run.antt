@@ -13,8 +13,8 @@ use Rattle.structure.specs.Structure.{Structure, len, encode, decode}
 use Rattle.structure.proofs.Round.{well-formed, decode-encode, length-is}
 use Rattle.structure.proofs.Sound.{valid}
 use Rattle.structure.proofs.Table.{encode-decode}
-use Rattle.calls.specs.Calls.{Call, beside, secondOf, told, refused}
-use Rattle.calls.specs.Table.{refusalOf}
+use Rattle.calls.specs.Calls.{Call, beside, Given, told, refused}
+use Rattle.calls.specs.Table.{refusalOf, refusalValue}
 use Rattle.zone.specs.Work.{Zone, facts, work}
 use Rattle.zone.specs.Call.{inBays, inLine, result, replacing, outcome, numberOf, callWith, call}
 use Rattle.zone.proofs.Keep.{Whole, valid-line, len-line, bays-line}
@@ -44,10 +44,10 @@ module _ (bs : List ℕ) (z : Zone) (w : Whole z) (s : Stored bs z) where
       ap (λ (n : ℕ). callWith n c bs) (number-is c ∙ e)
       ∙ (λ i. cond (stored-well i) (outcome bs (stored-decode i) (work c (stored-bays i))) (result (told 0 0) bs))
 
-  pub call-refused : (c : Call) (n : ℕ) → refusalOf c (facts true z) ≡ suc n → call c bs ≡ result (refused c (suc n)) bs
-  call-refused c n e = ap (λ (k : ℕ). callWith k c bs) (number-is c ∙ e) ∙ rw (eqb·suc-zero n) refl
+  pub call-refused : (c : Call) (n : ℕ) → refusalOf c (facts true z) ≡ suc n → call c bs ≡ result (refused c (suc n) (refusalValue (suc n) c (facts true z))) bs
+  call-refused c n e = ap (λ (k : ℕ). callWith k c bs) (number-is c ∙ e) ∙ (rw (eqb·suc-zero n) (λ i. result (refused c (suc n) (refusalValue (suc n) c (facts (stored-well i) (stored-bays i)))) bs))
 
-length-line : (z : Zone) → Whole z → length (encode (inLine z)) ≡ z .len
+pub length-line : (z : Zone) → Whole z → length (encode (inLine z)) ≡ z .len
 length-line z w = length-is (inLine z) (valid-line z w) ∙ len-line z w
 
 pub stored-after : (bs : List ℕ) (z u : Zone) → Whole z → Whole u → u .buf ≡ z .buf → Stored bs z → Stored (replacing bs (inLine z) (inLine u)) u
@@ -90,7 +90,7 @@ module _ (bs : List ℕ) (y : Bytes bs) (h : wellFormed bs ≡ true) where
       none : (n : ℕ) → replicate (n - n) 0 ++ drop (max n n) bs ≡ drop n bs
       none n = let a : n - n ≡ 0 = omega arith in let b : max n n ≡ n = omega arith in rw (a, b)
 
-  module _ (c : Call) (u : Bytes (secondOf (beside c))) where
+  module _ (c : Call) (u : Given (beside c)) where
     -- the zone after a call that nothing refuses stands in the bytes that it leaves
     pub work-stored : refusalOf c (facts true zoneIn) ≡ 0 → Stored ((call c bs) .bytes) ((work c zoneIn) .next)
     work-stored e =

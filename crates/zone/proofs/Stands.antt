@@ -72,7 +72,7 @@ weaken-both h (present {a = x} {b = y} r) = present (h x y r)
 data-stand : (e : Item) → Stands (itemBytes e) (headerOf e) (e .bytes)
 data-stand e = record { front = big 2 (codeOf e * typeUnit + itemSize e / 2) ++ tagOf e; rest = []; split = simp append-nil; place = omega (arith, tag-long e) }
 
-pub in-cells : (h p : ℕ) {cs : List Cell} → Sound cs → Both (At (cellBytes cs) p) (get h (items cs)) (whereIn h p cs)
+pub in-cells : (h p : ℕ) {cs : List Cell} → Sound cs → Both (At (cellBytes cs) p) (get (is h) (items cs)) (whereIn h p cs)
 in-cells h p s-nil = absent
 in-cells h p (s-end b) = absent
 in-cells h p (s-free {n = n} b s) = weaken-both (λ x y a. shift (freeBytes n) n (length-free n b) a) (in-cells h (p + n) s)
@@ -81,7 +81,7 @@ in-cells h p (s-held {e = e} {cs = cs} b s) =
     (λ t. present (record { off = headerOf e; found = refl; stands = stands-before (cellBytes cs) (data-stand e) }))
     (weaken-both (λ x y a. shift (itemBytes e) (itemSize e) (item-long e) a) (in-cells h (p + itemSize e) s))
 
-pub in-blocks : (h p : ℕ) (s : Bays (List Cell) Fixed) → AllS Sound s → Both (At (blockBytes s) p) (findS (λ (b : List Cell). get h (items b)) s) (whereS h p s)
+pub in-blocks : (h p : ℕ) (s : Bays (List Cell) Fixed) → AllS Sound s → Both (At (blockBytes s) p) (findS (λ (b : List Cell). get (is h) (items b)) s) (whereS h p s)
 in-blocks h p (last b) d = in-cells h p d
 in-blocks h p (more b x s) d =
     orElse-both (weaken-both (λ e q a. more-after (fixedBytes x ++ blockBytes s) a) (in-cells h p (d .0)))
@@ -99,7 +99,7 @@ both-each P d f absent = nothing
 both-each P d f (present r) = just (f _ _ r)
 
 -- a live handle's bytes stand in the zone, from the offset in its master
-pub handle-stands : (m h : ℕ) (z : Zone) → AllS Sound (z .bays) → Each (λ (e : Item). Stands (zoneBytes m z) (masterOf m z h) (e .bytes)) (findS (λ (b : List Cell). get h (items b)) (z .bays))
+pub handle-stands : (m h : ℕ) (z : Zone) → AllS Sound (z .bays) → Each (λ (e : Item). Stands (zoneBytes m z) (masterOf m z h) (e .bytes)) (findS (λ (b : List Cell). get (is h) (items b)) (z .bays))
 handle-stands m h z d =
     both-each (λ e q. Stands (zoneBytes m z) q (e .bytes)) (nextOf h (z .chain)) (λ e q a. rw (a .found) (in-zone m z (a .stands))) (in-blocks h (firstBlock m) (z .bays) d)
 

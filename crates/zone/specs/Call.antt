@@ -10,17 +10,17 @@ use Rattle.format.specs.WellFormed.{wellFormed}
 use Rattle.structure.specs.Structure.{Structure, start, len, encode, decode}
 use Rattle.calls.specs.Calls.{Call, Answer, told, refused}
 use Rattle.calls.specs.State.{Out}
-use Rattle.calls.specs.Table.{refusalOf, initRefusal}
+use Rattle.calls.specs.Table.{refusalOf, refusalValue, initRefusal}
 use Rattle.bay.specs.Bay.{Cell}
 use Rattle.zone.specs.Group.{group, flatten}
 use Rattle.zone.specs.Work.{Zone, facts, work, fresh}
 
 -- the structure of a zone in a buffer of some length, with its blocks in bays; and back
 abbrev pub inBays : ℕ → Structure → Zone
-inBays buf s = record { buf = buf; len = len s; chain = s .chain; bays = group (start s) (s .blocks) }
+inBays buf s = record { buf = buf; len = len s; clock = s .clock; chain = s .chain; bays = group (start s) (s .blocks) }
 
 abbrev pub inLine : Zone → Structure
-inLine z = record { chain = z .chain; blocks = flatten (z .bays) }
+inLine z = record { clock = z .clock; chain = z .chain; blocks = flatten (z .bays) }
 
 -- the zone in a buffer. (Where the bytes are no zone it is a value that nobody asks for: cause 1 holds, which comes first.)
 abbrev pub zoneIn : List ℕ → Zone
@@ -50,7 +50,7 @@ abbrev pub callWith : ℕ → Call → List ℕ → Result
 callWith n c bs =
     cond (eqb n 0)
     (cond (wellFormed bs) (outcome bs (decode bs) (work c (zoneIn bs))) (result (told 0 0) bs))
-    (result (refused c n) bs)
+    (result (refused c n (refusalValue n c (facts (wellFormed bs) (zoneIn bs)))) bs)
 
 -- A CALL ON A BUFFER
 abbrev pub call : Call → List ℕ → Result

@@ -8,7 +8,7 @@ use lib.Dec.{leb}
 use Rattle.bigendian.specs.BigEndian.{Bytes}
 use Rattle.block_type.specs.Limits.{relocLimit, relocNeed, firstBlock, masterSize, mostMasters, addedMasters, addedBytes}
 use Rattle.format.specs.WellFormed.{lengthField, firstField, mastersField, chainField, chain, offsets, zoneOf, wellFormed}
-use Rattle.calls.specs.Calls.{Target, Call, allocate-relocatable, size, read, Answer, beside, secondOf}
+use Rattle.calls.specs.Calls.{Target, Call, allocate-relocatable, size, read, Answer, beside, Given}
 use Rattle.zone.specs.Call.{numberOf, call}
 use Rattle.zone.specs.Promise.{Promise}
 use Rattle.zone.specs.Claim.{History, fixedIn, freeIn}
@@ -56,7 +56,7 @@ pub record Grew (bs after : List ℕ) (h : ℕ) : Type 0 where
   pub long : lengthField after ≡ lengthField bs
   -- "The new masters are chained ascending": the chain is those behind the new handle
   pub chained : chain (zoneOf after) (addedMasters - 1) (chainField after) ≡ offsets (h + masterSize) (addedMasters - 1)
-  -- every block that was there holds what it held, by handle or by pointer: each read of it answers as before
+  -- every block that was there holds what it held, by handle, by pointer or by name: each read of it answers as before
   pub kept : (t : Target) (i n : ℕ) (second : List ℕ) → numberOf (size t) bs ≡ 0 → call (read t i n second) after .answer ≡ call (read t i n second) bs .answer
   -- no fixed block has moved
   pub still : fixedIn after ≡ fixedIn bs
@@ -70,5 +70,5 @@ pub record GrowthSays : Type 0 where
   pub grew : (c : ℕ) (bs after : List ℕ) (a : Answer) → Bytes bs → Promise (allocate-relocatable c) bs a after → a .number ≡ 0 → chainField bs ≡ 0
       → Grew bs after (a .value)
   -- any other call leaves their number: one that is no relocatable allocation, or finds a free master, or is refused
-  pub stays : (c : Call) (bs after : List ℕ) (a : Answer) → Bytes bs → Bytes (secondOf (beside c)) → Promise c bs a after
+  pub stays : (c : Call) (bs after : List ℕ) (a : Answer) → Bytes bs → Given (beside c) → Promise c bs a after
       → ((k : ℕ) → c ≡ allocate-relocatable k → chainField bs ≡ 0 → a .number ≡ 0 → ⊥) → mastersField after ≡ mastersField bs

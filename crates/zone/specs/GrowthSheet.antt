@@ -72,6 +72,8 @@ crowded m = record {
   own = λ h. 0;
   firstSum = longestZone;
   largestAfter = longestZone;
+  largestEmptied = longestZone;
+  stop = λ need. none;
   live = m;
 }
 

@@ -11,8 +11,10 @@ pub mod RosterSays
 pub mod Hardware
 pub mod Claim
 pub mod Growth
+pub mod PageSays
 pub mod RigSheet
 pub mod GrowthSheet
+pub mod PageSheet
 pub mod ReelB
 pub mod PickBays
 pub mod Search

@@ -5,7 +5,7 @@ use mathlib.Core.List.{List, []}
 use Prim.Native.Nat.{ℕ}
 use lib.Dec.{leb, eqb}
 use Rattle.calls.specs.Bays.{Bays, orElse, mapS, findS}
-use Rattle.kinds.specs.Kinds.{Item, itemSize}
+use Rattle.kinds.specs.Kinds.{Item, itemSize, is}
 use Rattle.calls.specs.State.{get, Fixed, fsize, pointer, newFixed}
 use Rattle.zone.specs.PickBays.{onLow, onHigh, onJoin}
 use Rattle.bay.specs.Bay.{Cell, baySum, items, gap, joinBays, put, takeHigh, release, resized, reshape}
@@ -13,7 +13,7 @@ use Rattle.bay.specs.Counted.{count, roomFor}
 use Rattle.zone.specs.Work.{Zone}
 
 abbrev pub lookup : ℕ → Zone → Option Item
-lookup h z = findS (λ (b : List Cell). get h (items b)) (z .bays)
+lookup h z = findS (λ (b : List Cell). get (is h) (items b)) (z .bays)
 
 -- "whose sum reaches the need"
 abbrev pub reaches : ℕ → List Cell → Bool
@@ -30,7 +30,7 @@ joinAt p s = onJoin (λ (x : Fixed). eqb p (pointer x)) (λ (b : List Cell) (x :
 
 -- the bay has the handle once, and its sum reaches a − b
 abbrev pub own : ℕ → ℕ → List Cell → Bool
-own h a b = cond (eqb (count h (items b)) 1) (roomFor a (baySum b) (get h (items b))) false
+own h a b = cond (eqb (count (is h) (items b)) 1) (roomFor a (baySum b) (get (is h) (items b))) false
 
 abbrev pub resizeIn : ℕ → ℕ → Item → Bays (List Cell) Fixed → Option (Bays (List Cell) Fixed)
-resizeIn h a e s = orElse (onLow (own h a) (reshape h a) s) (placeLow (resized a e) (mapS (release h) s))
+resizeIn h a e s = orElse (onLow (own h a) (reshape h a) s) (placeLow (resized a e) (mapS (release (is h)) s))

@@ -1,17 +1,19 @@
 -- The laws of the whole test: the header's facts, the body, the two together.
 use mathlib.Core.Path.{_≡_, sym, _∙_}
 use mathlib.Core.List.{List}
-use mathlib.Core.Bool.{Bool, true, false, not}
-use Prim.Native.Nat.{ℕ, _-_, _<_, _≤_}
+use mathlib.Core.Bool.{Bool, true, false, not, _&&_}
+use Prim.Native.Nat.{ℕ, _-_, _%_, _<_, _≤_}
 use native.Mathlib.Omega.{arith}
 use borrow.Author.Tests.{leb-true, le-leb, not-true, not-false}
 use lib.ListN.{length, take, drop}
-use Rattle.block_type.specs.Limits.{zoneHeader}
+use Rattle.block_type.specs.Limits.{zoneHeader, longestZone}
 use Rattle.format.proofs.Bool.{and-left, and-right, is-false}
 use Rattle.format.proofs.Header.{Fields, header-facts}
-use Rattle.zone_check.specs.Body.{Body}
-use Rattle.format.specs.WellFormed.{headerOk, lengthField, firstField, mastersField, chainField, splitBlocks, relocs, wellFormed, countOf}
+use Rattle.zone_check.specs.Body.{Blocks, Body}
+use Rattle.names.specs.Pages.{Pages, namesAt}
+use Rattle.format.specs.WellFormed.{headerOk, lengthField, firstField, mastersField, chainField, splitBlocks, relocs, names, distinct, wellFormed, countOf}
 use Rattle.format.proofs.OneWalk.{one-walk}
+use Rattle.format.proofs.Every.{every-size, every-tile, every-page}
 use Rattle.format.specs.OneWalk.{links, blocksOk, bodyOk}
 
 pub header-long : (s : List ℕ) → headerOk s ≡ true → zoneHeader ≤ length s
@@ -27,28 +29,59 @@ module _ (z : List ℕ) (first m head : ℕ) where
   no : bodyOk z first m head ≡ false → Body z first m head false 0
   no e = record { is-ok = sym e; is-count = rw e }
 
-  pub body-tiles : (t : Bool) → t ≡ blocksOk z first false first bs → not t ≡ true → Body z first m head false 0
-  unfolding bodyOk
-  body-tiles t e q = no (rw (← e, not-true t q))
-
-  pub body-many : (n : ℕ) (t : Bool) → (t ≡ true → n ≡ relocs bs) → not t ≡ false → m < n → Body z first m head false 0
-  unfolding bodyOk
-  body-many n t f q h = no (is-false _ (λ g. let e = f (not-false t q) in
-      let l = leb-true (relocs bs) m (and-left _ (links z first (m - relocs bs) head) (and-right (blocksOk z first false first bs) _ g)) in omega arith))
-
-  module _ (n : ℕ) (t k : Bool) (e : t ≡ blocksOk z first false first bs) (f : t ≡ true → n ≡ relocs bs) (q : not t ≡ false) (h : n ≤ m) (ek : k ≡ links z first (m - n) head) where
-    value : bodyOk z first m head ≡ k
+  module _ (n : ℕ) (t certain : Bool) (b : Blocks z first t n certain) where
+    pub body-tiles : not t ≡ true → Body z first m head false 0
     unfolding bodyOk
-    value =
-        let y = not-false t q in
-        let en = f y in
-        rw (← e, y, ← en, le-leb n m h, ek)
+    body-tiles q = no (rw (← b .is-ok, not-true t q))
 
-    pub body-yes : k ≡ true → Body z first m head true n
-    body-yes y = record { is-ok = sym (value ∙ y); is-count = rw (value, y) (f (not-false t q)) }
+    module _ (q : not t ≡ false) where
+      good : blocksOk z first false first bs ≡ true
+      good = sym (b .is-ok) ∙ not-false t q
 
-    pub body-no : k ≡ false → Body z first m head false 0
-    body-no y = no (value ∙ y)
+      -- what the search for names is given
+      pub body-walks : first ≤ length z → first % 4 ≡ 0 → length z % 4 ≡ 0 → length z ≤ longestZone → Pages z first
+      body-walks h f g l =
+          record {
+            within = h;
+            four = f;
+            whole = g;
+            limit = l;
+            sizes = every-size z first false first bs good;
+            tiles = every-tile z first false first bs good;
+            long = every-page z first false first bs good;
+          }
+
+      pub body-certain : certain ≡ true → distinct (names bs) ≡ true
+      body-certain = b .is-distinct
+
+      pub body-many : m < n → Body z first m head false 0
+      unfolding bodyOk
+      body-many h = no (is-false _ (λ g. let e = b .is-count (not-false t q) in
+          let l = leb-true (relocs bs) m (and-left _ (links z first (m - relocs bs) head && distinct (names bs)) (and-right (blocksOk z first false first bs) _ g)) in omega arith))
+
+      module _ (k : Bool) (h : n ≤ m) (ek : k ≡ links z first (m - n) head) where
+        rest : bodyOk z first m head ≡ (k && distinct (names bs))
+        unfolding bodyOk
+        rest =
+            let en = b .is-count (not-false t q) in
+            rw (good, ← en, le-leb n m h, ek)
+
+        pub body-chain : not k ≡ true → Body z first m head false 0
+        body-chain y = no (rest ∙ rw (not-true k y))
+
+        module _ (y : not k ≡ false) (d : Bool) (ed : d ≡ distinct (names bs)) where
+          value : bodyOk z first m head ≡ d
+          value = rest ∙ rw (not-false k y, ed)
+
+          pub body-yes : d ≡ true → Body z first m head true n
+          body-yes x = record { is-ok = sym (value ∙ x); is-count = rw (value, x) (b .is-count (not-false t q)) }
+
+          pub body-no : d ≡ false → Body z first m head false 0
+          body-no x = no (value ∙ x)
+
+-- where the walk was certain
+pub certain-names : (z : List ℕ) (first : ℕ) (certain : Bool) → (certain ≡ true → distinct (namesAt z first) ≡ true) → certain ≡ true → true ≡ distinct (namesAt z first)
+certain-names z first certain f e = sym (f e)
 
 -- ---- the two together
 

@@ -1,11 +1,48 @@
--- What the test of the blocks and masters promises to the check above it.
+-- What the walk over the blocks, and the test of blocks, masters and names, promise to the check above them.
 use mathlib.Core.Path.{_≡_}
 use mathlib.Core.List.{List}
-use mathlib.Core.Bool.{Bool, cond}
-use Prim.Native.Nat.{ℕ}
-use lib.ListN.{drop}
-use Rattle.format.specs.OneWalk.{bodyOk}
-use Rattle.format.specs.WellFormed.{relocs, splitBlocks}
+use mathlib.Core.Bool.{Bool, true, false, cond}
+use Prim.Native.Nat.{ℕ, _+_, _%_, _<_, _≤_}
+use lib.ListN.{length, drop}
+use Rattle.block_type.specs.Limits.{longestZone}
+use Rattle.format.specs.OneWalk.{blocksOk, bodyOk}
+use Rattle.format.specs.Occurs.{occurs}
+use Rattle.format.specs.WellFormed.{relocs, distinct, splitBlocks}
+use Rattle.names.specs.Pages.{namesAt}
+use Rattle.names.specs.Seen.{tableSize, met}
+
+-- the walk has come to `at`: the blocks before obey the rules, count of them are relocatable, and prev says whether the last is free
+pub record Walked (z : List ℕ) (first at : ℕ) (prev : Bool) (count : ℕ) : Type 0 where
+  pub begins : first ≤ length z
+  pub begins-four : first % 4 ≡ 0
+  pub whole : length z % 4 ≡ 0
+  pub limit : length z ≤ longestZone
+  pub within : at ≤ length z
+  pub four : at % 4 ≡ 0
+  pub few : count ≤ at
+  pub is-ok : blocksOk z first prev at (splitBlocks (drop at z)) ≡ blocksOk z first false first (splitBlocks (drop first z))
+  pub is-count : count + relocs (splitBlocks (drop at z)) ≡ relocs (splitBlocks (drop first z))
+
+-- where `certain` holds, a name stands before `at` at most once, and then the table has it
+pub record Seen (z table : List ℕ) (first at : ℕ) (certain : Bool) : Type 0 where
+  pub once : certain ≡ true → (x : ℕ) → occurs x (namesAt z first) ≤ occurs x (namesAt z at) + cond (met table x) 1 0
+
+-- a table with no name
+pub record Empty (table : List ℕ) : Type 0 where
+  pub none : (x : ℕ) → met table x ≡ false
+
+-- what a walk answers that has a table of `room` slots: where the blocks that it has met obey the rules it has come to the end, or stands before the first page, if there is too little room
+pub record Gone (z : List ℕ) (first room : ℕ) (ok : Bool) (at : ℕ) (prev : Bool) (count : ℕ) (certain : Bool) : Type 0 where
+  pub bad : ok ≡ false → blocksOk z first false first (splitBlocks (drop first z)) ≡ false
+  pub good : ok ≡ true → Walked z first at prev count
+  pub stops : ok ≡ true → at < length z → (room < tableSize) × (namesAt z at ≡ namesAt z first)
+  pub is-distinct : certain ≡ true → distinct (namesAt z first) ≡ true
+
+-- what the walk over all blocks answers: whether all blocks obey the rules; where they do, how many are relocatable; and where it is certain of it, that names are distinct
+pub record Blocks (z : List ℕ) (first : ℕ) (ok : Bool) (count : ℕ) (certain : Bool) : Type 0 where
+  pub is-ok : ok ≡ blocksOk z first false first (splitBlocks (drop first z))
+  pub is-count : ok ≡ true → count ≡ relocs (splitBlocks (drop first z))
+  pub is-distinct : certain ≡ true → distinct (namesAt z first) ≡ true
 
 -- what the test of the body answers
 pub record Body (z : List ℕ) (first m head : ℕ) (ok : Bool) (count : ℕ) : Type 0 where

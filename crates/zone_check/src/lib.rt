@@ -1,46 +1,105 @@
 // Whether a zone is well-formed.
-pub mod block_check;
-
 ghost use mathlib.Core.Path.{_≡_};
-ghost use mathlib.Core.Bool.{true, false};
+ghost use mathlib.Core.Bool.{true};
 ghost use Prim.Native.Nat.{_+_, _-_, _*_, _%_, _<_, _≤_};
-ghost use lib.ListN.{length, drop};
+ghost use lib.ListN.{length};
 ghost use Rattle.block_type.specs.Limits.{longestZone, argumentRange};
-ghost use Rattle.format.specs.WellFormed.{headerOk, splitBlocks, relocs, wellFormed, countOf};
-ghost use Rattle.format.specs.OneWalk.{links, blocksOk};
+ghost use Rattle.format.specs.WellFormed.{headerOk, distinct, wellFormed, countOf};
+ghost use Rattle.format.specs.OneWalk.{links};
 ghost use Rattle.format.specs.Steps.{Fields};
-ghost use Rattle.zone_check.specs.Body.{Body};
+ghost use Rattle.zone_check.specs.Body.{Walked, Empty, Gone, Blocks, Body};
+ghost use Rattle.names.specs.Pages.{Pages, namesAt};
+ghost use Rattle.names.specs.Seen.{tableSize, Noted};
 
-pub struct Tally {
-    pub ok: bool,
-    pub count: usize,
+struct Tally {
+    ok: bool,
+    at: usize,
+    prev: bool,
+    count: usize,
+    certain: bool,
 }
 
-// Goes from block to block: whether all obey the rules, and how many are relocatable.
-// A block's word is read at the end of the turn before, and is 0 in the first: so it stays one load, whatever is asked of it.
-fn blocks_ok(z: &[u8], first: usize) -> Tally
-    requires { ⌜ (first ≤ length (now z)) × (first % 4 ≡ 0) × (length (now z) % 4 ≡ 0) × (length (now z) ≤ longestZone) ⌝ }
-    ensures { λ r. ⌜ (r .ok ≡ blocksOk (now (z .entry)) first false first (splitBlocks (drop first (now (z .entry))))) × (r .ok ≡ true → r .count ≡ relocs (splitBlocks (drop first (now (z .entry))))) ⌝ }
+// Notes a page's name, where all before were new (`sure`): whether it is certain that this one is, too.
+fn note(name: u32, seen: &mut [u16], sure: bool) -> bool
+    requires { ⌜ tableSize ≤ length (now seen) ⌝ }
+    ensures { λ r. ⌜ (Noted (now (seen .entry)) (now (seen .exit)) name r) × (r ≡ true → sure ≡ true) ⌝ }
 {
-    let mut at = first;
-    let mut prev = false;
-    let mut count = 0;
+    if sure {
+        return names::seen::is_new(seen, name);
+    }
+    false
+}
+
+// Goes from block to block, from `from` on, with prev and count of the blocks before: whether all obey the rules, how many are relocatable, and whether it is
+// certain that pages' names are distinct. They are noted in `seen` as they are met, up to one that is not certainly new. Where `seen` is too short
+// for names the walk ends before the first page.
+// A block's word is read in the turn before, and is 0 in the first: so it stays one load, whatever is asked of it. It is read before a name is
+// written, since a load behind a store may have to wait for it.
+fn walk(z: &[u8], first: usize, from: usize, prev: bool, count: usize, seen: &mut [u16]) -> Tally
+    requires { ⌜ (Walked (now z) first from prev count) × (namesAt (now z) from ≡ namesAt (now z) first) × (Empty (now seen)) ⌝ }
+    ensures { λ r. ⌜ Gone (now (z .entry)) first (length (now (seen .entry))) (r .ok) (r .at) (r .prev) (r .count) (r .certain) ⌝ }
+{
+    let mut at = from;
+    let mut free = prev;
+    let mut relocs = count;
+    let mut certain = true;
     let mut word = 0;
     while at < z.len() {
-        let b = block_check::good_block(z, first, prev, at, word);
+        let b = block_check::good_block(z, first, free, at, word);
         let n = b.size;
         if n == 0 {
             return Tally {
                 ok: false,
+                at,
+                prev: false,
                 count: 0,
+                certain: false,
             };
         }
-        prev = b.free;
-        count += b.one;
-        at += n;
-        word = block_check::word_at(z, at);
+        if b.page {
+            if seen.len() < names::seen::TABLE {
+                return Tally {
+                    ok: true,
+                    at,
+                    prev: free,
+                    count: relocs,
+                    certain: false,
+                };
+            }
+            let name = names::name_at(z, at);
+            free = false;
+            at += n;
+            word = block_check::word_at(z, at);
+            certain = note(name, seen, certain);
+        } else {
+            free = b.free;
+            relocs += b.one;
+            at += n;
+            word = block_check::word_at(z, at);
+        }
     }
-    Tally { ok: true, count }
+    Tally {
+        ok: true,
+        at,
+        prev: free,
+        count: relocs,
+        certain,
+    }
+}
+
+// The walk over all blocks. As long as there is no page no table is made for names.
+fn blocks_ok(z: &[u8], first: usize) -> Tally
+    requires { ⌜ (first ≤ length (now z)) × (first % 4 ≡ 0) × (length (now z) % 4 ≡ 0) × (length (now z) ≤ longestZone) ⌝ }
+    ensures { λ r. ⌜ Blocks (now (z .entry)) first (r .ok) (r .count) (r .certain) ⌝ }
+{
+    let mut none = [0u16; 1];
+    let w = walk(z, first, first, false, 0, &mut none);
+    let at = w.at;
+    if w.ok & (at < z.len()) {
+        let mut seen = [0u16; names::seen::TABLE];
+        return walk(z, first, at, w.prev, w.count, &mut seen);
+    }
+    w
 }
 
 // Whether n masters are visited from h on, and the last holds 0.
@@ -60,7 +119,7 @@ fn chain_ok(z: &[u8], first: usize, n: usize, head: usize) -> bool
     h == 0
 }
 
-pub fn header_ok(s: &[u8]) -> bool
+fn header_ok(s: &[u8]) -> bool
     ensures { λ r. ⌜ r ≡ headerOk (now (s .entry)) ⌝ }
 {
     if s.len() < block_type::ZONE_HEADER {
@@ -69,8 +128,7 @@ pub fn header_ok(s: &[u8]) -> bool
     let l = bigendian::get4(s, block_type::LENGTH_AT) as usize;
     let first = bigendian::get4(s, block_type::FIRST_AT) as usize;
     let m = bigendian::get4(s, block_type::MASTERS_AT) as usize;
-    (s[block_type::ZEROS_AT] == 0)
-        & (s[block_type::SECOND_ZERO_AT] == 0)
+    (s[block_type::ZERO_AT] == 0)
         & (l % 4 == 0)
         & (l <= s.len())
         & (l <= block_type::LONGEST_ZONE)
@@ -79,15 +137,15 @@ pub fn header_ok(s: &[u8]) -> bool
         & (first <= l)
 }
 
-pub struct Header {
-    pub len: usize,
-    pub first: usize,
-    pub masters: usize,
-    pub chain: usize,
+struct Header {
+    len: usize,
+    first: usize,
+    masters: usize,
+    chain: usize,
 }
 
 // The header's fields, with what the test of the header says of them.
-pub fn fields(s: &[u8]) -> Header
+fn fields(s: &[u8]) -> Header
     requires { ⌜ headerOk (now s) ≡ true ⌝ }
     ensures { λ r. ⌜ (Fields (now (s .entry)) (r .len) (r .first) (r .masters) (r .chain)) × (r .chain < argumentRange) ⌝ }
 {
@@ -97,6 +155,17 @@ pub fn fields(s: &[u8]) -> Header
         masters: bigendian::get4(s, block_type::MASTERS_AT) as usize,
         chain: bigendian::get2(s, block_type::CHAIN_AT) as usize,
     }
+}
+
+// Whether no two pages have the same name. Where the walk was certain of it, nobody need look.
+fn names_ok(z: &[u8], first: usize, certain: bool) -> bool
+    requires { ⌜ (Pages (now z) first) × (certain ≡ true → distinct (namesAt (now z) first) ≡ true) ⌝ }
+    ensures { λ r. ⌜ r ≡ distinct (namesAt (now (z .entry)) first) ⌝ }
+{
+    if certain {
+        return true;
+    }
+    names::rounds::names_distinct(z, first)
 }
 
 pub struct Checked {
@@ -124,7 +193,13 @@ fn body(z: &[u8], first: usize, m: usize, head: usize) -> Checked
             count: 0,
         };
     }
-    if chain_ok(z, first, m - n, head) {
+    if !chain_ok(z, first, m - n, head) {
+        return Checked {
+            ok: false,
+            count: 0,
+        };
+    }
+    if names_ok(z, first, t.certain) {
         return Checked { ok: true, count: n };
     }
     Checked {

@@ -10,9 +10,9 @@ use lib.Dec.{eqb}
 use borrow.Author.Tests.{ne-eqb}
 use Rattle.block_type.specs.Limits.{fixedHeader, fixedCode}
 use Rattle.structure.specs.Structure.{Block, fixed, size, cell, code}
-use Rattle.calls.specs.Calls.{Target, by-handle, by-pointer}
+use Rattle.calls.specs.Calls.{Target, by-handle, by-pointer, by-name}
 use Rattle.calls.specs.Bays.{Bays, last, more, over, orElse, findS, findF}
-use Rattle.kinds.specs.Kinds.{Item, itemSize, is, headerOf}
+use Rattle.kinds.specs.Kinds.{Item, itemSize, is, hasName, headerOf}
 use Rattle.kinds.proofs.KindLaws.{facts, not-fixed}
 use Rattle.calls.specs.State.{get, Fixed, pointer, content}
 use Rattle.bay.specs.Bay.{items, Cell, free, held}
@@ -49,18 +49,22 @@ in-bays t s = content items t s
 front-free : (t : Target) (n : ℕ) (s : Bays (List Cell) Fixed) → in-bays t (inFront (free n) s) ≡ in-bays t s
 front-free (by-handle h) n (last b) = refl
 front-free (by-handle h) n (more b x s) = refl
+front-free (by-name i) n (last b) = refl
+front-free (by-name i) n (more b x s) = refl
 front-free (by-pointer p) n (last b) = refl
 front-free (by-pointer p) n (more b x s) = refl
 
-front-held : (h : ℕ) (e : Item) (s : Bays (List Cell) Fixed) → in-bays (by-handle h) (inFront (held e) s) ≡ cond (is h e) (some (e .bytes)) (in-bays (by-handle h) s)
-front-held h e (last b) = go (is h e)
+-- t is a handle or a name, and ok the test of it
+front-held : (ok : Item → Bool) (e : Item) (s : Bays (List Cell) Fixed)
+    → over (λ (e : Item). e .bytes) (findS (λ (b : List Cell). get ok (items b)) (inFront (held e) s)) ≡ cond (ok e) (some (e .bytes)) (over (λ (e : Item). e .bytes) (findS (λ (b : List Cell). get ok (items b)) s))
+front-held ok e (last b) = go (ok e)
   where
-    go : (t : Bool) → over (λ (e : Item). e .bytes) (cond t (some e) (get h (items b))) ≡ cond t (some (e .bytes)) (in-bays (by-handle h) (last b))
+    go : (t : Bool) → over (λ (e : Item). e .bytes) (cond t (some e) (get ok (items b))) ≡ cond t (some (e .bytes)) (over (λ (e : Item). e .bytes) (get ok (items b)))
     go true = refl
     go false = refl
-front-held h e (more b x s) = go (is h e)
+front-held ok e (more b x s) = go (ok e)
   where
-    go : (t : Bool) → over (λ (e : Item). e .bytes) (orElse (cond t (some e) (get h (items b))) (findS (λ (b : List Cell). get h (items b)) s)) ≡ cond t (some (e .bytes)) (in-bays (by-handle h) (more b x s))
+    go : (t : Bool) → over (λ (e : Item). e .bytes) (orElse (cond t (some e) (get ok (items b))) (findS (λ (b : List Cell). get ok (items b)) s)) ≡ cond t (some (e .bytes)) (over (λ (e : Item). e .bytes) (orElse (get ok (items b)) (findS (λ (b : List Cell). get ok (items b)) s)))
     go true = refl
     go false = refl
 
@@ -78,6 +82,11 @@ pub content-among : (t : Target) (at : ℕ) (bs : List Block) → content items 
 unfolding placeAmong dataAmong
 content-among (by-handle h) at [] = refl
 content-among (by-pointer p) at [] = refl
+content-among (by-name i) at [] = refl
+content-among (by-name i) at (cell (free n) ∷ bs) = front-free (by-name i) n (group (at + n) bs) ∙ content-among (by-name i) (at + n) bs
+content-among (by-name i) at (fixed d ∷ bs) = content-among (by-name i) (at + (fixedHeader + length d)) bs
+content-among (by-name i) at (cell (held it) ∷ bs) = front-held (hasName i) it (group (at + itemSize it) bs)
+    ∙ ap (cond (hasName i it) (some (it .bytes))) (content-among (by-name i) (at + itemSize it) bs) ∙ here (hasName i it) (at + headerOf it) _ (it .bytes) _ (λ e. omega (arith, facts it .low))
 content-among (by-handle h) at (cell (free n) ∷ bs) = front-free (by-handle h) n (group (at + n) bs) ∙ content-among (by-handle h) (at + n) bs
 content-among (by-pointer p) at (cell (free n) ∷ bs) = front-free (by-pointer p) n (group (at + n) bs) ∙ content-among (by-pointer p) (at + n) bs
 content-among (by-handle h) at (fixed d ∷ bs) = content-among (by-handle h) (at + (fixedHeader + length d)) bs
@@ -88,6 +97,6 @@ content-among (by-pointer p) at (fixed d ∷ bs) = found (eqb p (at + fixedHeade
         ≡ cond t (some d) (content items (by-pointer p) (group (at + (fixedHeader + length d)) bs))
     found true = refl
     found false = refl
-content-among (by-handle h) at (cell (held it) ∷ bs) = front-held h it (group (at + itemSize it) bs)
+content-among (by-handle h) at (cell (held it) ∷ bs) = front-held (is h) it (group (at + itemSize it) bs)
     ∙ ap (cond (is h it) (some (it .bytes))) (content-among (by-handle h) (at + itemSize it) bs) ∙ here (is h it) (at + headerOf it) _ (it .bytes) _ (λ e. omega (arith, facts it .low))
 content-among (by-pointer p) at (cell (held it) ∷ bs) = front-pointer p it (group (at + itemSize it) bs) ∙ content-among (by-pointer p) (at + itemSize it) bs

@@ -17,9 +17,9 @@ use Rattle.access.proofs.Checked.{is-well}
 use Rattle.access.specs.row.Row.{blocksOf, Stepped}
 use Rattle.access.proofs.row.Laws.{row-end}
 use Rattle.access.proofs.row.Zone.{blocks-are}
-use Rattle.calls.specs.Calls.{Target, by-handle, by-pointer}
+use Rattle.calls.specs.Calls.{Target, by-handle, by-pointer, by-name}
 use Rattle.access.specs.declared.locate.Target.{Target as CodeTarget}
-use Rattle.access.specs.declared.locate.Target.the-variants.{Handle, Pointer}
+use Rattle.access.specs.declared.locate.Target.the-variants.{Handle, Pointer, Name}
 use Rattle.access.specs.locate.Named.{targetOf}
 use Rattle.access.specs.locate.Locate.{targetPlace, targetData, absentNumber, Located, ill-formed, absent, present}
 use Rattle.access.specs.Named.{placeAmong, dataAmong}
@@ -104,6 +104,12 @@ module _ (z : List ℕ) (b : CodeTarget) (v n : ℕ) where
 
   pub held-handle : b ≡ Handle n → v ≡ length (targetData (by-handle n) z) → v ≡ length (targetData (targetOf b) z)
   held-handle q e = rw q e
+
+  pub named-name : b ≡ Name n → v ≡ targetPlace (by-name n) z → v ≡ targetPlace (targetOf b) z
+  named-name q e = rw q e
+
+  pub held-name : b ≡ Name n → v ≡ length (targetData (by-name n) z) → v ≡ length (targetData (targetOf b) z)
+  held-name q e = rw q e
 
   pub named-pointer : b ≡ Pointer n → v ≡ targetPlace (by-pointer n) z → v ≡ targetPlace (targetOf b) z
   named-pointer q e = rw q e

@@ -1,4 +1,4 @@
--- The block that a handle or a pointer names: where its data lie, and which they are, in the structure of a zone.
+-- The block that a handle, a pointer or a name names: where its data lie, and which they are, in the structure of a zone.
 use mathlib.Core.Path.{_≡_}
 use mathlib.Core.Bool.{true, false, cond}
 use mathlib.Core.List.{List}
@@ -9,7 +9,7 @@ use Rattle.bigendian.specs.BigEndian.{Bytes}
 use Rattle.format.specs.WellFormed.{wellFormed, zoneOf}
 use Rattle.structure.specs.Structure.{start, decodeZone}
 use Rattle.access.specs.Named.{placeAmong, dataAmong}
-use Rattle.calls.specs.Calls.{Target, by-handle, by-pointer}
+use Rattle.calls.specs.Calls.{Target, by-handle, by-pointer, by-name}
 
 -- where the data of the named block begin in the bytes of a zone, with none beyond its length, 0 for none, and these data
 unfoldable pub targetPlace : Target → List ℕ → ℕ
@@ -22,8 +22,9 @@ targetData t z = dataAmong t (start (decodeZone z)) (decodeZone z .blocks)
 abbrev pub absentNumber : Target → ℕ
 absentNumber (by-handle h) = 6
 absentNumber (by-pointer p) = 7
+absentNumber (by-name n) = 13
 
--- the refusal of a block in a buffer: 1, 6 or 7; 0 for none
+-- the refusal of a block in a buffer: 1, 6, 7 or 13; 0 for none
 unfoldable pub blockNumber : Target → List ℕ → ℕ
 blockNumber t s = cond (wellFormed s) (cond (eqb (targetPlace t (zoneOf s)) 0) (absentNumber t) 0) 1
 

@@ -9,7 +9,6 @@ use lib.Dec.{leb}
 use lib.ListN.{length, getD, take, drop}
 use mir.Val.{Fits}
 use mir.Syntax.{w8, w32, w64}
-use Rattle.bigendian.proofs.Bytes.{bytes-none}
 use Rattle.block_type.specs.Limits.{fixedHeader, fixedNeed, fixedLimit}
 use Rattle.format.specs.WellFormed.{firstField}
 use Rattle.structure.specs.Structure.{Structure, start, len, decodeZone, encode}
@@ -95,4 +94,4 @@ module _ (s : List ℕ) (c number l need a e sum tail : ℕ) (p : Planned (alloc
   call-word = record { fits = omega (arith, ask-end (take l s) need a e sum tail call-site) }
 
   pub call-end : (y : List ℕ) → ((i : ℕ) → Fits w8 (getD s i 0)) → y ≡ encode (placed need (decodeZone (take l s))) → result (told 0 (e - need + fixedHeader)) (y ++ drop l s) ≡ call (allocate-fixed c) s
-  call-end y g q = frame-done (allocate-fixed c) s number l _ p g z (does (take l s) (length s) c need a e sum tail r) bytes-none refl y q
+  call-end y g q = frame-done (allocate-fixed c) s number l _ p g z (does (take l s) (length s) c need a e sum tail r) tt refl y q

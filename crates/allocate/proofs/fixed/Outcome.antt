@@ -9,7 +9,6 @@ use lib.ListN.{length, replicate, length-replicate}
 use lib.Dec.{leb, eqb}
 use borrow.Author.Tests.{eq-eqb, ne-eqb, leb-true}
 use Rattle.bigendian.specs.BigEndian.{Bytes}
-use Rattle.bigendian.proofs.Bytes.{bytes-none}
 use Rattle.block_type.specs.Limits.{fixedHeader, fixedNeed, firstBlock}
 use Rattle.calls.specs.Calls.{by-pointer, Answer, told, shows, Call, allocate-fixed, size, view}
 use Rattle.calls.specs.Bays.{Bays, last, more, over, findF}
@@ -71,7 +70,7 @@ pub record Made (c : ℕ) (s : List ℕ) : Type 0 where
 
 module _ (s : List ℕ) (c : ℕ) (y : Bytes s) (e : (call (allocate-fixed c) s) .answer .number ≡ 0) where
   a : Accepted (allocate-fixed c) s
-  a = accepted (allocate-fixed c) s (λ n. refl) refl e
+  a = accepted (allocate-fixed c) s (λ n v. refl) refl e
 
   abbrev z : Zone
   z = zoneIn s
@@ -93,7 +92,7 @@ module _ (s : List ℕ) (c : ℕ) (y : Bytes s) (e : (call (allocate-fixed c) s)
   held = ap (over (λ (x : Fixed). x .bytes)) (stands .found) ∙ ap some (stands .zeros)
 
   tell : (b : ℕ → Call) → asked c s b ≡ (step (b (pointer (r .0))) (withBays (r .1) z)) .answer
-  tell b = ap (λ (g : Answer). (call (b (g .value)) ((call (allocate-fixed c) s) .bytes)) .answer) (answered a y) ∙ after a y bytes-none (b (pointer (r .0)))
+  tell b = ap (λ (g : Answer). (call (b (g .value)) ((call (allocate-fixed c) s) .bytes)) .answer) (answered a y) ∙ after a y tt (b (pointer (r .0)))
 
   long : length zs ≡ need - fixedHeader
   long = length-replicate (need - fixedHeader) 0

@@ -121,7 +121,7 @@ module _ (z : List ℕ) (need a e sum tail : ℕ) (x : Site z need a e sum tail)
   spot = omega (arith, ends, bytes-long ds (kept .sound))
 
   -- the header over the first zeros
-  written : overwrite (beforeZeros (encode s) a ds need) (e - need) h ≡ encode (record { chain = s .chain; blocks = pre ++ (map cell ds ++ (fixed zs ∷ post)) })
+  written : overwrite (beforeZeros (encode s) a ds need) (e - need) h ≡ encode (record { clock = s .clock; chain = s .chain; blocks = pre ++ (map cell ds ++ (fixed zs ∷ post)) })
   unfolding beforeZeros
   written =
       let y = encode s in
@@ -135,7 +135,7 @@ module _ (z : List ℕ) (need a e sum tail : ℕ) (x : Site z need a e sum tail)
       ∙ ap (λ (o : ℕ). Masters.setAll o new (overwrite y o (Row.bytesOf new))) (run .numbers .start-is)
       ∙ moved s v pre (map cell cs) new post (s .chain) (run .parts) same-size
       (sound-append (map cell ds) (fixed zs ∷ []) (all-sound ds (kept .sound)) ((omega (arith, long-zs, x .low, x .four), omega (arith, long-zs, x .high)), tt)) same-handles refl
-      ∙ ap (λ (b : List Block). encode (record { chain = s .chain; blocks = pre ++ b })) (append-assoc (map cell ds) (fixed zs ∷ []) post)
+      ∙ ap (λ (b : List Block). encode (record { clock = s .clock; chain = s .chain; blocks = pre ++ b })) (append-assoc (map cell ds) (fixed zs ∷ []) post)
 
   pub ask-take : CanTake z need a e sum tail
   ask-take = run-take z need a e sum tail run
@@ -157,4 +157,4 @@ module _ (z : List ℕ) (need a e sum tail : ℕ) (x : Site z need a e sum tail)
     place-done y₂ q₂ =
         q₂ ∙ ap (λ (u : List ℕ). overwrite u (e - need) h) (run-left z need a e sum tail run y q)
         ∙ written
-        ∙ ap (λ (b : List Block). encode (record { chain = s .chain; blocks = b })) (sym (x .found .new))
+        ∙ ap (λ (b : List Block). encode (record { clock = s .clock; chain = s .chain; blocks = b })) (sym (x .found .new))

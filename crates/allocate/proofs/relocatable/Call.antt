@@ -7,7 +7,6 @@ use native.Mathlib.Omega.{arith}
 use mir.Val.{Fits}
 use mir.Syntax.{w8, w32}
 use lib.ListN.{length, getD, take, drop, replicate, length-replicate}
-use Rattle.bigendian.proofs.Bytes.{bytes-none}
 use Rattle.block_type.specs.Limits.{relocHeader, relocNeed, up4, argumentRange, firstBlock}
 use Rattle.structure.specs.Structure.{Structure, len, decodeZone, encode}
 use Rattle.kinds.specs.Kinds.{item, itemSize}
@@ -66,8 +65,8 @@ module _ (s : List ℕ) (c number l need h next a e at n : ℕ) (t grows : Bool)
 
   -- the work, on the zone w with a free master
   line-of : (w : Zone) (g : ℕ) (b : Bays (List Cell) Fixed) → top (w .chain) ≡ g → w .bays ≡ b
-      → inLine ((allocate c w) .next) ≡ record { chain = rest (w .chain); blocks = flatten (placeLow (blank need g) b) }
-  line-of w g b eg eb = λ i. record { chain = rest (w .chain); blocks = flatten (placeLow ((new-is (top (w .chain)) c need (is-ready .is-need) ∙ ap (blank need) eg) i) (eb i)) }
+      → inLine ((allocate c w) .next) ≡ record { clock = w .clock; chain = rest (w .chain); blocks = flatten (placeLow (blank need g) b) }
+  line-of w g b eg eb = λ i. record { clock = w .clock; chain = rest (w .chain); blocks = flatten (placeLow ((new-is (top (w .chain)) c need (is-ready .is-need) ∙ ap (blank need) eg) i) (eb i)) }
 
   does : Does (allocate-relocatable c) (length s) (take l s) (told 0 h) (allocated need (withMasterIn d))
   does = go call-goes
@@ -100,4 +99,4 @@ module _ (s : List ℕ) (c number l need h next a e at n : ℕ) (t grows : Bool)
   same-length = cond-one (λ (w : Zone). w .len) (isEmpty (d .chain)) refl refl
 
   pub call-end : (y : List ℕ) → ((i : ℕ) → Fits w8 (getD s i 0)) → y ≡ encode (allocated need (withMasterIn (decodeZone (take l s)))) → result (told 0 h) (y ++ drop l s) ≡ call (allocate-relocatable c) s
-  call-end y g q = frame-done (allocate-relocatable c) s number l _ p g z does bytes-none same-length y q
+  call-end y g q = frame-done (allocate-relocatable c) s number l _ p g z does tt same-length y q

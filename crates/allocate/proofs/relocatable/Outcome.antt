@@ -5,13 +5,13 @@ use mathlib.Core.Option.{some}
 use mathlib.Core.List.{List, [], _∷_}
 use Prim.Native.Nat.{ℕ}
 use native.Mathlib.Omega.{arith}
+use borrow.Author.Tests.{eq-eqb}
 use lib.ListN.{length, replicate, length-replicate}
 use Rattle.bigendian.specs.BigEndian.{Bytes}
-use Rattle.bigendian.proofs.Bytes.{bytes-none}
 use Rattle.block_type.specs.Limits.{up4}
 use Rattle.calls.specs.Calls.{by-handle, Answer, told, shows, Call, allocate-relocatable, size, view}
 use Rattle.calls.specs.Bays.{Bays, over, findS, maxS}
-use Rattle.kinds.specs.Kinds.{Item, itemSize}
+use Rattle.kinds.specs.Kinds.{Item, itemSize, is}
 use Rattle.calls.specs.State.{get, newItem, top, Fixed, content}
 use Rattle.calls.specs.Table.{below, isEmpty}
 use Rattle.calls.proofs.First.{or-left}
@@ -41,7 +41,7 @@ pub record Made (c : ℕ) (s : List ℕ) : Type 0 where
 
 module _ (s : List ℕ) (c : ℕ) (y : Bytes s) (e : (call (allocate-relocatable c) s) .answer .number ≡ 0) where
   a : Accepted (allocate-relocatable c) s
-  a = accepted (allocate-relocatable c) s (λ n. refl) refl e
+  a = accepted (allocate-relocatable c) s (λ n v. refl) refl e
 
   abbrev z : Zone
   z = zoneIn s
@@ -69,10 +69,10 @@ module _ (s : List ℕ) (c : ℕ) (y : Bytes s) (e : (call (allocate-relocatable
   found : content items (by-handle h) (next .bays) ≡ some (i .bytes)
   found =
       let need : below (maxS baySum (v .bays)) (itemSize i) ≡ false = rw (need-is h c, with-room z true) (or-left _ _ (cleared a 5 refl)) in
-      ap (over (λ (i : Item). i .bytes)) (each-got {Q = λ (u : Bays (List Cell) Fixed). findS (λ (b : List Cell). get h (items b)) u ≡ some i} (total-low baySum (itemSize i) (put i) (v .bays)) need (low-found i (v .bays) fresh))
+      ap (over (λ (i : Item). i .bytes)) (each-got {Q = λ (u : Bays (List Cell) Fixed). findS (λ (b : List Cell). get (is h) (items b)) u ≡ some i} (total-low baySum (itemSize i) (put i) (v .bays)) need (low-found (is h) i (eq-eqb h h refl) (v .bays) fresh))
 
   tell : (b : ℕ → Call) → asked c s b ≡ (step (b h) next) .answer
-  tell b = ap (λ (g : Answer). (call (b (g .value)) ((call (allocate-relocatable c) s) .bytes)) .answer) (answered a y) ∙ after a y bytes-none (b h)
+  tell b = ap (λ (g : Answer). (call (b (g .value)) ((call (allocate-relocatable c) s) .bytes)) .answer) (answered a y) ∙ after a y tt (b h)
 
   long : length (i .bytes) ≡ up4 c
   long = length-replicate (up4 c) 0

@@ -17,7 +17,7 @@ use Rattle.structure.proofs.Table.{value-is, start-is}
 use Rattle.structure.proofs.Round.{offset-is, place-none}
 use Rattle.settle.proofs.surgery.Sound.{handle-once}
 use Rattle.allocate.specs.relocatable.Ready.{RoomIn, GoingIn}
-use Rattle.allocate.proofs.relocatable.Bay.{whole, valid, master}
+use Rattle.allocate.proofs.relocatable.Placed.{whole, valid, master}
 
 module _ (z : List ℕ) (need h a e at n : ℕ) (t : Bool) (x : RoomIn z need h a e at n t) where
   abbrev s : Structure

@@ -17,7 +17,7 @@ abbrev pub room : ℕ → Structure → Fixed × Bays (List Cell) Fixed
 room need s = placeHigh need (len s) (group (start s) (s .blocks))
 
 abbrev pub placed : ℕ → Structure → Structure
-placed need s = record { chain = s .chain; blocks = flatten (room need s .1) }
+placed need s = record { clock = s .clock; chain = s .chain; blocks = flatten (room need s .1) }
 
 -- the bay from a to e of the zone z makes room for a block of need bytes
 pub record Site (z : List ℕ) (need a e sum tail : ℕ) : Type 0 where

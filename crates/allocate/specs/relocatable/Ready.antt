@@ -18,7 +18,7 @@ use Rattle.structure.specs.IsZone.{IsZone}
 
 -- the structure with a new block of need bytes in the lowest bay whose sum reaches them, the chain's head being its handle
 abbrev pub allocated : ℕ → Structure → Structure
-allocated need s = record { chain = rest (s .chain); blocks = flatten (placeLow (blank need (top (s .chain))) (baysOf s)) }
+allocated need s = record { clock = s .clock; chain = rest (s .chain); blocks = flatten (placeLow (blank need (top (s .chain))) (baysOf s)) }
 
 -- the structure with a free master: with eight more, where it has none
 abbrev pub withMasterIn : Structure → Structure

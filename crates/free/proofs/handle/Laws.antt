@@ -8,7 +8,6 @@ use mir.Syntax.{w8}
 use lib.ListN.{length, getD, take, drop}
 use Rattle.access.proofs.Checked.{zone-14}
 use Rattle.bigendian.specs.BigEndian.{toBE, overwrite}
-use Rattle.bigendian.proofs.Bytes.{bytes-none}
 use Rattle.block_type.specs.Limits.{masterSize, relocHeader, argumentRange, chainAt}
 use Rattle.format.specs.WellFormed.{firstField, chainField}
 use Rattle.bay.specs.Bay.{free, held}
@@ -72,4 +71,4 @@ module _ (s : List ℕ) (h number l head from at end to : ℕ) (p : Planned (fre
   call-ready = frame-ready (free-handle h) s number l _ p z
 
   pub call-out : (y : List ℕ) → ((i : ℕ) → Fits w8 (getD s i 0)) → y ≡ encode (freed h (decodeZone (take l s))) → result (told 0 0) (y ++ drop l s) ≡ call (free-handle h) s
-  call-out y g q = frame-done (free-handle h) s number l _ p g z (frees (take l s) h (call-ready .freeing .zone) (call-ready .live) (length s)) bytes-none refl y q
+  call-out y g q = frame-done (free-handle h) s number l _ p g z (frees (take l s) h (call-ready .freeing .zone) (call-ready .live) (length s)) tt refl y q

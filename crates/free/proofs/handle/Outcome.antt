@@ -1,5 +1,5 @@
 -- After an accepted free the handle names no block, as many bytes more are free as its block had, and the next allocation takes the handle.
-use mathlib.Core.Path.{_≡_, refl, ap, _∙_}
+use mathlib.Core.Path.{_≡_, refl, ap, _∙_, subst}
 use mathlib.Core.Bool.{Bool, true, false, cond, not, true≢false}
 use mathlib.Core.Option.{Option, none, some}
 use mathlib.Core.List.{List, [], _∷_}
@@ -8,7 +8,6 @@ use native.Mathlib.Omega.{arith}
 use lib.ListN.{length}
 use lib.Dec.{leb}
 use Rattle.bigendian.specs.BigEndian.{Bytes}
-use Rattle.bigendian.proofs.Bytes.{bytes-none}
 use Rattle.block_type.specs.Limits.{relocHeader, relocLimit, relocNeed}
 use Rattle.calls.specs.Calls.{by-handle, Call, Answer, told, allocate-relocatable, free-handle, size, sums}
 use Rattle.calls.specs.Bays.{Bays, last, more, over, mapS, orElse, sumS, maxS}
@@ -20,10 +19,11 @@ use Rattle.calls.specs.Table.{cause, below, isNone, first, order}
 use Rattle.calls.proofs.First.{or-left}
 use Rattle.zone.specs.Work.{Zone, work}
 use Rattle.zone.specs.Call.{call, zoneIn}
-use Rattle.bay.proofs.Each.{Each, nothing, just}
+use Rattle.kinds.proofs.KindLaws.{is-header}
+use Rattle.bay.proofs.Each.{Each, nothing, just, each-some}
 use Rattle.bay.proofs.Laws.{release-items}
-use Rattle.zone.proofs.Sums.{find-sum}
-use Rattle.zone.proofs.Handles.{get-count}
+use Rattle.zone.proofs.Sums.{find-sum, find-each}
+use Rattle.zone.proofs.HowMany.{get-count, get-its}
 use Rattle.zone.proofs.Grouped.{single-live}
 use Rattle.zone.proofs.Run.{well-whole}
 use Rattle.zone.proofs.Once.{taken, sum-released, blockOf}
@@ -39,30 +39,30 @@ none-taken n (just l) q = absurd (omega arith)
 module _ (h : ℕ) where
   -- ---- the handle is gone
 
-  get-removed : (es : List Item) → get h (remove h es) ≡ none
+  get-removed : (es : List Item) → get (is h) (remove (is h) es) ≡ none
   get-removed [] = refl
   get-removed (e ∷ es) = go (is h e) refl (get-removed es)
     where
-      go : (t : Bool) → is h e ≡ t → get h (remove h es) ≡ none → get h (cond t (remove h es) (e ∷ remove h es)) ≡ none
+      go : (t : Bool) → is h e ≡ t → get (is h) (remove (is h) es) ≡ none → get (is h) (cond t (remove (is h) es) (e ∷ remove (is h) es)) ≡ none
       go true q r = r
       go false q r = (rw q) ∙ r
 
-  gone : (s : Bays (List Cell) Fixed) → blockOf h (mapS (release h) s) ≡ none
-  gone (last b) = ap (get h) (release-items h b) ∙ get-removed (items b)
-  gone (more b x s) = ap (λ (o : Option Item). orElse o (blockOf h (mapS (release h) s))) (ap (get h) (release-items h b) ∙ get-removed (items b)) ∙ gone s
+  gone : (s : Bays (List Cell) Fixed) → blockOf h (mapS (release (is h)) s) ≡ none
+  gone (last b) = ap (get (is h)) (release-items (is h) b) ∙ get-removed (items b)
+  gone (more b x s) = ap (λ (o : Option Item). orElse o (blockOf h (mapS (release (is h)) s))) (ap (get (is h)) (release-items (is h) b) ∙ get-removed (items b)) ∙ gone s
 
   -- ---- the sum of the bays, where the handle stands at most once
 
   -- an item that is found counts
   find-counts : (s : Bays (List Cell) Fixed) → Each (λ (e : Item). 1 ≤ live h s) (blockOf h s)
-  find-counts s = find-sum (λ (b : List Cell). get h (items b)) (λ (b : List Cell). count h (items b)) (λ b. get-count h (items b)) s
+  find-counts s = find-sum (λ (b : List Cell). get (is h) (items b)) (λ (b : List Cell). count (is h) (items b)) (λ b. get-count (is h) (items b)) s
 
-  more-free : (s : Bays (List Cell) Fixed) → live h s ≤ 1 → sumS baySum (mapS (release h) s) ≡ sumS baySum s + taken (blockOf h s)
-  more-free (last b) n = sum-released h b n
-  more-free (more b x s) n = go (get h (items b)) (get-count h (items b)) (sum-released h b (omega arith)) (more-free s (omega arith))
+  more-free : (s : Bays (List Cell) Fixed) → live h s ≤ 1 → sumS baySum (mapS (release (is h)) s) ≡ sumS baySum s + taken (blockOf h s)
+  more-free (last b) n = sum-released (is h) b n
+  more-free (more b x s) n = go (get (is h) (items b)) (get-count (is h) (items b)) (sum-released (is h) b (omega arith)) (more-free s (omega arith))
     where
-      go : (o : Option Item) → Each (λ (e : Item). 1 ≤ count h (items b)) o → baySum (release h b) ≡ baySum b + taken o → sumS baySum (mapS (release h) s) ≡ sumS baySum s + taken (blockOf h s)
-          → baySum (release h b) + sumS baySum (mapS (release h) s) ≡ baySum b + sumS baySum s + taken (orElse o (blockOf h s))
+      go : (o : Option Item) → Each (λ (e : Item). 1 ≤ count (is h) (items b)) o → baySum (release (is h) b) ≡ baySum b + taken o → sumS baySum (mapS (release (is h)) s) ≡ sumS baySum s + taken (blockOf h s)
+          → baySum (release (is h) b) + sumS baySum (mapS (release (is h)) s) ≡ baySum b + sumS baySum s + taken (orElse o (blockOf h s))
       go none nothing p q = omega arith
       go (some e) (just l) p q = omega (arith, none-taken (live h s) (find-counts s) (omega arith))
 
@@ -87,7 +87,7 @@ pub record Freed (h : ℕ) (s : List ℕ) : Type 0 where
 
 module _ (s : List ℕ) (h : ℕ) (y : Bytes s) (e : asked (free-handle h) s .number ≡ 0) where
   a : Accepted (free-handle h) s
-  a = accepted (free-handle h) s (λ n. refl) refl e
+  a = accepted (free-handle h) s (λ n v. refl) refl e
 
   abbrev z : Zone
   z = zoneIn s
@@ -113,7 +113,7 @@ module _ (s : List ℕ) (h : ℕ) (y : Bytes s) (e : asked (free-handle h) s .nu
   again-as o = (stepAs (first order (cause 1 false ∷ cause 6 (isNone (over length (over (λ (i : Item). i .bytes) o))) ∷ [])) (free-handle h) next) .answer
 
   now : (c : Call) → asked c (left h s) ≡ (step c next) .answer
-  now = after a y bytes-none
+  now = after a y tt
 
   pub free-left : Freed h s
   free-left = go (blockOf h (z .bays)) refl (or-left _ _ (cleared a 6 refl))
@@ -132,6 +132,7 @@ module _ (s : List ℕ) (h : ℕ) (y : Bytes s) (e : asked (free-handle h) s .nu
               ap value (before a y (size (by-handle h)) ∙ size-there z (by-handle h) (ap (over (λ (i : Item). i .bytes)) q)),
               more-free h (z .bays) (single-live z (well-whole s y (a .well)) h),
               ap taken q,
+              is-header h i (each-some (subst (Each (λ (i : Item). is h i ≡ true)) q (find-each (λ (i : Item). is h i ≡ true) (λ (b : List Cell). get (is h) (items b)) (λ b. get-its (is h) (items b)) (z .bays)))),
             );
             reused = λ c k. ap value (now (allocate-relocatable c)) ∙ head c (omega (arith, ap (λ (b : Answer). b .number) (now (allocate-relocatable c))));
           }

@@ -10,7 +10,6 @@ use lib.Dec.{eqb}
 use borrow.Author.Tests.{eqb-true}
 use lib.ListN.{length, getD, take, drop}
 use Rattle.bigendian.specs.BigEndian.{overwrite}
-use Rattle.bigendian.proofs.Bytes.{bytes-none}
 use Rattle.block_type.specs.Limits.{fixedCode, fixedHeader, freeHeader}
 use Rattle.format.specs.WellFormed.{typeOf, firstField}
 use Rattle.format.proofs.Bool.{and-right}
@@ -117,5 +116,5 @@ module _ (s : List ℕ) (p number l from at end to : ℕ) (f : Planned (free-poi
 
   pub call-out : (y : List ℕ) → ((i : ℕ) → Fits w8 (getD s i 0)) → y ≡ overwrite (take l s) from (encodeBlock (cell (free (to - from)))) → result (told 0 0) (y ++ drop l s) ≡ call (free-pointer p) s
   call-out y g e =
-      frame-done (free-pointer p) s number l _ f g z (frees (take l s) p (is-ready .live) (length s)) bytes-none refl y
+      frame-done (free-pointer p) s number l _ f g z (frees (take l s) p (is-ready .live) (length s)) tt refl y
       (freeing-plain (take l s) _ _ from at end to (is-ready .freeing) none y e)

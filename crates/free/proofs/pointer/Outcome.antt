@@ -9,7 +9,6 @@ use lib.ListN.{length}
 use lib.Dec.{eqb}
 use borrow.Author.Tests.{eqb-true, ne-eqb}
 use Rattle.bigendian.specs.BigEndian.{Bytes}
-use Rattle.bigendian.proofs.Bytes.{bytes-none}
 use Rattle.block_type.specs.Limits.{fixedHeader}
 use Rattle.calls.specs.Calls.{by-pointer, Answer, told, free-pointer, size, sums}
 use Rattle.calls.specs.Bays.{Bays, last, more, over, findF, sumS}
@@ -72,7 +71,7 @@ pub record Freed (p : ℕ) (s : List ℕ) : Type 0 where
 
 module _ (s : List ℕ) (p : ℕ) (y : Bytes s) (e : (call (free-pointer p) s) .answer .number ≡ 0) where
   a : Accepted (free-pointer p) s
-  a = accepted (free-pointer p) s (λ n. refl) refl e
+  a = accepted (free-pointer p) s (λ n v. refl) refl e
 
   abbrev z : Zone
   z = zoneIn s
@@ -85,6 +84,6 @@ module _ (s : List ℕ) (p : ℕ) (y : Bytes s) (e : (call (free-pointer p) s) .
       go (some x) q n (just k) =
           let value : Answer → ℕ = λ a. a .value in
           record {
-            unnamed = after a y bytes-none (size (by-pointer p)) ∙ size-gone (withBays (freePointer p (z .bays)) z) (by-pointer p) (ap (over (λ (x : Fixed). x .bytes)) (k .gone));
-            total = omega (arith, ap value (after a y bytes-none sums), ap value (before a y sums), ap value (before a y (size (by-pointer p)) ∙ size-there z (by-pointer p) (ap (over (λ (x : Fixed). x .bytes)) q)), k .more-free);
+            unnamed = after a y tt (size (by-pointer p)) ∙ size-gone (withBays (freePointer p (z .bays)) z) (by-pointer p) (ap (over (λ (x : Fixed). x .bytes)) (k .gone));
+            total = omega (arith, ap value (after a y tt sums), ap value (before a y sums), ap value (before a y (size (by-pointer p)) ∙ size-there z (by-pointer p) (ap (over (λ (x : Fixed). x .bytes)) q)), k .more-free);
           }

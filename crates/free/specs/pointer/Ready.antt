@@ -12,7 +12,7 @@ use Rattle.free.specs.declared.pointer.FreePlan.{FreePlan}
 
 -- the structure without the fixed block of pointer p
 abbrev pub freed : ℕ → Structure → Structure
-freed p s = record { chain = s .chain; blocks = flatten (freePointer p (group (start s) (s .blocks))) }
+freed p s = record { clock = s .clock; chain = s .chain; blocks = flatten (freePointer p (group (start s) (s .blocks))) }
 
 pub record ReadyIn (z : List ℕ) (p from at end to : ℕ) : Type 0 where
   pub live : targetPlace (by-pointer p) z ≡ 0 → ⊥

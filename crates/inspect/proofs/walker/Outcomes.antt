@@ -7,6 +7,7 @@ use native.Mathlib.Omega.{arith}
 use lib.Dec.{eqb}
 use borrow.Author.Tests.{eqb-true, eq-eqb, ne-eqb}
 use lib.ListN.{length}
+use Rattle.kinds.proofs.KindLaws.{facts}
 use Rattle.bigendian.specs.BigEndian.{Bytes}
 use Rattle.format.specs.WellFormed.{wellFormed, lengthField, zoneOf}
 use Rattle.structure.specs.Structure.{Block, fixed, size, sizes, start, decode, cell, code}
@@ -71,7 +72,7 @@ sized : (prev : Bool) (bs : List Block) → Tiled prev bs → Sized bs
 sized prev [] t = tt
 sized prev (cell (free n) ∷ bs) t = (omega (arith, t .1), sized true bs (t .4))
 sized prev (fixed d ∷ bs) t = (omega arith, sized false bs (t .3))
-sized prev (cell (held it) ∷ bs) t = (omega arith, sized false bs (t .3))
+sized prev (cell (held it) ∷ bs) t = (omega (arith, facts it .low), sized false bs (t .3))
 
 -- the block behind those of a list is found at the end of them
 behind : (p : ℕ) (b : Block) (bs pre : List Block) → Sized (pre ++ b ∷ bs) → describe (p + sizes pre) p (pre ++ b ∷ bs) ≡ record { kind = code b; offset = p + sizes pre; size = size b }

@@ -7,7 +7,7 @@ use lib.ListN.{length}
 use Rattle.format.specs.WellFormed.{firstField}
 use Rattle.block_type.specs.Limits.{relocHeader}
 use Rattle.bigendian.specs.BigEndian.{toBE, slice, overwrite}
-use Rattle.kinds.specs.Kinds.{Item, itemSize, headerOf}
+use Rattle.kinds.specs.Kinds.{Item, itemSize, headerOf, is}
 use Rattle.calls.specs.Bays.{Bays}
 use Rattle.calls.specs.State.{Fixed}
 use Rattle.bay.specs.Bay.{held, gap, fill, baySize, release}
@@ -40,7 +40,7 @@ module _ (z : List ℕ) (h b a at n : ℕ) (x : Carry z h b a at n) where
   e = itemOf z h a
 
   abbrev k′ : Slot
-  k′ = others (release h) (x .slot)
+  k′ = others (release (is h)) (x .slot)
 
   is-z : encode s ≡ z
   is-z = encode-zone z (w z h b a at n (carry-in x))
@@ -64,7 +64,7 @@ module _ (z : List ℕ) (h b a at n : ℕ) (x : Carry z h b a at n) where
       new-long e (x .hole .size) ok (omega (arith, size-is, x .fits)) (subst (λ (j : ℕ). j % 4 ≡ 0) (x .size-is) (f .four-n)) (omega (arith, f .inside, f .short, x .size-is))
 
   place-new : at ≡ start s + sizes (blocksBefore k′) + baySize (x .hole .before)
-  place-new = omega (arith, x .at-is, others-sizes (release h) (release-size h) (x .slot))
+  place-new = omega (arith, x .at-is, others-sizes (release (is h)) (release-size (is h)) (x .slot))
 
   module _ (old first prev stop from to : ℕ) (eo : old ≡ placeIn z h) (ef : first ≡ firstField z) (p : Stopped z first (old - relocHeader) prev stop) (q : Extended z prev (old - relocHeader) (old + b) from to) where
     data-here : slice z old b ≡ dataIn z h
@@ -90,7 +90,7 @@ module _ (z : List ℕ) (h b a at n : ℕ) (x : Carry z h b a at n) where
         ∙ ap₂ (λ (t : List ℕ) (i : ℕ). overwrite (overwrite (overwrite t at (bytesOf (held e ∷ gap i []))) h m) from u) (sym is-z) j
         ∙ moved s (v z h b a at n (carry-in x)) (around z h b a at n (carry-in x)) h (its z h b a at n (carry-in x)) valid-freed (blocksBefore k′) (blocksAfter k′) (x .bay) freed-parts (x .hole) (x .is) e refl refl ok (omega (arith, size-is, x .fits)) long
         at from to place-new (from-place z h b a at n (carry-in x) old eo first ef prev stop p from to q) (to-place z h b a at n (carry-in x) old eo first ef prev stop p from to q) (apart z h b a at n (carry-in x) old eo first ef prev stop p from to q)
-        ∙ ap (λ (bs : List Block). encode (record { chain = s .chain; blocks = bs })) (sym (plug-flat k′ (fill e (x .hole))))
+        ∙ ap (λ (bs : List Block). encode (record { clock = s .clock; chain = s .chain; blocks = bs })) (sym (plug-flat k′ (fill e (x .hole))))
 
 pub carry-done : (z : List ℕ) (h b a at n old from to : ℕ) → OldPlace z h b old from to → (y : List ℕ) → y ≡ movedBytes z h from to at n (relocHeader + a) (slice z old b) → Carried z h b a at n y
 carry-done z h b a at n old from to (old-place first prev stop eo ef p q) y ey = record { left = λ x. done z h b a at n x old first prev stop from to eo ef p q y ey }

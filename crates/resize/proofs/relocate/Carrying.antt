@@ -81,7 +81,7 @@ module _ (z : List ℕ) (h b a at n : ℕ) (y : CarryIn z h b a at n) where
 
   -- ---- the block
 
-  pub found : (e : Item) × (findS (λ (c : List Cell). get h (items c)) (baysOf (decodeZone z)) ≡ some e) × (e .bytes ≡ dataIn z h)
+  pub found : (e : Item) × (findS (λ (c : List Cell). get (is h) (items c)) (baysOf (decodeZone z)) ≡ some e) × (e .bytes ≡ dataIn z h)
   unfolding placeIn dataIn
   found = place-live h s (x .grows .live)
 
@@ -101,10 +101,10 @@ module _ (z : List ℕ) (h b a at n : ℕ) (y : CarryIn z h b a at n) where
   once = subst (λ (u : Bays (List Cell) Fixed). live h u ≤ 1) (x .bays) (single-live (inBays (len s) s) wb h)
 
   pub side : Beside h block k (x .bay)
-  side = beside h block k (x .bay) sound-bay sounds once (x .without) (ap (λ (u : Bays (List Cell) Fixed). findS (λ (c : List Cell). get h (items c)) u) (sym (x .bays)) ∙ found .1)
+  side = beside h block k (x .bay) sound-bay sounds once (x .without) (ap (λ (u : Bays (List Cell) Fixed). findS (λ (c : List Cell). get (is h) (items c)) u) (sym (x .bays)) ∙ found .1)
 
-  pub freed-bays : mapS (release h) (baysOf (decodeZone z)) ≡ plug (others (release h) (x .slot)) (x .bay)
-  freed-bays = ap (mapS (release h)) (x .bays) ∙ plug-map (release h) k (x .bay) ∙ ap (plug (others (release h) k)) (release-none h sound-bay (x .without))
+  pub freed-bays : mapS (release (is h)) (baysOf (decodeZone z)) ≡ plug (others (release (is h)) (x .slot)) (x .bay)
+  freed-bays = ap (mapS (release (is h))) (x .bays) ∙ plug-map (release (is h)) k (x .bay) ∙ ap (plug (others (release (is h)) k)) (release-none (is h) sound-bay (x .without))
 
   pub blocks-are : s .blocks ≡ flatten (plug k (x .bay))
   blocks-are = sym (flatten-group (start s) (s .blocks)) ∙ ap (λ (u : Bays (List Cell) Fixed). flatten u) (x .bays)

@@ -8,7 +8,7 @@ use native.Mathlib.Omega.{arith}
 use lib.ListN.{length}
 use Rattle.block_type.specs.Limits.{relocHeader}
 use Rattle.calls.specs.Bays.{over, orElse, findS}
-use Rattle.kinds.specs.Kinds.{Item, item}
+use Rattle.kinds.specs.Kinds.{Item, item, is}
 use Rattle.calls.specs.State.{get, ownSum}
 use Rattle.bay.specs.Bay.{Cell, baySum, items, release}
 use Rattle.bay.specs.Counted.{count, live}
@@ -25,51 +25,51 @@ module _ (h a : ℕ) (e : Item) where
   abbrev Lacking : Option Item → Option ℕ → Type 0
   Lacking o m = (o ≡ some e) × (Option·getD m 0 + length (e .bytes) < a)
 
-  absent : (b : List Cell) (o : Option Item) → count h (items b) ≡ often o → relocHeader + a ≤ baySum b → (w : Option Item) (m : Option ℕ) → Lacking (orElse o w) (orElse (sumIn b o) m) → count h (items b) ≡ 0
+  absent : (b : List Cell) (o : Option Item) → count (is h) (items b) ≡ often o → relocHeader + a ≤ baySum b → (w : Option Item) (m : Option ℕ) → Lacking (orElse o w) (orElse (sumIn b o) m) → count (is h) (items b) ≡ 0
   absent b none q l w m t = q
   absent b (some i) q l w m t = absurd (omega (arith, t .1))
 
   -- the bay whose sum reaches the need is another one
-  pub without : (k : Slot) (b : List Cell) → live h (plug k b) ≤ 1 → relocHeader + a ≤ baySum b → blockOf h (plug k b) ≡ some e → ownSum items baySum h (plug k b) + length (e .bytes) < a → count h (items b) ≡ 0
-  without slot-end b l r f t = go (get h (items b)) (count-get h (items b) l) f t
+  pub without : (k : Slot) (b : List Cell) → live h (plug k b) ≤ 1 → relocHeader + a ≤ baySum b → blockOf h (plug k b) ≡ some e → ownSum items baySum h (plug k b) + length (e .bytes) < a → count (is h) (items b) ≡ 0
+  without slot-end b l r f t = go (get (is h) (items b)) (count-get (is h) (items b) l) f t
     where
-      go : (o : Option Item) → count h (items b) ≡ often o → o ≡ some e → Option·getD (sumIn b o) 0 + length (e .bytes) < a → count h (items b) ≡ 0
+      go : (o : Option Item) → count (is h) (items b) ≡ often o → o ≡ some e → Option·getD (sumIn b o) 0 + length (e .bytes) < a → count (is h) (items b) ≡ 0
       go none q f t = q
       go (some i) q f t = absurd (omega arith)
-  without (slot-fixed x s) b l r f t = absent b (get h (items b)) (count-get h (items b) (omega arith)) r (blockOf h s) (findS (λ (c : List Cell). sumIn c (get h (items c))) s) (f, t)
-  without (slot-behind c x k) b l r f t = go (get h (items c)) (count-get h (items c) (omega arith)) f t (λ f t. without k b (omega arith) r f t)
+  without (slot-fixed x s) b l r f t = absent b (get (is h) (items b)) (count-get (is h) (items b) (omega arith)) r (blockOf h s) (findS (λ (c : List Cell). sumIn c (get (is h) (items c))) s) (f, t)
+  without (slot-behind c x k) b l r f t = go (get (is h) (items c)) (count-get (is h) (items c) (omega arith)) f t (λ f t. without k b (omega arith) r f t)
     where
-      go : (o : Option Item) → count h (items c) ≡ often o → orElse o (blockOf h (plug k b)) ≡ some e
-          → Option·getD (orElse (sumIn c o) (findS (λ (c : List Cell). sumIn c (get h (items c))) (plug k b))) 0 + length (e .bytes) < a
-          → (blockOf h (plug k b) ≡ some e → ownSum items baySum h (plug k b) + length (e .bytes) < a → count h (items b) ≡ 0) → count h (items b) ≡ 0
+      go : (o : Option Item) → count (is h) (items c) ≡ often o → orElse o (blockOf h (plug k b)) ≡ some e
+          → Option·getD (orElse (sumIn c o) (findS (λ (c : List Cell). sumIn c (get (is h) (items c))) (plug k b))) 0 + length (e .bytes) < a
+          → (blockOf h (plug k b) ≡ some e → ownSum items baySum h (plug k b) + length (e .bytes) < a → count (is h) (items b) ≡ 0) → count (is h) (items b) ≡ 0
       go none q f t ih = ih f t
       go (some i) q f t ih = omega (arith, plug-live h k b)
 
   -- bays without the handle keep their sums
-  same-sum : (c : List Cell) → count h (items c) ≡ 0 → baySum (release h c) ≡ baySum c
-  same-sum c l = go (get h (items c)) (count-get h (items c) (omega arith)) (sum-released h c (omega arith))
+  same-sum : (c : List Cell) → count (is h) (items c) ≡ 0 → baySum (release (is h) c) ≡ baySum c
+  same-sum c l = go (get (is h) (items c)) (count-get (is h) (items c) (omega arith)) (sum-released (is h) c (omega arith))
     where
-      go : (o : Option Item) → count h (items c) ≡ often o → baySum (release h c) ≡ baySum c + taken o → baySum (release h c) ≡ baySum c
+      go : (o : Option Item) → count (is h) (items c) ≡ often o → baySum (release (is h) c) ≡ baySum c + taken o → baySum (release (is h) c) ≡ baySum c
       go none q s = omega arith
       go (some i) q s = absurd (omega arith)
 
-  under-same : (n : ℕ) (k : Slot) (b : List Cell) → live h (plug k b) ≡ 0 → Under n k → Under n (others (release h) k)
+  under-same : (n : ℕ) (k : Slot) (b : List Cell) → live h (plug k b) ≡ 0 → Under n k → Under n (others (release (is h)) k)
   under-same n slot-end b l u = tt
   under-same n (slot-fixed x s) b l u = tt
   under-same n (slot-behind c x k) b l u = (omega (arith, u .0, same-sum c (omega arith)), under-same n k b (omega arith) (u .1))
 
   -- no bay before it reaches the need once the old place is free
   pub under-freed : (k : Slot) (b : List Cell) → live h (plug k b) ≤ 1 → blockOf h (plug k b) ≡ some e → ownSum items baySum h (plug k b) + length (e .bytes) < a
-      → Under (relocHeader + a) k → Under (relocHeader + a) (others (release h) k)
+      → Under (relocHeader + a) k → Under (relocHeader + a) (others (release (is h)) k)
   under-freed slot-end b l f t u = tt
   under-freed (slot-fixed x s) b l f t u = tt
   under-freed (slot-behind c x k) b l f t u =
-      go (get-named h (items c)) (count-get h (items c) (omega arith)) (sum-released h c (omega arith)) f t (λ f t. under-freed k b (omega arith) f t (u .1))
+      go (get-named h (items c)) (count-get (is h) (items c) (omega arith)) (sum-released (is h) c (omega arith)) f t (λ f t. under-freed k b (omega arith) f t (u .1))
     where
-      go : {o : Option Item} → Named h o → count h (items c) ≡ often o → baySum (release h c) ≡ baySum c + taken o → orElse o (blockOf h (plug k b)) ≡ some e
-          → Option·getD (orElse (sumIn c o) (findS (λ (c : List Cell). sumIn c (get h (items c))) (plug k b))) 0 + length (e .bytes) < a
-          → (blockOf h (plug k b) ≡ some e → ownSum items baySum h (plug k b) + length (e .bytes) < a → Under (relocHeader + a) (others (release h) k))
-          → Under (relocHeader + a) (others (release h) (slot-behind c x k))
+      go : {o : Option Item} → Named h o → count (is h) (items c) ≡ often o → baySum (release (is h) c) ≡ baySum c + taken o → orElse o (blockOf h (plug k b)) ≡ some e
+          → Option·getD (orElse (sumIn c o) (findS (λ (c : List Cell). sumIn c (get (is h) (items c))) (plug k b))) 0 + length (e .bytes) < a
+          → (blockOf h (plug k b) ≡ some e → ownSum items baySum h (plug k b) + length (e .bytes) < a → Under (relocHeader + a) (others (release (is h)) k))
+          → Under (relocHeader + a) (others (release (is h)) (slot-behind c x k))
       go unnamed q s f t ih = (omega (arith, s, u .0), ih f t)
       go (named {d = d}) q s f t ih =
           let j : item h d ≡ e = cc in

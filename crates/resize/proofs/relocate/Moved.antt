@@ -51,16 +51,16 @@ module _ (s : Structure) (v : Valid s) {bs′ : List Block} {e₀ : Item} (a : A
   abbrev new : List Block
   new = cell (free (Parts.amount s v a)) ∷ []
 
-  pub freed-start : start (record { chain = h ∷ s .chain; blocks = bs′ }) ≡ start s
+  pub freed-start : start (record { clock = s .clock; chain = h ∷ s .chain; blocks = bs′ }) ≡ start s
   freed-start =
-      ap (λ (bs : List Block). start (record { chain = h ∷ s .chain; blocks = bs })) (Parts.new-parts s v a)
+      ap (λ (bs : List Block). start (record { clock = s .clock; chain = h ∷ s .chain; blocks = bs })) (Parts.new-parts s v a)
       ∙ start-same s v (Parts.before s v a) (Parts.inside s v a) new (Parts.after s v a) (h ∷ s .chain) (Parts.old-parts s v a) (same-size s v a) (Parts.free-sound s v a) (count-owned s v a h handles)
 
   same-sizes : sizes bs′ ≡ sizes (s .blocks)
   same-sizes =
       omega (arith, ap sizes (Parts.new-parts s v a), sizes-parts (Parts.before s v a) new (Parts.after s v a), same-size s v a, Parts.inside-sizes s v a, Parts.all-sizes-are s v a)
 
-  module _ (v₂ : Valid (record { chain = h ∷ s .chain; blocks = bs′ })) (before after : List Block) (bay : List Cell) (parts : bs′ ≡ before ++ (map cell bay ++ after))
+  module _ (v₂ : Valid (record { clock = s .clock; chain = h ∷ s .chain; blocks = bs′ })) (before after : List Block) (bay : List Cell) (parts : bs′ ≡ before ++ (map cell bay ++ after))
       (x : Hole) (is : bay ≡ x .before ++ (free (x .size) ∷ x .after)) (e : Item) (em : masterOf e ≡ h) (es : mastersOf e ≡ h ∷ []) (ok : Sound1 (held e)) (fits : itemSize e ≤ x .size)
       (long : length (bytesOf (held e ∷ gap (x .size - itemSize e) [])) ≡ x .size) (at from to : ℕ) (ea : at ≡ start s + sizes before + baySize (x .before))
       (ef : from ≡ start s + sizes (Parts.before s v a)) (et : to ≡ from + Parts.amount s v a) (apart : Apart from to at (x .size)) where
@@ -83,7 +83,7 @@ module _ (s : Structure) (v : Valid s) {bs′ : List Block} {e₀ : Item} (a : A
     pf = sizes (Parts.before s v a)
 
     abbrev image : ℕ → (ℕ → ℕ) → List ℕ → List ℕ
-    image k g y = img (len s) (start s) (count s) k g y
+    image k g y = img (s .clock) (len s) (start s) (count s) k g y
 
     x-is : encodeBlock (cell (free (to - from))) ≡ encodeBlock (cell (free (Parts.amount s v a)))
     x-is = let q : to - from ≡ Parts.amount s v a = omega arith in ap (λ (n : ℕ). encodeBlock (cell (free n))) q
@@ -118,37 +118,37 @@ module _ (s : Structure) (v : Valid s) {bs′ : List Block} {e₀ : Item} (a : A
     written : overwrite (overwrite (overwrite (encode s) at B) h (toBE 4 (at + headerOf e))) from X ≡ image c (upd (value s) h (at + headerOf e)) (overwrite (overwrite r pa B) pf X)
     written =
         ap (λ (y : List ℕ). overwrite (overwrite (overwrite y at B) h (toBE 4 (at + headerOf e))) from X) (encode-img s)
-        ∙ ap (λ (y : List ℕ). overwrite (overwrite y h (toBE 4 (at + headerOf e))) from X) (img-rest (len s) (start s) (count s) c pa at (value s) r B place-at)
-        ∙ ap (λ (y : List ℕ). overwrite y from X) (img-master (len s) (start s) (count s) c h (at + headerOf e) (value s) (overwrite r pa B) owned)
-        ∙ img-rest (len s) (start s) (count s) c pf from (upd (value s) h (at + headerOf e)) (overwrite r pa B) X ef
+        ∙ ap (λ (y : List ℕ). overwrite (overwrite y h (toBE 4 (at + headerOf e))) from X) (img-rest (s .clock) (len s) (start s) (count s) c pa at (value s) r B place-at)
+        ∙ ap (λ (y : List ℕ). overwrite y from X) (img-master (s .clock) (len s) (start s) (count s) c h (at + headerOf e) (value s) (overwrite r pa B) owned)
+        ∙ img-rest (s .clock) (len s) (start s) (count s) c pf from (upd (value s) h (at + headerOf e)) (overwrite r pa B) X ef
 
     -- freed
-    freed-image : encode (record { chain = h ∷ s .chain; blocks = bs′ }) ≡ image h (upd (value s) h c) (overwrite r pf X)
+    freed-image : encode (record { clock = s .clock; chain = h ∷ s .chain; blocks = bs′ }) ≡ image h (upd (value s) h c) (overwrite r pf X)
     freed-image =
         sym (freed-owned s v a h handles)
         ∙ ap (λ (y : List ℕ). overwrite (overwrite (overwrite (encode s) (start s + pf) y) chainAt (toBE 2 h)) h (toBE 4 c)) (sym x-is)
         ∙ ap (λ (y : List ℕ). overwrite (overwrite (overwrite y (start s + pf) X) chainAt (toBE 2 h)) h (toBE 4 c)) (encode-img s)
-        ∙ ap (λ (y : List ℕ). overwrite (overwrite y chainAt (toBE 2 h)) h (toBE 4 c)) (img-rest (len s) (start s) (count s) c pf (start s + pf) (value s) r X refl)
-        ∙ ap (λ (y : List ℕ). overwrite y h (toBE 4 c)) (img-chain (len s) (start s) (count s) c h (value s) (overwrite r pf X))
-        ∙ img-master (len s) (start s) (count s) h h c (value s) (overwrite r pf X) owned
+        ∙ ap (λ (y : List ℕ). overwrite (overwrite y chainAt (toBE 2 h)) h (toBE 4 c)) (img-rest (s .clock) (len s) (start s) (count s) c pf (start s + pf) (value s) r X refl)
+        ∙ ap (λ (y : List ℕ). overwrite y h (toBE 4 c)) (img-chain (s .clock) (len s) (start s) (count s) c h (value s) (overwrite r pf X))
+        ∙ img-master (s .clock) (len s) (start s) (count s) h h c (value s) (overwrite r pf X) owned
 
     -- and allocated anew
-    placed-image : settled (overwrite (encode (record { chain = h ∷ s .chain; blocks = bs′ })) chainAt (toBE 2 c)) at (held e ∷ gap (x .size - itemSize e) [])
+    placed-image : settled (overwrite (encode (record { clock = s .clock; chain = h ∷ s .chain; blocks = bs′ })) chainAt (toBE 2 c)) at (held e ∷ gap (x .size - itemSize e) [])
         ≡ image c (upd (upd (value s) h c) h (at + headerOf e)) (overwrite (overwrite r pf X) pa B)
     placed-image =
         ap (λ (y : List ℕ). settled (overwrite y chainAt (toBE 2 c)) at (held e ∷ gap (x .size - itemSize e) [])) freed-image
-        ∙ ap (λ (y : List ℕ). settled y at (held e ∷ gap (x .size - itemSize e) [])) (img-chain (len s) (start s) (count s) h c (upd (value s) h c) (overwrite r pf X))
+        ∙ ap (λ (y : List ℕ). settled y at (held e ∷ gap (x .size - itemSize e) [])) (img-chain (s .clock) (len s) (start s) (count s) h c (upd (value s) h c) (overwrite r pf X))
         ∙ set-one (image c (upd (value s) h c) (overwrite r pf X)) at (x .size - itemSize e) e (omega (arith, em, offset-is h zoneHeader (count s) owned .0))
-        ∙ ap₂ (λ (y : List ℕ) (k : ℕ). overwrite y k (toBE 4 (at + headerOf e))) (img-rest (len s) (start s) (count s) c pa at (upd (value s) h c) (overwrite r pf X) B place-at) em
-        ∙ img-master (len s) (start s) (count s) c h (at + headerOf e) (upd (value s) h c) (overwrite (overwrite r pf X) pa B) owned
+        ∙ ap₂ (λ (y : List ℕ) (k : ℕ). overwrite y k (toBE 4 (at + headerOf e))) (img-rest (s .clock) (len s) (start s) (count s) c pa at (upd (value s) h c) (overwrite r pf X) B place-at) em
+        ∙ img-master (s .clock) (len s) (start s) (count s) c h (at + headerOf e) (upd (value s) h c) (overwrite (overwrite r pf X) pa B) owned
 
     pub moved : overwrite (overwrite (overwrite (encode s) at (bytesOf (held e ∷ gap (x .size - itemSize e) []))) h (toBE 4 (at + headerOf e))) from (encodeBlock (cell (free (to - from))))
-        ≡ encode (record { chain = s .chain; blocks = before ++ (map cell (fill e x) ++ after) })
+        ≡ encode (record { clock = s .clock; chain = s .chain; blocks = before ++ (map cell (fill e x) ++ after) })
     moved =
-        let q : start (record { chain = h ∷ s .chain; blocks = bs′ }) + sizes before + baySize (x .before) ≡ at = omega (arith, ea, freed-start) in
+        let q : start (record { clock = s .clock; chain = h ∷ s .chain; blocks = bs′ }) + sizes before + baySize (x .before) ≡ at = omega (arith, ea, freed-start) in
         written
         ∙ ap (image c (upd (value s) h (at + headerOf e))) either
-        ∙ img-same (len s) (start s) (count s) c (upd (value s) h (at + headerOf e)) (upd (upd (value s) h c) h (at + headerOf e)) (overwrite (overwrite r pf X) pa B) (λ k l. sym (twice (value s) h c (at + headerOf e) k))
+        ∙ img-same (s .clock) (len s) (start s) (count s) c (upd (value s) h (at + headerOf e)) (upd (upd (value s) h c) h (at + headerOf e)) (overwrite (overwrite r pf X) pa B) (λ k l. sym (twice (value s) h c (at + headerOf e) k))
         ∙ sym placed-image
-        ∙ ap (λ (o : ℕ). settled (overwrite (encode (record { chain = h ∷ s .chain; blocks = bs′ })) chainAt (toBE 2 c)) o (held e ∷ gap (x .size - itemSize e) [])) (sym q)
-        ∙ fill-placed (record { chain = h ∷ s .chain; blocks = bs′ }) v₂ before after bay parts x is e (s .chain) (ap (_++ s .chain) (sym es)) ok fits
+        ∙ ap (λ (o : ℕ). settled (overwrite (encode (record { clock = s .clock; chain = h ∷ s .chain; blocks = bs′ })) chainAt (toBE 2 c)) o (held e ∷ gap (x .size - itemSize e) [])) (sym q)
+        ∙ fill-placed (record { clock = s .clock; chain = h ∷ s .chain; blocks = bs′ }) v₂ before after bay parts x is e (s .chain) (ap (_++ s .chain) (sym es)) ok fits

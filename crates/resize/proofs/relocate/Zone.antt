@@ -12,7 +12,7 @@ use borrow.Author.Tests.{le-leb}
 use Rattle.block_type.specs.Limits.{relocHeader}
 use Rattle.bigendian.specs.BigEndian.{Bytes}
 use Rattle.format.specs.WellFormed.{firstField}
-use Rattle.kinds.specs.Kinds.{Item, item, itemSize}
+use Rattle.kinds.specs.Kinds.{Item, item, itemSize, is}
 use Rattle.calls.specs.Bays.{Bays, mapS}
 use Rattle.calls.specs.State.{Fixed, sized, ownSum}
 use Rattle.bay.specs.Bay.{Cell, free, baySum, items, compactBay, fill, put, release}
@@ -93,7 +93,7 @@ module _ (z : List ℕ) (h b a from to at n : ℕ) (t : Bool) (y : RelocateIn z 
   lacking : ownSum items baySum h (plug k bay) + length (e .bytes) < a
   lacking = omega (arith, x .lacking, ap (ownSum items baySum h) (x .lowest .bays), ap length (found .2), x .grows .is-b)
 
-  none-in : count h (items bay) ≡ 0
+  none-in : count (is h) (items bay) ≡ 0
   none-in = without h a e k bay once (x .lowest .enough) in-slot lacking
 
   sound-bay : Sound bay
@@ -113,17 +113,17 @@ module _ (z : List ℕ) (h b a from to at n : ℕ) (t : Bool) (y : RelocateIn z 
   room : Room new bay from at n t
   room = x .lowest .room new size-is
 
-  put-there : placeLow new (mapS (release h) (baysOf (decodeZone z))) ≡ plug (others (release h) k) (fill new (room .hole))
+  put-there : placeLow new (mapS (release (is h)) (baysOf (decodeZone z))) ≡ plug (others (release (is h)) k) (fill new (room .hole))
   put-there =
-      ap (λ (u : Bays (List Cell) Fixed). placeLow new (mapS (release h) u)) (x .lowest .bays)
-      ∙ ap (placeLow new) (plug-map (release h) k bay ∙ ap (plug (others (release h) k)) (release-none h sound-bay none-in))
-      ∙ plug-lowest (itemSize new) (put new) (others (release h) k) bay (subst (λ (j : ℕ). Under j (others (release h) k)) (sym size-is) (under-freed h a e k bay once in-slot lacking (x .lowest .under)))
+      ap (λ (u : Bays (List Cell) Fixed). placeLow new (mapS (release (is h)) u)) (x .lowest .bays)
+      ∙ ap (placeLow new) (plug-map (release (is h)) k bay ∙ ap (plug (others (release (is h)) k)) (release-none (is h) sound-bay none-in))
+      ∙ plug-lowest (itemSize new) (put new) (others (release (is h)) k) bay (subst (λ (j : ℕ). Under j (others (release (is h)) k)) (sym size-is) (under-freed h a e k bay once in-slot lacking (x .lowest .under)))
       (le-leb (itemSize new) (baySum bay) (omega (arith, size-is, x .lowest .enough)))
-      ∙ ap (plug (others (release h) k)) (room .filled)
+      ∙ ap (plug (others (release (is h)) k)) (room .filled)
 
-  left : encode (record { chain = s .chain; blocks = flatten (plug (others (release h) k) (fill new (room .hole))) }) ≡ encode (relocated h a (decodeZone z))
+  left : encode (record { clock = s .clock; chain = s .chain; blocks = flatten (plug (others (release (is h)) k) (fill new (room .hole))) }) ≡ encode (relocated h a (decodeZone z))
   unfolding dataIn
-  left = ap (λ (u : Bays (List Cell) Fixed). encode (record { chain = s .chain; blocks = flatten u })) (sym put-there)
+  left = ap (λ (u : Bays (List Cell) Fixed). encode (record { clock = s .clock; chain = s .chain; blocks = flatten u })) (sym put-there)
 
   fits : relocHeader + a ≤ room .hole .size
   fits = omega (arith, size-is, room .fits)
@@ -170,7 +170,7 @@ module _ (z : List ℕ) (h b a from to at n : ℕ) (t : Bool) (y : RelocateIn z 
   cells-here = there-bay .1
 
   abbrev s₁ : Structure
-  s₁ = record { chain = s .chain; blocks = blocksBefore k ++ (map cell (compactBay bay) ++ blocksAfter k) }
+  s₁ = record { clock = s .clock; chain = s .chain; blocks = blocksBefore k ++ (map cell (compactBay bay) ++ blocksAfter k) }
 
   v₁ : Valid s₁
   v₁ = bay-valid s v (blocksBefore k) (blocksAfter k) bay (plug-at compactBay k bay) blocks-are
@@ -218,7 +218,7 @@ module _ (z : List ℕ) (h b a from to at n : ℕ) (t : Bool) (y : RelocateIn z 
         slot = k;
         bay = compactBay bay;
         bays = bays-z₁;
-        without = ap (count h) (tidy-items bay) ∙ none-in;
+        without = ap (count (is h)) (tidy-items bay) ∙ none-in;
         hole = room .hole;
         is = subst Is f (room .is);
         fits = fits;
@@ -233,5 +233,5 @@ module _ (z : List ℕ) (h b a from to at n : ℕ) (t : Bool) (y : RelocateIn z 
       unfolding made
       done-made u c =
           c .left made
-          ∙ ap₂ (λ (r : Structure) (d : List ℕ). encode (record { chain = r .chain; blocks = flatten (plug (others (release h) k) (fill (item h (sized a d)) (room .hole))) })) back same-data
+          ∙ ap₂ (λ (r : Structure) (d : List ℕ). encode (record { clock = r .clock; chain = r .chain; blocks = flatten (plug (others (release (is h)) k) (fill (item h (sized a d)) (room .hole))) })) back same-data
           ∙ left

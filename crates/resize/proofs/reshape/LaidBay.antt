@@ -36,13 +36,13 @@ pub laid-size : (xs ys : List Item) (e : Item) (n : ℕ) → baySize (laid xs e 
 laid-size xs ys e n = omega (arith, bsize-packed xs (held e ∷ packed ys (gap n [])), bsize-packed ys (gap n []), bsize-gap n [])
 
 -- where the block is, the first item being at p
-pub laid-place : (h p : ℕ) (xs : List Item) (e : Item) (t : List Cell) (r : List Block) → count h xs ≡ 0 → is h e ≡ true → placeOf h p (map cell (packed xs (held e ∷ t)) ++ r) ≡ p + total xs + headerOf e
+pub laid-place : (h p : ℕ) (xs : List Item) (e : Item) (t : List Cell) (r : List Block) → count (is h) xs ≡ 0 → is h e ≡ true → placeOf (is h) p (map cell (packed xs (held e ∷ t)) ++ r) ≡ p + total xs + headerOf e
 unfolding placeOf
 laid-place h p [] e t r q i = rw i (omega arith)
 laid-place h p (x ∷ xs) e t r q i = go (is h x) q (λ k. laid-place h (p + itemSize x) xs e t r k i)
   where
-    go : (b : Bool) → cond b (suc (count h xs)) (count h xs) ≡ 0 → (count h xs ≡ 0 → placeOf h (p + itemSize x) (map cell (packed xs (held e ∷ t)) ++ r) ≡ p + itemSize x + total xs + headerOf e)
-        → cond b (p + headerOf x) (placeOf h (p + itemSize x) (map cell (packed xs (held e ∷ t)) ++ r)) ≡ p + (itemSize x + total xs) + headerOf e
+    go : (b : Bool) → cond b (suc (count (is h) xs)) (count (is h) xs) ≡ 0 → (count (is h) xs ≡ 0 → placeOf (is h) (p + itemSize x) (map cell (packed xs (held e ∷ t)) ++ r) ≡ p + itemSize x + total xs + headerOf e)
+        → cond b (p + headerOf x) (placeOf (is h) (p + itemSize x) (map cell (packed xs (held e ∷ t)) ++ r)) ≡ p + (itemSize x + total xs) + headerOf e
     go true k f = absurd (omega arith)
     go false k f = f k ∙ omega arith
 

@@ -132,7 +132,7 @@ module _ (z : List ℕ) (h from end sum b a : ℕ) (x : Laid z h from end sum b 
         q ∙ ap (settled z₁ from) (ap cellsOf grown-is ∙ cells-bytes news new-sound)
         ∙ ap₂ (λ (y : List ℕ) (k : ℕ). settled y k news) (is₁ z h from end sum b a x z₁ e₁) (sym (from₁ z h from end sum b a x))
         ∙ settle (s₁ z h from end sum b a x) (v₁ z h from end sum b a x) (o .before) (o .after) (compactBay (bayOf o)) news refl new-sound new-size same-handles
-        ∙ ap (λ (bs : List Block). encode (record { chain = decodeZone z .chain; blocks = bs })) (sym (at-new (o .at (reshape h a)) ∙ ap (λ (cs : List Cell). o .before ++ (map cell cs ++ o .after)) news-are))
+        ∙ ap (λ (bs : List Block). encode (record { clock = decodeZone z .clock; chain = decodeZone z .chain; blocks = bs })) (sym (at-new (o .at (reshape h a)) ∙ ap (λ (cs : List Cell). o .before ++ (map cell cs ++ o .after)) news-are))
 
   -- ---- by what the master says
 

@@ -32,6 +32,7 @@ use Rattle.resize.proofs.reshape.Parts.{behind-bytes, behind-sound, par
 use Rattle.structure.specs.IsZone.{IsZone}
 use Rattle.structure.proofs.IsZone.{whole-of}
 use Rattle.kinds.proofs.KindLaws.{facts}
+use Rattle.kinds.specs.Kinds.{is}
 
 -- ---- the free bytes in front of some blocks
 
@@ -79,14 +80,14 @@ module _ (z : List ℕ) (i : IsZone z) (h at n : ℕ) (ea : at ≡ placeIn z h) 
 
   found : OwnAt h (start s) (baysOf s)
   unfolding placeIn
-  found = own-of h (baysOf s) (start s) once (λ q. alive (ea ∙ ap (placeOf h (start s)) (sym (flatten-group (start s) (s .blocks))) ∙ q))
+  found = own-of h (baysOf s) (start s) once (λ q. alive (ea ∙ ap (placeOf (is h) (start s)) (sym (flatten-group (start s) (s .blocks))) ∙ q))
 
   abbrev o : Own h (baysOf s)
   o = found .own
 
   at-is : at ≡ dataAt (start s) o
   unfolding placeIn
-  at-is = ea ∙ ap (placeOf h (start s)) (sym (flatten-group (start s) (s .blocks))) ∙ found .place
+  at-is = ea ∙ ap (placeOf (is h) (start s)) (sym (flatten-group (start s) (s .blocks))) ∙ found .place
 
   n-is : n ≡ length (o .mine .bytes)
   unfolding dataIn

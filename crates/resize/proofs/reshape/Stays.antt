@@ -97,7 +97,7 @@ module _ (z : List ℕ) (i : IsZone z) (h : ℕ) (o : Own h (baysOf (decodeZone 
         ∙ sym (ap (λ (x : List ℕ). overwrite x p (bytesOf new)) split ∙ write-mid (take p z) (bytesOf old) (bytesOf new) back p lf (bytes-long old old-sound ∙ sym size-new ∙ sym (bytes-long new new-sound)))
         ∙ ap (λ (x : List ℕ). overwrite x p (bytesOf new)) (sym (encode-zone z w))
         ∙ still s v (pre s v h o) (rest s v h o) (o .mine) (resized a (o .mine)) f (b + f - a) parts-are new-sound size-new refl (λ k. refl) refl
-        ∙ ap (λ (l : List Block). encode (record { chain = s .chain; blocks = l })) (sym (bs ∙ ap (λ (k : ℕ). pre s v h o ++ (map cell (held (resized a (o .mine)) ∷ gap k []) ++ rest s v h o)) n))
+        ∙ ap (λ (l : List Block). encode (record { clock = s .clock; chain = s .chain; blocks = l })) (sym (bs ∙ ap (λ (k : ℕ). pre s v h o ++ (map cell (held (resized a (o .mine)) ∷ gap k []) ++ rest s v h o)) n))
 
     -- what a plan hands over
     pub here-in : Here z h at b f a

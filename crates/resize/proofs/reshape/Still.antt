@@ -25,11 +25,11 @@ module _ (s : Structure) (v : Valid s) (pre post : List Block) (e e′ : Item) (
   abbrev new : List Cell
   new = held e′ ∷ gap n′ []
 
-  places : (k p : ℕ) → placeOf k p (map cell new) ≡ placeOf k p (map cell old)
+  places : (k p : ℕ) → placeOf (is k) p (map cell new) ≡ placeOf (is k) p (map cell old)
   unfolding placeOf
   places k p = rw (gap-place k (p + itemSize e′) n′, gap-place k (p + itemSize e) n) (ap₂ (λ (t : Bool) (h : ℕ). cond t (p + h) 0) (its k) head)
 
-  pub still : overwrite (encode s) (start s + sizes pre) (bytesOf new) ≡ encode (record { chain = s .chain; blocks = pre ++ (map cell new ++ post) })
+  pub still : overwrite (encode s) (start s + sizes pre) (bytesOf new) ≡ encode (record { clock = s .clock; chain = s .chain; blocks = pre ++ (map cell new ++ post) })
   still =
       ap (overwrite (encode s) (start s + sizes pre)) (all-bytes new)
       ∙ stays s v pre (map cell old) (map cell new) post parts (sym (all-sizes new) ∙ sz ∙ all-sizes old) (all-sound new so) (one-handle e′ n′ ∙ same ∙ sym (one-handle e n)) places

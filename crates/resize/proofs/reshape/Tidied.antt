@@ -93,7 +93,7 @@ module _ (z : List ℕ) (h from end sum b a : ℕ) (x : Laid z h from end sum b 
   flat = sym (flatten-group (start s) (s .blocks))
 
   abbrev pub s₁ : Structure
-  s₁ = record { chain = s .chain; blocks = o .before ++ (map cell (compactBay (bayOf o)) ++ o .after) }
+  s₁ = record { clock = s .clock; chain = s .chain; blocks = o .before ++ (map cell (compactBay (bayOf o)) ++ o .after) }
 
   pub v₁ : Valid s₁
   v₁ = bay-valid s v (o .before) (o .after) (bayOf o) (o .at (reshape h a)) flat
@@ -126,7 +126,7 @@ module _ (z : List ℕ) (h from end sum b a : ℕ) (x : Laid z h from end sum b 
       let r = offset-is h zoneHeader _ (handle-in s v h (here .0)) in
       record { low = r .0; fits = omega (arith, start₁, r .1); four = r .2 }
 
-  place₁ : placeOf h (start s₁) (s₁ .blocks) ≡ from + total xs + headerOf e
+  place₁ : placeOf (is h) (start s₁) (s₁ .blocks) ≡ from + total xs + headerOf e
   place₁ =
       place-append h (start s₁) (o .before) (map cell (compactBay (bayOf o)) ++ o .after)
       ∙ (rw (here .1, from₁, tidy) (laid-place h from xs e (packed ys (gap n [])) (o .after) (o .first) (o .its)))

@@ -8,7 +8,7 @@ use Rattle.block_type.specs.Limits.{relocHeader, argumentRange}
 use Rattle.format.specs.WellFormed.{firstField}
 use Rattle.structure.specs.Structure.{Structure, sizes, start, encode, decodeZone}
 use Rattle.access.specs.Edit.{placeIn, dataIn, dataOf}
-use Rattle.kinds.specs.Kinds.{Item, item}
+use Rattle.kinds.specs.Kinds.{Item, item, is}
 use Rattle.calls.specs.Bays.{mapS}
 use Rattle.calls.specs.State.{sized, ownSum}
 use Rattle.bay.specs.Bay.{Cell, free, baySize, baySum, items, Hole, fill, release}
@@ -24,7 +24,7 @@ use Rattle.structure.specs.IsZone.{IsZone}
 
 -- "it moves to the lowest bay whose sum reaches 4 + a, as an allocation does, and the old place is freed": h's block, with a data bytes
 abbrev pub relocated : ℕ → ℕ → Structure → Structure
-relocated h a s = record { chain = s .chain; blocks = flatten (placeLow (item h (sized a (dataOf h (s .blocks)))) (mapS (release h) (baysOf s))) }
+relocated h a s = record { clock = s .clock; chain = s .chain; blocks = flatten (placeLow (item h (sized a (dataOf h (s .blocks)))) (mapS (release (is h)) (baysOf s))) }
 
 -- the block of handle h with a data bytes
 abbrev pub itemOf : List ℕ → ℕ → ℕ → Item
@@ -52,7 +52,7 @@ pub record Carry (z : List ℕ) (h b a at n : ℕ) : Type 0 where
   pub slot : Slot
   pub bay : List Cell
   pub bays : baysOf (decodeZone z) ≡ plug slot bay
-  pub without : count h (items bay) ≡ 0
+  pub without : count (is h) (items bay) ≡ 0
   pub hole : Hole
   pub is : bay ≡ hole .before ++ (free (hole .size) ∷ hole .after)
   pub fits : relocHeader + a ≤ hole .size
@@ -68,7 +68,7 @@ carry-of (carry-in x) = x
 
 -- the structure with the block there, and its old place free
 abbrev pub carriedTo : (z : List ℕ) (h b a at n : ℕ) → Carry z h b a at n → Structure
-carriedTo z h b a at n x = record { chain = decodeZone z .chain; blocks = flatten (plug (others (release h) (x .slot)) (fill (itemOf z h a) (x .hole))) }
+carriedTo z h b a at n x = record { clock = decodeZone z .clock; chain = decodeZone z .chain; blocks = flatten (plug (others (release (is h)) (x .slot)) (fill (itemOf z h a) (x .hole))) }
 
 -- y is the bytes z after that
 pub record Carried (z : List ℕ) (h b a at n : ℕ) (y : List ℕ) : Type 0 where

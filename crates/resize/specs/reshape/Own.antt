@@ -21,7 +21,7 @@ use Rattle.block_type.specs.Limits.{relocHeader}
 
 -- the block of handle h has a data bytes, in its own bay
 abbrev pub reshaped : ℕ → ℕ → Structure → Structure
-reshaped h a s = record { chain = s .chain; blocks = flatten (onLowest (has h) (reshape h a) (baysOf s)) }
+reshaped h a s = record { clock = s .clock; chain = s .chain; blocks = flatten (onLowest (has h) (reshape h a) (baysOf s)) }
 
 -- the one block of handle h: the blocks before its bay, the cells of the bay to its left and right, the blocks behind the bay
 pub record Own (h : ℕ) (s : Bays (List Cell) Fixed) : Type 0 where
@@ -32,8 +32,8 @@ pub record Own (h : ℕ) (s : Bays (List Cell) Fixed) : Type 0 where
   pub after : List Block
   pub its : is h mine ≡ true
   pub head : headerOf mine ≡ relocHeader
-  pub first : count h (items left) ≡ 0
-  pub only : count h (items right) ≡ 0
+  pub first : count (is h) (items left) ≡ 0
+  pub only : count (is h) (items right) ≡ 0
   -- its data, and the sum of its bay
   pub bytes : dataOf h (flatten s) ≡ mine .bytes
   pub sum : ownSum items baySum h s ≡ baySum (left ++ (held mine ∷ right))

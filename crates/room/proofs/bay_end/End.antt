@@ -19,16 +19,17 @@ use Rattle.structure.proofs.Cells.{gap-handles, gap-sizes, gap-place}
 use Rattle.access.specs.row.Row.{bytesOf, Sound}
 use Rattle.access.proofs.row.Laws.{bytes-append, bytes-long, sound-left, sound-right}
 use Rattle.settle.proofs.surgery.Image.{img, encode-img, img-rest, img-same}
+use Rattle.kinds.specs.Kinds.{is}
 
 -- another length
-lay-length : (l l′ f m c : ℕ) (vs r : List ℕ) → overwrite (lay l f m c vs r) lengthAt (toBE 4 l′) ≡ lay l′ f m c vs r
+lay-length : (ck l l′ f m c : ℕ) (vs r : List ℕ) → overwrite (lay ck l f m c vs r) lengthAt (toBE 4 l′) ≡ lay ck l′ f m c vs r
 unfolding lay
-lay-length l l′ f m c vs r = write-mid [] (toBE 4 l) (toBE 4 l′) _ 0 refl (length-toBE 4 l ∙ sym (length-toBE 4 l′))
+lay-length ck l l′ f m c vs r = write-mid [] (toBE 4 l) (toBE 4 l′) _ 0 refl (length-toBE 4 l ∙ sym (length-toBE 4 l′))
 
 -- bytes behind the blocks
-lay-behind : (l f m c : ℕ) (vs r t : List ℕ) → lay l f m c vs (r ++ t) ≡ lay l f m c vs r ++ t
+lay-behind : (ck l f m c : ℕ) (vs r t : List ℕ) → lay ck l f m c vs (r ++ t) ≡ lay ck l f m c vs r ++ t
 unfolding lay
-lay-behind l f m c vs r t = simp append-assoc
+lay-behind ck l f m c vs r t = simp append-assoc
 
 -- ---- free bytes have no master
 
@@ -43,17 +44,17 @@ rest-behind pre cs n = rw (map-append cell cs (gap n [])) (simp (append-nil, app
 with-rest : (pre : List Block) (n : ℕ) → length (handlesOf (pre ++ rest n)) ≡ length (handlesOf pre)
 with-rest pre n = ap length (handles-append pre (rest n) ∙ ap (handlesOf pre ++_) (gap-handles n) ∙ append-nil (handlesOf pre))
 
-place-rest : (pre : List Block) (n h o : ℕ) → placeOf h o (pre ++ rest n) ≡ cond (eqb (occurs h (handlesOf pre)) 0) 0 (placeOf h o pre)
+place-rest : (pre : List Block) (n h o : ℕ) → placeOf (is h) o (pre ++ rest n) ≡ cond (eqb (occurs h (handlesOf pre)) 0) 0 (placeOf (is h) o pre)
 unfolding occurs
 place-rest pre n h o =
     place-append h o pre (rest n)
-    ∙ ap (λ (x : ℕ). cond (eqb (occurs h (handlesOf pre)) 0) x (placeOf h o pre)) (gap-place h (o + sizes pre) n)
+    ∙ ap (λ (x : ℕ). cond (eqb (occurs h (handlesOf pre)) 0) x (placeOf (is h) o pre)) (gap-place h (o + sizes pre) n)
 
 -- ---- the structure s ends with p free bytes; with q instead, and other bytes behind it, as many in all
 
 module _ (s : Structure) (pre : List Block) (p q : ℕ) (t t′ : List ℕ) (parts : s .blocks ≡ pre ++ rest p) (so : Sound (s .blocks)) (so′ : Sound (rest q)) (long : p + length t ≡ q + length t′) where
   abbrev s′ : Structure
-  s′ = record { chain = s .chain; blocks = pre ++ rest q }
+  s′ = record { clock = s .clock; chain = s .chain; blocks = pre ++ rest q }
 
   counts : count s ≡ count s′
   counts = ap (λ (x : ℕ). x + length (s .chain)) (ap (λ (b : List Block). length (handlesOf b)) parts ∙ with-rest pre p ∙ sym (with-rest pre q))
@@ -62,7 +63,7 @@ module _ (s : Structure) (pre : List Block) (p q : ℕ) (t t′ : List ℕ) (par
   starts = ap (λ (m : ℕ). zoneHeader + masterSize * m) counts
 
   values : (h : ℕ) → value s h ≡ value s′ h
-  values h = ap (λ (x : ℕ). x + nextOf h (s .chain)) (ap₂ (placeOf h) starts parts ∙ place-rest pre p h (start s′) ∙ sym (place-rest pre q h (start s′)))
+  values h = ap (λ (x : ℕ). x + nextOf h (s .chain)) (ap₂ (placeOf (is h)) starts parts ∙ place-rest pre p h (start s′) ∙ sym (place-rest pre q h (start s′)))
 
   pub lens : len s + q ≡ len s′ + p
   lens = omega (arith, counts, ap sizes parts, sizes-append pre (rest p), sizes-append pre (rest q), gap-sizes p, gap-sizes q)
@@ -87,12 +88,12 @@ module _ (s : Structure) (pre : List Block) (p q : ℕ) (t t′ : List ℕ) (par
       let r = bytesOf (s .blocks) in
       let w = bytesOf (rest q) ++ t′ in
       let vs = map (value s) (offsets zoneHeader m) in
-      ap (λ (x : List ℕ). overwrite (overwrite x (f + sizes pre) w) lengthAt (toBE 4 l)) (ap (_++ t) (encode-img s) ∙ sym (lay-behind (len s) f m c vs r t))
-      ∙ ap (λ (x : List ℕ). overwrite x lengthAt (toBE 4 l)) (img-rest (len s) f m c (sizes pre) (f + sizes pre) (value s) (r ++ t) w refl)
-      ∙ lay-length (len s) l f m c vs (overwrite (r ++ t) (sizes pre) w)
-      ∙ ap (img l f m c (value s)) bodies
-      ∙ lay-behind l f m c vs (bytesOf (pre ++ rest q)) t′
+      ap (λ (x : List ℕ). overwrite (overwrite x (f + sizes pre) w) lengthAt (toBE 4 l)) (ap (_++ t) (encode-img s) ∙ sym (lay-behind (s .clock) (len s) f m c vs r t))
+      ∙ ap (λ (x : List ℕ). overwrite x lengthAt (toBE 4 l)) (img-rest (s .clock) (len s) f m c (sizes pre) (f + sizes pre) (value s) (r ++ t) w refl)
+      ∙ lay-length (s .clock) (len s) l f m c vs (overwrite (r ++ t) (sizes pre) w)
+      ∙ ap (img (s .clock) l f m c (value s)) bodies
+      ∙ lay-behind (s .clock) l f m c vs (bytesOf (pre ++ rest q)) t′
       ∙ ap (_++ t′)
-      (img-same l f m c (value s) (value s′) (bytesOf (pre ++ rest q)) (λ h o. values h)
-      ∙ lay-same el starts counts refl (ap (λ (k : ℕ). map (value s′) (offsets zoneHeader k)) counts) refl
+      (img-same (s .clock) l f m c (value s) (value s′) (bytesOf (pre ++ rest q)) (λ h o. values h)
+      ∙ lay-same (s .clock) el starts counts refl (ap (λ (k : ℕ). map (value s′) (offsets zoneHeader k)) counts) refl
       ∙ sym (encode-img s′))

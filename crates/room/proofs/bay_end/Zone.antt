@@ -45,7 +45,7 @@ module _ (z : List ℕ) (n a e sum tail : ℕ) (r : Run z n a e sum tail) where
   stands : settled (encode s) a (r .bay) ≡ encode s
   stands = rw (r .numbers .start-is)
       (settle s run-valid (r .before) (r .after) (r .bay) (r .bay) (r .parts) (cells-sound s run-valid (r .before) (r .after) (r .bay) (r .parts)) refl refl
-      ∙ ap (λ (bs : List Block). encode (record { chain = s .chain; blocks = bs })) (sym (r .parts)))
+      ∙ ap (λ (bs : List Block). encode (record { clock = s .clock; chain = s .chain; blocks = bs })) (sym (r .parts)))
 
   can-take : CanTake (encode s) n a e sum tail
   can-take = record {

@@ -4,17 +4,17 @@ use mathlib.Core.List.{List, [], _∷_, _++_, append-assoc, append-nil}
 use Prim.Native.Nat.{ℕ, _+_, _-_, _*_, _/_, _<_, _≤_}
 use native.Mathlib.Omega.{arith}
 use lib.ListN.{length, replicate, length-replicate, length-append}
-use Rattle.block_type.specs.Limits.{freeHeader, relocCode, relocHeader, typeUnit, tagAt}
+use Rattle.block_type.specs.Limits.{freeHeader, relocCode, pageCode, relocHeader, pageHeader, typeUnit, tagAt, statusAt}
 use Rattle.bigendian.specs.BigEndian.{toBE, overwrite}
 use Rattle.bigendian.proofs.Laws.{length-toBE}
-use Rattle.bigendian.proofs.Overwrite.{write-more, write-pad}
+use Rattle.bigendian.proofs.Overwrite.{write-more, write-pad, write-length}
 use Rattle.kinds.specs.Kinds.{Item, codeOf, headerOf, tagOf, itemSize}
 use Rattle.kinds.proofs.KindLaws.{tag-long, facts}
 use Rattle.bay.specs.Bay.{held, gap}
 use Rattle.bay.specs.Bytes.{encodeCell}
 use Rattle.bay.specs.Sound.{bytesOf}
 use Rattle.bay.proofs.BayBytes.{gap-some, gap-none, free-zeros}
-use Rattle.room.specs.place.Fit.{blank, Fit}
+use Rattle.room.specs.place.Fit.{blank, blankPage, Fit}
 
 -- ---- a block of any kind
 
@@ -74,3 +74,30 @@ module _ (z z₁ z₂ : List ℕ) (at n need h : ℕ) (x : Fit z at n need h)
 
   pub cut-part : (z₃ : List ℕ) → need < n → z₃ ≡ overwrite z₂ (at + need) (toBE 4 ((n - need) / 2)) → z₃ ≡ overwrite z at (bytesOf (held (blank need h) ∷ gap (n - need) []))
   cut-part z₃ k e₃ = part z z₁ z₂ at n need h x (blank need h) (blank-size need h (x .size .low)) refl e₁ e₂ z₃ k e₃
+
+-- ---- a page: its name and its status are written one after the other
+
+pub page-size : (need n stamp : ℕ) → pageHeader ≤ need → itemSize (blankPage need n stamp) ≡ need
+page-size need n stamp l = omega (arith, length-replicate {A = ℕ} (need - pageHeader) 0)
+
+module _ (z z₁ z₂ z₃ : List ℕ) (at n need name stamp : ℕ) (x : Fit z at n need 0) (l : pageHeader ≤ need)
+    (e₁ : z₁ ≡ overwrite z at (toBE 2 (pageCode * typeUnit + need / 2))) (e₂ : z₂ ≡ overwrite z₁ (at + tagAt) (toBE 4 name)) (e₃ : z₃ ≡ overwrite z₂ (at + statusAt) (toBE 2 stamp)) where
+  abbrev page : Item
+  page = blankPage need name stamp
+
+  same-long : length z₁ ≡ length z
+  same-long = let b = length-toBE 2 (pageCode * typeUnit + need / 2) in rw e₁ (write-length z (toBE 2 (pageCode * typeUnit + need / 2)) at (omega (arith, x .inside, x .fits)))
+
+  tagged : z₃ ≡ overwrite z₁ (at + tagAt) (tagOf page)
+  tagged =
+      let a = length-toBE 4 name in
+      let b = length-toBE 2 stamp in
+      let w : stamp ≡ 0 + (0 + stamp) = omega arith in
+      e₃ ∙ (rw e₂ (write-more z₁ (toBE 4 name) (toBE 2 stamp) (at + tagAt) (at + statusAt) (omega arith) (omega (arith, x .inside, x .fits, same-long))))
+      ∙ ap (λ (w : ℕ). overwrite z₁ (at + tagAt) (toBE 4 name ++ toBE 2 w)) w
+
+  pub page-all : n ≤ need → z₃ ≡ overwrite z at (bytesOf (held (blankPage need name stamp) ∷ gap (n - need) []))
+  page-all k = all z z₁ z₃ at n need 0 x page (page-size need name stamp l) refl e₁ tagged k
+
+  pub page-part : (z₄ : List ℕ) → need < n → z₄ ≡ overwrite z₃ (at + need) (toBE 4 ((n - need) / 2)) → z₄ ≡ overwrite z at (bytesOf (held (blankPage need name stamp) ∷ gap (n - need) []))
+  page-part z₄ k e₄ = part z z₁ z₃ at n need 0 x page (page-size need name stamp l) refl e₁ tagged z₄ k e₄

@@ -19,8 +19,10 @@ use Rattle.structure.specs.Valid.{Valid}
 use Rattle.structure.proofs.Round.{offset-is}
 use Rattle.structure.proofs.Cells.{gap-handles}
 use Rattle.slide.specs.ZoneBay.{settled}
-use Rattle.settle.proofs.Any.{settle-chain}
+use Rattle.settle.proofs.Any.{settle-chain, settle}
 use Rattle.settle.proofs.Bay.{cells-sound}
+use Rattle.settle.proofs.Cells.{all-sizes, all-sound}
+use Rattle.settle.proofs.surgery.Replace.{start-same}
 
 next-past : (k : ℕ) (hs ks : List ℕ) → occurs k hs ≡ 0 → nextOf k (hs ++ ks) ≡ nextOf k ks
 unfolding occurs nextOf
@@ -51,10 +53,29 @@ module _ (s : Structure) (v : Valid s) (pre post : List Block) (n : ℕ) (e : It
   unfolding handlesOf
   all = ap (mastersOf e ++_) (gap-handles (n - itemSize e)) ∙ append-nil (mastersOf e)
 
-  pub placed : settled (overwrite (encode s) chainAt (toBE 2 (headOf ks))) (start s + sizes pre) new ≡ encode (record { chain = ks; blocks = pre ++ (map cell new ++ post) })
+  many : length (handlesOf (map cell new)) + length ks ≡ length (handlesOf (cell (free n) ∷ [])) + length (s .chain)
+  unfolding handlesOf
+  many = omega (arith, ap length all, ap length linked, length-append (mastersOf e) ks)
+
+  -- the blocks begin where they did
+  pub placed-start : start (record { clock = s .clock; chain = ks; blocks = pre ++ (map cell new ++ post) }) ≡ start s
+  placed-start = start-same s v pre (map cell old) (map cell new) post ks parts (sym (all-sizes new) ∙ omega (arith, bsize-gap (n - itemSize e) []) ∙ all-sizes old) (all-sound new so) many
+
+  pub placed : settled (overwrite (encode s) chainAt (toBE 2 (headOf ks))) (start s + sizes pre) new ≡ encode (record { clock = s .clock; chain = ks; blocks = pre ++ (map cell new ++ post) })
   unfolding handlesOf occurs
   placed =
       settle-chain s v pre post old new ks parts so (omega (arith, bsize-gap (n - itemSize e) []))
       (λ k. omega (arith, ap (occurs k) all, ap (occurs k) linked, occurs-append k (mastersOf e) ks))
-      (omega (arith, ap length all, ap length linked, length-append (mastersOf e) ks))
+      many
       (λ k l q. (refl, sym (ap (nextOf k) linked ∙ next-past k (mastersOf e) ks (sym (ap (occurs k) all) ∙ q))))
+
+-- the same for a block without a master: the chain stays
+module _ (s : Structure) (v : Valid s) (pre post : List Block) (n : ℕ) (e : Item) (none : mastersOf e ≡ []) (parts : s .blocks ≡ pre ++ (cell (free n) ∷ post)) (ok : Sound1 (held e)) (fits : itemSize e ≤ n) where
+  linked : s .chain ≡ mastersOf e ++ s .chain
+  linked = ap (_++ s .chain) (sym none)
+
+  pub kept : settled (encode s) (start s + sizes pre) (held e ∷ gap (n - itemSize e) []) ≡ encode (record { clock = s .clock; chain = s .chain; blocks = pre ++ (map cell (held e ∷ gap (n - itemSize e) []) ++ post) })
+  unfolding handlesOf
+  kept =
+      settle s v pre post (free n ∷ []) (held e ∷ gap (n - itemSize e) []) parts (so s v pre post n e (s .chain) parts linked ok fits) (omega (arith, bsize-gap (n - itemSize e) []))
+      (all s v pre post n e (s .chain) parts linked ok fits ∙ none)

@@ -4,11 +4,11 @@ use mathlib.Core.Bool.{Bool, true, false, cond}
 use mathlib.Core.List.{List, _∷_, _++_}
 use Prim.Native.Nat.{ℕ, _+_, _-_, _≤_}
 use lib.Dec.{leb}
-use Rattle.structure.specs.Structure.{sizes, start, decodeZone}
-use Rattle.kinds.specs.Kinds.{Item, itemSize}
+use Rattle.structure.specs.Structure.{Block, cell, Structure, sizes, start, decodeZone}
+use Rattle.kinds.specs.Kinds.{Item, itemSize, headerOf}
 use Rattle.calls.specs.Bays.{Bays, last, more}
 use Rattle.calls.specs.State.{Fixed, fsize}
-use Rattle.bay.specs.Bay.{Cell, free, baySize, baySum, compactBay, Hole, fill, put}
+use Rattle.bay.specs.Bay.{Cell, free, held, baySize, baySum, compactBay, Hole, fill, put}
 use Rattle.bays.specs.Places.{baysOf}
 use Rattle.bays.specs.Read.{BayBetween}
 use Rattle.bays.specs.Slot.{Slot, plug, blocksBefore, Under}
@@ -72,3 +72,10 @@ pub record LowestRoom (z : List ℕ) (need a e at n : ℕ) (tidy : Bool) : Type 
   pub start-is : a ≡ start (decodeZone z) + sizes (blocksBefore slot)
   pub end-is : e ≡ a + baySize bay
   pub room : (i : Item) → itemSize i ≡ need → Room i bay a at n tidy
+
+-- i stands in the structure s, and its data begin at `place`
+pub record Stands (i : Item) (s : Structure) (place : ℕ) : Type 0 where
+  pub front : List Block
+  pub back : List Block
+  pub is : s .blocks ≡ front ++ (cell (held i) ∷ back)
+  pub place-is : place ≡ start s + sizes front + headerOf i

@@ -24,21 +24,21 @@ use Rattle.structure.proofs.ZoneLayout.{lay, encode-lay, lay-chain, lay-master,
 use Rattle.structure.proofs.Append.{occurs-own, occurs-held}
 use Rattle.settle.specs.surgery.Masters.{setOne, setAll}
 
-abbrev pub img : ℕ → ℕ → ℕ → ℕ → (ℕ → ℕ) → List ℕ → List ℕ
-img l f m c g r = lay l f m c (map g (offsets zoneHeader m)) r
+abbrev pub img : ℕ → ℕ → ℕ → ℕ → ℕ → (ℕ → ℕ) → List ℕ → List ℕ
+img ck l f m c g r = lay ck l f m c (map g (offsets zoneHeader m)) r
 
-pub encode-img : (s : Structure) → encode s ≡ img (len s) (start s) (count s) (headOf (s .chain)) (value s) (bytesOf (s .blocks))
+pub encode-img : (s : Structure) → encode s ≡ img (s .clock) (len s) (start s) (count s) (headOf (s .chain)) (value s) (bytesOf (s .blocks))
 encode-img s = encode-lay s
 
 -- g, but v at h
 abbrev pub upd : (ℕ → ℕ) → ℕ → ℕ → ℕ → ℕ
 upd g h v k = cond (eqb k h) v (g k)
 
-pub img-chain : (l f m c c′ : ℕ) (g : ℕ → ℕ) (r : List ℕ) → overwrite (img l f m c g r) chainAt (toBE 2 c′) ≡ img l f m c′ g r
-img-chain l f m c c′ g r = lay-chain l f m c c′ (map g (offsets zoneHeader m)) r
+pub img-chain : (ck l f m c c′ : ℕ) (g : ℕ → ℕ) (r : List ℕ) → overwrite (img ck l f m c g r) chainAt (toBE 2 c′) ≡ img ck l f m c′ g r
+img-chain ck l f m c c′ g r = lay-chain ck l f m c c′ (map g (offsets zoneHeader m)) r
 
-pub img-master : (l f m c h v : ℕ) (g : ℕ → ℕ) (r : List ℕ) → 0 < occurs h (offsets zoneHeader m) → overwrite (img l f m c g r) h (toBE 4 v) ≡ img l f m c (upd g h v) r
-img-master l f m c h v g r o =
+pub img-master : (ck l f m c h v : ℕ) (g : ℕ → ℕ) (r : List ℕ) → 0 < occurs h (offsets zoneHeader m) → overwrite (img ck l f m c g r) h (toBE 4 v) ≡ img ck l f m c (upd g h v) r
+img-master ck l f m c h v g r o =
     let q = offset-is h zoneHeader m o in
     let i = (h - zoneHeader) / masterSize in
     let e : h ≡ zoneHeader + masterSize * i = omega (arith, q .0, q .2) in
@@ -46,15 +46,15 @@ img-master l f m c h v g r o =
     let ln : length (map g (offsets zoneHeader m)) ≡ m = length-map (offsets zoneHeader m) g ∙ length-offsets zoneHeader m in
     let vs = values-set g (upd g h v) h zoneHeader m i e li (λ k ne. rw (ne-eqb k h ne)) in
     let at-h : upd g h v h ≡ v = rw (eq-eqb h h refl) in
-    ap (λ (x : ℕ). overwrite (img l f m c g r) x (toBE 4 v)) e
-    ∙ lay-master l f m c i v (map g (offsets zoneHeader m)) r (omega arith)
-    ∙ ap (λ (xs : List ℕ). lay l f m c xs r) (sym (vs ∙ ap (set (map g (offsets zoneHeader m)) i) at-h))
+    ap (λ (x : ℕ). overwrite (img ck l f m c g r) x (toBE 4 v)) e
+    ∙ lay-master ck l f m c i v (map g (offsets zoneHeader m)) r (omega arith)
+    ∙ ap (λ (xs : List ℕ). lay ck l f m c xs r) (sym (vs ∙ ap (set (map g (offsets zoneHeader m)) i) at-h))
 
-pub img-rest : (l f m c p o : ℕ) (g : ℕ → ℕ) (r x : List ℕ) → o ≡ zoneHeader + masterSize * m + p → overwrite (img l f m c g r) o x ≡ img l f m c g (overwrite r p x)
-img-rest l f m c p o g r x e =
+pub img-rest : (ck l f m c p o : ℕ) (g : ℕ → ℕ) (r x : List ℕ) → o ≡ zoneHeader + masterSize * m + p → overwrite (img ck l f m c g r) o x ≡ img ck l f m c g (overwrite r p x)
+img-rest ck l f m c p o g r x e =
     let ln : length (map g (offsets zoneHeader m)) ≡ m = length-map (offsets zoneHeader m) g ∙ length-offsets zoneHeader m in
     let q : o ≡ zoneHeader + (masterSize * length (map g (offsets zoneHeader m)) + p) = omega arith in
-    ap (λ (i : ℕ). overwrite (img l f m c g r) i x) q ∙ lay-rest l f m c p (map g (offsets zoneHeader m)) r x
+    ap (λ (i : ℕ). overwrite (img ck l f m c g r) i x) q ∙ lay-rest ck l f m c p (map g (offsets zoneHeader m)) r x
 
 pub map-same : (f g : ℕ → ℕ) (xs : List ℕ) → ((h : ℕ) → 0 < occurs h xs → f h ≡ g h) → map f xs ≡ map g xs
 unfolding occurs
@@ -62,8 +62,8 @@ map-same f g [] e = refl
 map-same f g (x ∷ xs) e = ap₂ (λ (a : ℕ) (r : List ℕ). a ∷ r) (e x (omega (arith, one-same x x refl))) (map-same f g xs (λ h l. e h (omega arith)))
 
 -- only what the masters hold counts
-pub img-same : (l f m c : ℕ) (g g′ : ℕ → ℕ) (r : List ℕ) → ((h : ℕ) → 0 < occurs h (offsets zoneHeader m) → g h ≡ g′ h) → img l f m c g r ≡ img l f m c g′ r
-img-same l f m c g g′ r e = ap (λ (vs : List ℕ). lay l f m c vs r) (map-same g g′ (offsets zoneHeader m) e)
+pub img-same : (ck l f m c : ℕ) (g g′ : ℕ → ℕ) (r : List ℕ) → ((h : ℕ) → 0 < occurs h (offsets zoneHeader m) → g h ≡ g′ h) → img ck l f m c g r ≡ img ck l f m c g′ r
+img-same ck l f m c g g′ r e = ap (λ (vs : List ℕ). lay ck l f m c vs r) (map-same g g′ (offsets zoneHeader m) e)
 
 -- ---- the masters' pass
 
@@ -77,33 +77,33 @@ updAll g at [] = g
 updAll g at (b ∷ bs) = updAll (updOne g at b) (at + size b) bs
 
 -- a block's master is set
-one-set : (l f m c at : ℕ) (e : Item) (g : ℕ → ℕ) (r : List ℕ) → ((h : ℕ) → is h e ≡ true → 0 < occurs h (offsets zoneHeader m))
-    → setOne at (cell (held e)) (img l f m c g r) ≡ img l f m c (updOne g at (cell (held e))) r
+one-set : (ck l f m c at : ℕ) (e : Item) (g : ℕ → ℕ) (r : List ℕ) → ((h : ℕ) → is h e ≡ true → 0 < occurs h (offsets zoneHeader m))
+    → setOne at (cell (held e)) (img ck l f m c g r) ≡ img ck l f m c (updOne g at (cell (held e))) r
 unfolding setOne updOne
-one-set l f m c at e g r o = go (owned e) o
+one-set ck l f m c at e g r o = go (owned e) o
   where
     go : {e : Item} → Owned e → ((h : ℕ) → is h e ≡ true → 0 < occurs h (offsets zoneHeader m))
-        → cond (eqb (masterOf e) 0) (img l f m c g r) (overwrite (img l f m c g r) (masterOf e) (toBE 4 (at + headerOf e))) ≡ img l f m c (λ k. cond (is k e) (at + headerOf e) (g k)) r
+        → cond (eqb (masterOf e) 0) (img ck l f m c g r) (overwrite (img ck l f m c g r) (masterOf e) (toBE 4 (at + headerOf e))) ≡ img ck l f m c (λ k. cond (is k e) (at + headerOf e) (g k)) r
     go (own-handle h d) o =
         let q = o h (is-self h d) in
-        rw (ne-eqb h 0 (λ x. omega (arith, offset-is h zoneHeader m q .0))) (img-master l f m c h (at + relocHeader) g r q)
+        rw (ne-eqb h 0 (λ x. omega (arith, offset-is h zoneHeader m q .0))) (img-master ck l f m c h (at + relocHeader) g r q)
     go (own-none e _ n i) o =
-        ap (λ (j : ℕ). cond (eqb j 0) (img l f m c g r) (overwrite (img l f m c g r) j (toBE 4 (at + headerOf e)))) n
-        ∙ (img-same l f m c g (λ k. cond (is k e) (at + headerOf e) (g k)) r (λ k _. rw (i k)))
+        ap (λ (j : ℕ). cond (eqb j 0) (img ck l f m c g r) (overwrite (img ck l f m c g r) j (toBE 4 (at + headerOf e)))) n
+        ∙ (img-same ck l f m c g (λ k. cond (is k e) (at + headerOf e) (g k)) r (λ k _. rw (i k)))
 
-pub img-all : (l f m c at : ℕ) (bs : List Block) (g : ℕ → ℕ) (r : List ℕ) → ((h : ℕ) → 0 < occurs h (handlesOf bs) → 0 < occurs h (offsets zoneHeader m))
-    → setAll at bs (img l f m c g r) ≡ img l f m c (updAll g at bs) r
+pub img-all : (ck l f m c at : ℕ) (bs : List Block) (g : ℕ → ℕ) (r : List ℕ) → ((h : ℕ) → 0 < occurs h (handlesOf bs) → 0 < occurs h (offsets zoneHeader m))
+    → setAll at bs (img ck l f m c g r) ≡ img ck l f m c (updAll g at bs) r
 unfolding setAll updAll updOne setOne handlesOf
-img-all l f m c at [] g r o = refl
-img-all l f m c at (cell (free n) ∷ bs) g r o = img-all l f m c (at + n) bs g r o
-img-all l f m c at (fixed d ∷ bs) g r o = img-all l f m c (at + (fixedHeader + length d)) bs g r o
-img-all l f m c at (cell (held e) ∷ bs) g r o =
-    ap (setAll (at + itemSize e) bs) (one-set l f m c at e g r (λ h q. o h (occurs-own h e bs q)))
-    ∙ img-all l f m c (at + itemSize e) bs (λ k. cond (is k e) (at + headerOf e) (g k)) r (λ k p. o k (omega (arith, occurs-held k e bs)))
+img-all ck l f m c at [] g r o = refl
+img-all ck l f m c at (cell (free n) ∷ bs) g r o = img-all ck l f m c (at + n) bs g r o
+img-all ck l f m c at (fixed d ∷ bs) g r o = img-all ck l f m c (at + (fixedHeader + length d)) bs g r o
+img-all ck l f m c at (cell (held e) ∷ bs) g r o =
+    ap (setAll (at + itemSize e) bs) (one-set ck l f m c at e g r (λ h q. o h (occurs-own h e bs q)))
+    ∙ img-all ck l f m c (at + itemSize e) bs (λ k. cond (is k e) (at + headerOf e) (g k)) r (λ k p. o k (omega (arith, occurs-held k e bs)))
 
 -- what a master holds after the pass: the place of its block, where it has one among these
 pub all-is : (g : ℕ → ℕ) (at k : ℕ) (bs : List Block) → occurs k (handlesOf bs) ≤ 1
-    → updAll g at bs k ≡ cond (eqb (occurs k (handlesOf bs)) 0) (g k) (placeOf k at bs)
+    → updAll g at bs k ≡ cond (eqb (occurs k (handlesOf bs)) 0) (g k) (placeOf (is k) at bs)
 unfolding updAll updOne handlesOf occurs placeOf
 all-is g at k [] o = refl
 all-is g at k (cell (free n) ∷ bs) o = all-is g (at + n) k bs o
@@ -113,8 +113,8 @@ all-is g at k (cell (held e) ∷ bs) o =
     rw (occurs-held k e bs) (go (is k e) o′ (all-is (λ j. cond (is j e) (at + headerOf e) (g j)) (at + itemSize e) k bs (omega arith)))
   where
     go : (t : Bool) → cond t 1 0 + occurs k (handlesOf bs) ≤ 1
-        → updAll (λ j. cond (is j e) (at + headerOf e) (g j)) (at + itemSize e) bs k ≡ cond (eqb (occurs k (handlesOf bs)) 0) (cond t (at + headerOf e) (g k)) (placeOf k (at + itemSize e) bs)
-        → updAll (λ j. cond (is j e) (at + headerOf e) (g j)) (at + itemSize e) bs k ≡ cond (eqb (cond t 1 0 + occurs k (handlesOf bs)) 0) (g k) (cond t (at + headerOf e) (placeOf k (at + itemSize e) bs))
+        → updAll (λ j. cond (is j e) (at + headerOf e) (g j)) (at + itemSize e) bs k ≡ cond (eqb (occurs k (handlesOf bs)) 0) (cond t (at + headerOf e) (g k)) (placeOf (is k) (at + itemSize e) bs)
+        → updAll (λ j. cond (is j e) (at + headerOf e) (g j)) (at + itemSize e) bs k ≡ cond (eqb (cond t 1 0 + occurs k (handlesOf bs)) 0) (g k) (cond t (at + headerOf e) (placeOf (is k) (at + itemSize e) bs))
     go true o i =
         let z : occurs k (handlesOf bs) ≡ 0 = omega arith in
         i ∙ (rw z)

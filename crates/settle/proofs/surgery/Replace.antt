@@ -14,21 +14,26 @@ use Rattle.block_type.specs.Limits.{masterSize, zoneHeader}
 use Rattle.bigendian.specs.BigEndian.{overwrite}
 use Rattle.bigendian.proofs.Overwrite.{write-mid}
 use Rattle.format.proofs.Count.{occurs-append}
-use Rattle.structure.specs.Structure.{Block, Structure, sizes, count, start, len, headOf, placeOf, nextOf, value, encode, handlesOf}
+use Rattle.structure.specs.Structure.{Block, Structure, sizes, count, start, len, headOf, placeOf, nextOf, value, encode, handlesOf, namesIn}
 use Rattle.structure.specs.Valid.{Tiled, Valid}
 use Rattle.structure.proofs.Round.{next-none}
 use Rattle.access.specs.row.Row.{bytesOf, Sound}
 use Rattle.access.proofs.row.Laws.{bytes-append, bytes-long, sound-left, sound-right}
-use Rattle.structure.proofs.Append.{sizes-append, place-append, handles-append}
+use Rattle.structure.proofs.Append.{sizes-append, place-append, handles-append, names-append}
 use Rattle.settle.specs.surgery.Masters.{setAll}
 use Rattle.structure.proofs.ZoneLayout.{lay-same}
 use Rattle.settle.proofs.surgery.Image.{img, encode-img, img-rest, img-same, img-all, all-is, updAll}
 use Rattle.access.proofs.row.Zone.{valid-sound}
 use Rattle.settle.proofs.surgery.Sound.{handle-in, handle-once}
+use Rattle.kinds.specs.Kinds.{is}
 
 pub occurs-parts : (g : ℕ) (a b c : List Block) → occurs g (handlesOf (a ++ (b ++ c))) ≡ occurs g (handlesOf a) + (occurs g (handlesOf b) + occurs g (handlesOf c))
 occurs-parts g a b c =
     rw (handles-append a (b ++ c), handles-append b c, occurs-append g (handlesOf a) (handlesOf b ++ handlesOf c), occurs-append g (handlesOf b) (handlesOf c))
+
+names-parts : (n : ℕ) (a b c : List Block) → occurs n (namesIn (a ++ (b ++ c))) ≡ occurs n (namesIn a) + (occurs n (namesIn b) + occurs n (namesIn c))
+names-parts n a b c =
+    rw (names-append a (b ++ c), names-append b c, occurs-append n (namesIn a) (namesIn b ++ namesIn c), occurs-append n (namesIn b) (namesIn c))
 
 count-parts : (a b c : List Block) → length (handlesOf (a ++ (b ++ c))) ≡ length (handlesOf a) + (length (handlesOf b) + length (handlesOf c))
 count-parts a b c =
@@ -39,7 +44,7 @@ sizes-parts a b c = sizes-append a (b ++ c) ∙ ap (λ (x : ℕ). sizes a + x) (
 
 module _ (s : Structure) (v : Valid s) (pre mid mid′ post : List Block) (ks : List ℕ) (e : s .blocks ≡ pre ++ (mid ++ post)) (sz : sizes mid′ ≡ sizes mid) (so : Sound mid′) where
   abbrev s′ : Structure
-  s′ = record { chain = ks; blocks = pre ++ (mid′ ++ post) }
+  s′ = record { clock = s .clock; chain = ks; blocks = pre ++ (mid′ ++ post) }
 
   sound-parts : Sound (pre ++ (mid ++ post))
   sound-parts = subst Sound e (valid-sound s v)
@@ -67,37 +72,39 @@ module _ (s : Structure) (v : Valid s) (pre mid mid′ post : List Block) (ks : 
     len-same = omega (arith, count-same, sizes-parts pre mid′ post, sizes-parts pre mid post, ap sizes e)
 
     -- what a master outside the replaced blocks holds
-    pub place-same : (k : ℕ) → occurs k (handlesOf mid) ≡ 0 → occurs k (handlesOf mid′) ≡ 0 → placeOf k (start s′) (pre ++ (mid′ ++ post)) ≡ placeOf k (start s) (s .blocks)
+    pub place-same : (k : ℕ) → occurs k (handlesOf mid) ≡ 0 → occurs k (handlesOf mid′) ≡ 0 → placeOf (is k) (start s′) (pre ++ (mid′ ++ post)) ≡ placeOf (is k) (start s) (s .blocks)
     place-same k z z′ =
         let o = start s + sizes pre in
-        let m : placeOf k o (mid ++ post) ≡ placeOf k (o + sizes mid) post = place-append k o mid post ∙ (rw z) in
-        let m′ : placeOf k o (mid′ ++ post) ≡ placeOf k (o + sizes mid) post = place-append k o mid′ post ∙ (rw (z′, sz)) in
-        ap (λ (x : ℕ). placeOf k x (pre ++ (mid′ ++ post))) start-same
+        let m : placeOf (is k) o (mid ++ post) ≡ placeOf (is k) (o + sizes mid) post = place-append k o mid post ∙ (rw z) in
+        let m′ : placeOf (is k) o (mid′ ++ post) ≡ placeOf (is k) (o + sizes mid) post = place-append k o mid′ post ∙ (rw (z′, sz)) in
+        ap (λ (x : ℕ). placeOf (is k) x (pre ++ (mid′ ++ post))) start-same
         ∙ place-append k (start s) pre (mid′ ++ post)
-        ∙ ap (λ (x : ℕ). cond (eqb (occurs k (handlesOf pre)) 0) x (placeOf k (start s) pre)) (m′ ∙ sym m)
+        ∙ ap (λ (x : ℕ). cond (eqb (occurs k (handlesOf pre)) 0) x (placeOf (is k) (start s) pre)) (m′ ∙ sym m)
         ∙ sym (place-append k (start s) pre (mid ++ post))
-        ∙ ap (placeOf k (start s)) (sym e)
+        ∙ ap (placeOf (is k) (start s)) (sym e)
 
     -- and one inside
-    pub place-mid : (k : ℕ) → occurs k (handlesOf pre) ≡ 0 → 0 < occurs k (handlesOf mid′) → placeOf k (start s′) (pre ++ (mid′ ++ post)) ≡ placeOf k (start s + sizes pre) mid′
+    pub place-mid : (k : ℕ) → occurs k (handlesOf pre) ≡ 0 → 0 < occurs k (handlesOf mid′) → placeOf (is k) (start s′) (pre ++ (mid′ ++ post)) ≡ placeOf (is k) (start s + sizes pre) mid′
     place-mid k z p =
-        let a : placeOf k (start s) (pre ++ (mid′ ++ post)) ≡ placeOf k (start s + sizes pre) (mid′ ++ post) = place-append k (start s) pre (mid′ ++ post) ∙ (rw z) in
-        let b : placeOf k (start s + sizes pre) (mid′ ++ post) ≡ placeOf k (start s + sizes pre) mid′ =
+        let a : placeOf (is k) (start s) (pre ++ (mid′ ++ post)) ≡ placeOf (is k) (start s + sizes pre) (mid′ ++ post) = place-append k (start s) pre (mid′ ++ post) ∙ (rw z) in
+        let b : placeOf (is k) (start s + sizes pre) (mid′ ++ post) ≡ placeOf (is k) (start s + sizes pre) mid′ =
         place-append k (start s + sizes pre) mid′ post ∙ (rw (ne-eqb (occurs k (handlesOf mid′)) 0 (λ q. omega arith))) in
-        ap (λ (x : ℕ). placeOf k x (pre ++ (mid′ ++ post))) start-same ∙ a ∙ b
+        ap (λ (x : ℕ). placeOf (is k) x (pre ++ (mid′ ++ post))) start-same ∙ a ∙ b
 
     -- the bytes of the new structure, for any g that is what its masters hold
     pub replaced : (g : ℕ → ℕ) → ((k : ℕ) → 0 < occurs k (offsets zoneHeader (count s)) → g k ≡ value s′ k)
-        → img (len s) (start s) (count s) (headOf ks) g (overwrite (bytesOf (s .blocks)) (sizes pre) (bytesOf mid′)) ≡ encode s′
+        → img (s .clock) (len s) (start s) (count s) (headOf ks) g (overwrite (bytesOf (s .blocks)) (sizes pre) (bytesOf mid′)) ≡ encode s′
     replaced g f =
-        ap (img (len s) (start s) (count s) (headOf ks) g) rest-write
-        ∙ img-same (len s) (start s) (count s) (headOf ks) g (value s′) (bytesOf (pre ++ (mid′ ++ post))) f
-        ∙ sym (encode-img s′ ∙ lay-same len-same start-same count-same refl (ap (λ (m : ℕ). map (value s′) (offsets zoneHeader m)) count-same) refl)
+        ap (img (s .clock) (len s) (start s) (count s) (headOf ks) g) rest-write
+        ∙ img-same (s .clock) (len s) (start s) (count s) (headOf ks) g (value s′) (bytesOf (pre ++ (mid′ ++ post))) f
+        ∙ sym (encode-img s′ ∙ lay-same (s .clock) len-same start-same count-same refl (ap (λ (m : ℕ). map (value s′) (offsets zoneHeader m)) count-same) refl)
 
     pub replaced-valid : Tiled false (pre ++ (mid′ ++ post))
-        → ((k : ℕ) → occurs k (handlesOf mid′) + occurs k ks ≡ occurs k (handlesOf mid) + occurs k (s .chain)) → Valid s′
-    replaced-valid t f = record {
+        → ((k : ℕ) → occurs k (handlesOf mid′) + occurs k ks ≡ occurs k (handlesOf mid) + occurs k (s .chain)) → ((n : ℕ) → occurs n (namesIn mid′) ≤ occurs n (namesIn mid)) → Valid s′
+    replaced-valid t f a = record {
       tiled = t;
+      apart = λ n. omega (arith, a n, names-parts n pre mid′ post, names-parts n pre mid post, ap (λ (b : List Block). occurs n (namesIn b)) e, v .apart n);
+      byte = v .byte;
       owned = λ h. omega (
         arith,
         f h,
@@ -122,7 +129,7 @@ module _ (s : Structure) (v : Valid s) (pre mid mid′ post : List Block) (ks : 
     holds : (k : ℕ) → updAll (value s) (start s + sizes pre) mid′ k ≡ value s′ k
     holds k = all-is (value s) (start s + sizes pre) k mid′ (omega (arith, once k)) ∙ go (occurs k (handlesOf mid′)) refl
       where
-        go : (n : ℕ) → occurs k (handlesOf mid′) ≡ n → cond (eqb n 0) (value s k) (placeOf k (start s + sizes pre) mid′) ≡ value s′ k
+        go : (n : ℕ) → occurs k (handlesOf mid′) ≡ n → cond (eqb n 0) (value s k) (placeOf (is k) (start s + sizes pre) mid′) ≡ value s′ k
         go zero z = ap₂ (λ (a b : ℕ). a + b) (sym (place-same ct k (ap (occurs k) (sym hs) ∙ z) z)) (ap (nextOf k) (sym kl))
         go (suc n) z =
             rw (ne-eqb (suc n) 0 (λ q. omega arith))
@@ -133,11 +140,11 @@ module _ (s : Structure) (v : Valid s) (pre mid mid′ post : List Block) (ks : 
         let l = len s in let f = start s in let m = count s in let c = headOf (s .chain) in
         let r = bytesOf (s .blocks) in
         ap (λ (x : List ℕ). setAll (f + sizes pre) mid′ (overwrite x (f + sizes pre) (bytesOf mid′))) (encode-img s)
-        ∙ ap (setAll (f + sizes pre) mid′) (img-rest l f m c (sizes pre) (f + sizes pre) (value s) r (bytesOf mid′) refl)
-        ∙ img-all l f m c (f + sizes pre) mid′ (value s) (overwrite r (sizes pre) (bytesOf mid′))
+        ∙ ap (setAll (f + sizes pre) mid′) (img-rest (s .clock) l f m c (sizes pre) (f + sizes pre) (value s) r (bytesOf mid′) refl)
+        ∙ img-all (s .clock) l f m c (f + sizes pre) mid′ (value s) (overwrite r (sizes pre) (bytesOf mid′))
         (λ h p. handle-in s v h (omega (arith, ap (λ (b : List Block). occurs h (handlesOf b)) e, occurs-parts h pre mid post, ap (occurs h) hs)))
-        ∙ ap (λ (x : ℕ). img l f m x (updAll (value s) (f + sizes pre) mid′) (overwrite r (sizes pre) (bytesOf mid′))) (ap headOf (sym kl))
+        ∙ ap (λ (x : ℕ). img (s .clock) l f m x (updAll (value s) (f + sizes pre) mid′) (overwrite r (sizes pre) (bytesOf mid′))) (ap headOf (sym kl))
         ∙ replaced ct (updAll (value s) (f + sizes pre) mid′) (λ k p. holds k)
 
-    pub moved-valid : Tiled false (pre ++ (mid′ ++ post)) → Valid s′
-    moved-valid t = replaced-valid ct t (λ k. rw (hs, kl))
+    pub moved-valid : Tiled false (pre ++ (mid′ ++ post)) → ((n : ℕ) → occurs n (namesIn mid′) ≤ occurs n (namesIn mid)) → Valid s′
+    moved-valid t a = replaced-valid ct t (λ k. rw (hs, kl)) a

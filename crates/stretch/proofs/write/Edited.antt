@@ -1,5 +1,5 @@
 -- The data of the named block changed: in the bays, and among the blocks, where a name names one block.
-use mathlib.Core.Path.{_≡_, refl, ap, ap₂, _∙_}
+use mathlib.Core.Path.{_≡_, refl, ap, ap₂, _∙_, sym}
 use mathlib.Core.Bool.{Bool, true, false, cond}
 use mathlib.Core.List.{List, [], _∷_, _++_}
 use Prim.Native.Nat.{ℕ, _+_, _<_, _≤_}
@@ -10,13 +10,16 @@ use lib.Dec.{eqb}
 use borrow.Author.Tests.{eqb-true, ne-eqb}
 use Rattle.format.specs.Occurs.{occurs}
 use Rattle.block_type.specs.Limits.{fixedHeader, zoneHeader}
-use Rattle.kinds.specs.Kinds.{is, itemSize}
-use Rattle.calls.specs.Calls.{Target, by-handle, by-pointer}
+use Rattle.kinds.specs.Kinds.{is, itemSize, onData, hasName, namesOf}
+use Rattle.kinds.proofs.KindLaws.{name-owner}
+use Rattle.format.proofs.Count.{occurs-append}
+use Rattle.structure.proofs.Append.{occurs-held}
+use Rattle.calls.specs.Calls.{Target, by-handle, by-pointer, by-name}
 use Rattle.calls.specs.Bays.{Bays, last, more, mapS, onFixed}
 use Rattle.calls.specs.State.{Fixed, alter, alterFixed}
 use Rattle.bay.specs.Bay as Bay
 use Rattle.bay.specs.Bay.{Cell, free, held, cellSize}
-use Rattle.structure.specs.Structure.{Block, fixed, cell, Structure, size, sizes, count, start, handlesOf}
+use Rattle.structure.specs.Structure.{Block, fixed, cell, Structure, size, sizes, count, start, handlesOf, namesIn}
 use Rattle.structure.specs.Valid.{Valid}
 use Rattle.structure.proofs.Round.{offset-le}
 use Rattle.zone.specs.Work.{rewrite}
@@ -26,8 +29,11 @@ use Rattle.access.specs.Named.{names, refill}
 -- the block at `at` with its data changed by f, where t names it
 abbrev pub editBlock : Target → (List ℕ → List ℕ) → ℕ → Block → Block
 editBlock (by-handle h) f at (cell (free n)) = cell (free n)
-editBlock (by-handle h) f at (cell (held e)) = cell (held (alter h f e))
+editBlock (by-handle h) f at (cell (held e)) = cell (held (alter (is h) (onData f) e))
 editBlock (by-handle h) f at (fixed d) = fixed d
+editBlock (by-name i) f at (cell (free n)) = cell (free n)
+editBlock (by-name i) f at (cell (held e)) = cell (held (alter (hasName i) (onData f) e))
+editBlock (by-name i) f at (fixed d) = fixed d
 editBlock (by-pointer p) f at (cell c) = cell c
 editBlock (by-pointer p) f at (fixed d) = fixed ((alterFixed p f (record { place = at; bytes = d })) .bytes)
 
@@ -37,11 +43,17 @@ edited t f at (b ∷ bs) = editBlock t f at b ∷ edited t f (at + size b) bs
 
 -- ---- in the bays
 
-front-handle : (h at : ℕ) (f : List ℕ → List ℕ) (c : Cell) (s : Bays (List Cell) Fixed) → flatten (mapS (Bay.edit h f) (inFront c s)) ≡ editBlock (by-handle h) f at (cell c) ∷ flatten (mapS (Bay.edit h f) s)
+front-handle : (h at : ℕ) (f : List ℕ → List ℕ) (c : Cell) (s : Bays (List Cell) Fixed) → flatten (mapS (Bay.edit (is h) (onData f)) (inFront c s)) ≡ editBlock (by-handle h) f at (cell c) ∷ flatten (mapS (Bay.edit (is h) (onData f)) s)
 front-handle h at f (free n) (last b) = refl
 front-handle h at f (free n) (more b x s) = refl
 front-handle h at f (held e) (last b) = refl
 front-handle h at f (held e) (more b x s) = refl
+
+front-name : (i at : ℕ) (f : List ℕ → List ℕ) (c : Cell) (s : Bays (List Cell) Fixed) → flatten (mapS (Bay.edit (hasName i) (onData f)) (inFront c s)) ≡ editBlock (by-name i) f at (cell c) ∷ flatten (mapS (Bay.edit (hasName i) (onData f)) s)
+front-name i at f (free n) (last b) = refl
+front-name i at f (free n) (more b x s) = refl
+front-name i at f (held e) (last b) = refl
+front-name i at f (held e) (more b x s) = refl
 
 front-pointer : (p : ℕ) (f : List ℕ → List ℕ) (c : Cell) (s : Bays (List Cell) Fixed) → flatten (onFixed (alterFixed p f) (inFront c s)) ≡ cell c ∷ flatten (onFixed (alterFixed p f) s)
 front-pointer p f c (last b) = refl
@@ -51,6 +63,9 @@ pub flat-rewrite : (t : Target) (f : List ℕ → List ℕ) (at : ℕ) (bs : Lis
 unfolding edited
 flat-rewrite (by-handle h) f at [] = refl
 flat-rewrite (by-pointer p) f at [] = refl
+flat-rewrite (by-name i) f at [] = refl
+flat-rewrite (by-name i) f at (cell c ∷ bs) = front-name i at f c (group (at + cellSize c) bs) ∙ ap (editBlock (by-name i) f at (cell c) ∷_) (flat-rewrite (by-name i) f (at + cellSize c) bs)
+flat-rewrite (by-name i) f at (fixed d ∷ bs) = ap (fixed d ∷_) (flat-rewrite (by-name i) f (at + size (fixed d)) bs)
 flat-rewrite (by-handle h) f at (cell c ∷ bs) = front-handle h at f c (group (at + cellSize c) bs) ∙ ap (editBlock (by-handle h) f at (cell c) ∷_) (flat-rewrite (by-handle h) f (at + cellSize c) bs)
 flat-rewrite (by-pointer p) f at (cell c ∷ bs) = front-pointer p f c (group (at + cellSize c) bs) ∙ ap (cell c ∷_) (flat-rewrite (by-pointer p) f (at + cellSize c) bs)
 flat-rewrite (by-handle h) f at (fixed d ∷ bs) = ap (fixed d ∷_) (flat-rewrite (by-handle h) f (at + size (fixed d)) bs)
@@ -62,6 +77,9 @@ pub edit-hit : (t : Target) (f : List ℕ → List ℕ) (at : ℕ) (b : Block) �
 edit-hit (by-handle h) f at (cell (free n)) e = refl
 edit-hit (by-handle h) f at (cell (held i)) e = rw e
 edit-hit (by-handle h) f at (fixed d) e = let x : _≡_ {A = ℕ} 0 1 = cc in absurd (omega arith)
+edit-hit (by-name i) f at (cell (free n)) e = refl
+edit-hit (by-name i) f at (cell (held j)) e = rw e
+edit-hit (by-name i) f at (fixed d) e = let x : _≡_ {A = ℕ} 0 1 = cc in absurd (omega arith)
 edit-hit (by-pointer p) f at (cell c) e = let x : _≡_ {A = ℕ} 0 1 = cc in absurd (omega arith)
 edit-hit (by-pointer p) f at (fixed d) e = rw e
 
@@ -69,6 +87,9 @@ pub edit-miss : (t : Target) (f : List ℕ → List ℕ) (at : ℕ) (b : Block) 
 edit-miss (by-handle h) f at (cell (free n)) e = refl
 edit-miss (by-handle h) f at (cell (held i)) e = rw e
 edit-miss (by-handle h) f at (fixed d) e = refl
+edit-miss (by-name i) f at (cell (free n)) e = refl
+edit-miss (by-name i) f at (cell (held j)) e = rw e
+edit-miss (by-name i) f at (fixed d) e = refl
 edit-miss (by-pointer p) f at (cell c) e = refl
 edit-miss (by-pointer p) f at (fixed d) e = rw e
 
@@ -87,8 +108,16 @@ handle-hits : (h at : ℕ) (bs : List Block) → hits (by-handle h) at bs ≡ oc
 unfolding hits occurs handlesOf
 handle-hits h at [] = refl
 handle-hits h at (cell (free n) ∷ bs) = omega (arith, handle-hits h (at + n) bs)
-handle-hits h at (cell (held e) ∷ bs) = ap (λ (x : ℕ). cond (is h e) 1 0 + x) (handle-hits h (at + itemSize e) bs)
+handle-hits h at (cell (held e) ∷ bs) = ap (λ (x : ℕ). cond (is h e) 1 0 + x) (handle-hits h (at + itemSize e) bs) ∙ sym (occurs-held h e bs)
 handle-hits h at (fixed d ∷ bs) = omega (arith, handle-hits h (at + size (fixed d)) bs)
+
+name-hits : (i at : ℕ) (bs : List Block) → hits (by-name i) at bs ≡ occurs i (namesIn bs)
+unfolding hits occurs namesIn
+name-hits i at [] = refl
+name-hits i at (cell (free n) ∷ bs) = omega (arith, name-hits i (at + n) bs)
+name-hits i at (cell (held e) ∷ bs) =
+    ap (λ (x : ℕ). cond (hasName i e) 1 0 + x) (name-hits i (at + itemSize e) bs) ∙ sym (occurs-append i (namesOf e) (namesIn bs) ∙ ap (_+ occurs i (namesIn bs)) (name-owner i e))
+name-hits i at (fixed d ∷ bs) = omega (arith, name-hits i (at + size (fixed d)) bs)
 
 pointer-none : (p at : ℕ) (bs : List Block) → p < at + fixedHeader → hits (by-pointer p) at bs ≡ 0
 unfolding hits
@@ -107,6 +136,7 @@ pointer-once p at (fixed d ∷ bs) = go (eqb p (at + fixedHeader)) refl (pointer
     go false e i = omega arith
 
 once : (t : Target) (s : Structure) → Valid s → hits t (start s) (s .blocks) ≤ 1
+once (by-name i) s v = omega (arith, name-hits i (start s) (s .blocks), v .apart i)
 once (by-handle h) s v = omega (arith, handle-hits h (start s) (s .blocks), v .owned h, offset-le h zoneHeader (count s))
 once (by-pointer p) s v = pointer-once p (start s) (s .blocks)
 

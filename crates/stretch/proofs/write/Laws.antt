@@ -49,7 +49,7 @@ module _ (t : Target) (i : ℕ) (src s : List ℕ) (y : Bytes s) (wf : wellForme
       let q = placeAmong t (start d) (d .blocks) in
       let u = after t i src d in
       let line : inLine (withBays (rewrite t (λ (l : List ℕ). sets l i src) (zone .bays)) zone) ≡ u =
-      λ j. record { chain = d .chain; blocks = flat-rewrite t (λ (l : List ℕ). sets l i src) (start d) (d .blocks) j } in
+      λ j. record { clock = d .clock; chain = d .chain; blocks = flat-rewrite t (λ (l : List ℕ). sets l i src) (start d) (d .blocks) j } in
       let k : q + i + length src ≤ length (encode d) = omega (arith, among-fits t (start d) (d .blocks) live, length-is d v) in
       ap (replacing s d) line
       ∙ same-length s y wf u (len-same t i src d v live)

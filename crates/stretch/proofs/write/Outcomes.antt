@@ -12,7 +12,7 @@ use Rattle.format.specs.WellFormed.{wellFormed, zoneOf}
 use Rattle.structure.specs.Structure.{Block, fixed, Structure, size, start, decode, cell}
 use Rattle.structure.proofs.Sound.{valid}
 use Rattle.bay.specs.Bay.{free, held}
-use Rattle.calls.specs.Calls.{Target, by-handle, by-pointer, Call, read, write, shows}
+use Rattle.calls.specs.Calls.{Target, by-handle, by-pointer, by-name, Call, read, write, shows}
 use Rattle.zone.specs.Call.{zoneIn, inLine, Result, call}
 use Rattle.zone.proofs.Run.{call-well}
 use Rattle.call_laws.proofs.Outcome.{stepAs, after-line}
@@ -32,6 +32,9 @@ module _ (f : List ℕ → List ℕ) where
   names-refill (by-handle h) at (cell (free n)) = refl
   names-refill (by-handle h) at (fixed d) = refl
   names-refill (by-handle h) at (cell (held it)) = refl
+  names-refill (by-name i) at (cell (free n)) = refl
+  names-refill (by-name i) at (fixed d) = refl
+  names-refill (by-name i) at (cell (held it)) = refl
   names-refill (by-pointer p) at (cell (free n)) = refl
   names-refill (by-pointer p) at (fixed d) = refl
   names-refill (by-pointer p) at (cell (held it)) = refl
@@ -44,6 +47,7 @@ module _ (f : List ℕ → List ℕ) where
   held-refill : (t : Target) (at : ℕ) (b : Block) → names t at b ≡ true → heldBy (refill f b) ≡ f (heldBy b)
   held-refill (by-handle h) at (cell (free n)) e = absurd (false≢true e)
   held-refill (by-pointer p) at (cell (free n)) e = absurd (false≢true e)
+  held-refill (by-name i) at (cell (free n)) e = absurd (false≢true e)
   held-refill t at (fixed d) e = refl
   held-refill t at (cell (held it)) e = refl
 
@@ -93,8 +97,8 @@ module _ (t : Target) (i n : ℕ) (src s : List ℕ) (y : Bytes s) (ys : Bytes s
   decode-is : decode s′ ≡ after t i (take n src) (decode s)
   decode-is =
       after-line s y (ok .well) c ys
-      ∙ ap (λ (k : ℕ). inLine ((stepAs k c (zoneIn s)) .next)) (AtCall.accepted c s (λ n. refl) refl done .passed)
-      ∙ (λ j. record { chain = decode s .chain; blocks = flat-rewrite t f (start (decode s)) (decode s .blocks) j })
+      ∙ ap (λ (k : ℕ). inLine ((stepAs k c (zoneIn s)) .next)) (AtCall.accepted c s (λ n v. refl) refl done .passed)
+      ∙ (λ j. record { clock = decode s .clock; chain = decode s .chain; blocks = flat-rewrite t f (start (decode s)) (decode s .blocks) j })
 
   place-is : targetPlace t (zoneOf s′) ≡ targetPlace t (zoneOf s)
   unfolding targetPlace decode

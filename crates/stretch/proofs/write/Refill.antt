@@ -20,6 +20,7 @@ use Rattle.settle.proofs.surgery.Stays.{starts, stays}
 use Rattle.access.specs.Named.{heldBy, refill, placeAmong, dataAmong}
 use Rattle.access.proofs.Named.{Named, named, Parts, named-parts}
 use Rattle.stretch.proofs.write.Edited.{edited, one-edited}
+use Rattle.kinds.specs.Kinds.{is}
 
 -- ---- one block, for an f that keeps lengths
 
@@ -40,7 +41,7 @@ module _ (f : List ℕ → List ℕ) (keep : (l : List ℕ) → length (f l) ≡
   refill-handles (cell (held e)) = refl
   refill-handles (fixed d) = refl
 
-  refill-place : (k p : ℕ) (b : Block) → placeOf k p (refill f b ∷ []) ≡ placeOf k p (b ∷ [])
+  refill-place : (k p : ℕ) (b : Block) → placeOf (is k) p (refill f b ∷ []) ≡ placeOf (is k) p (b ∷ [])
   unfolding placeOf
   refill-place k p (cell (free n)) = refl
   refill-place k p (cell (held e)) = refl
@@ -56,7 +57,7 @@ write-part a h d r src i l =
 
 -- the data of the named block have src at offset i
 abbrev pub after : Target → ℕ → List ℕ → Structure → Structure
-after t i src s = record { chain = s .chain; blocks = edited t (λ (l : List ℕ). sets l i src) (start s) (s .blocks) }
+after t i src s = record { clock = s .clock; chain = s .chain; blocks = edited t (λ (l : List ℕ). sets l i src) (start s) (s .blocks) }
 
 module _ (t : Target) (i : ℕ) (src : List ℕ) (s : Structure) (v : Valid s) (live : placeAmong t (start s) (s .blocks) ≡ 0 → ⊥) where
   abbrev f : List ℕ → List ℕ
@@ -91,10 +92,10 @@ module _ (t : Target) (i : ℕ) (src : List ℕ) (s : Structure) (v : Valid s) (
   changed = one-edited t f s v (r .before) (r .after) b (r .is) (r .hit)
 
   abbrev there : Structure
-  there = record { chain = s .chain; blocks = r .before ++ ((refill f b ∷ []) ++ r .after) }
+  there = record { clock = s .clock; chain = s .chain; blocks = r .before ++ ((refill f b ∷ []) ++ r .after) }
 
   is-there : (after t i src s) ≡ there
-  is-there = λ j. record { chain = s .chain; blocks = changed j }
+  is-there = λ j. record { clock = s .clock; chain = s .chain; blocks = changed j }
 
   pub start-same : start (after t i src s) ≡ start s
   start-same = ap start is-there ∙ starts s v (r .before) (b ∷ []) (refill f b ∷ []) (r .after) parts new-size new-sound (refill-handles f keep b) (λ k p. refill-place f keep k p b)

@@ -5,7 +5,7 @@ use borrow.Author.Needs.{needs}
 use native.Mathlib.Omega.{arith}
 use Rattle.block_type.specs.Limits.{argumentRange}
 use Rattle.format.specs.OneWalk.{links}
-use Rattle.zone_check.proofs.block_check.Leaves.{master-fits, links-step, links-no, links-done}
+use Rattle.block_check.proofs.Leaves.{master-fits, links-step, links-no, links-done}
 use Rattle.zone_check.proofs.chain_ok.Statement.{statement}
 use Rattle.zone_check.proofs.chain_ok.Tie as tie
 

@@ -1,4 +1,4 @@
-use Rattle.zone_check.proofs.block_check.Leaves.{header-short, header-law}
+use Rattle.block_check.proofs.Leaves.{header-short, header-law}
 use borrow.Author.Needs.{needs}
 use Rattle.zone_check.proofs.header_ok.Statement.{statement}
 use Rattle.zone_check.proofs.header_ok.Tie as tie
@@ -19,7 +19,6 @@ header-ok-spec =
     (λ c κs. search needs)
     (λ c. search needs)
     (λ c κs. search needs)
-    (λ c. search needs)
     (λ c. search needs)
     (λ c. search needs)
     (λ c. search needs)

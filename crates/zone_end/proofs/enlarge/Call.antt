@@ -9,7 +9,6 @@ use lib.Seq.{take-add}
 use mir.Val.{Fits}
 use mir.Syntax.{w8, w64}
 use Rattle.bigendian.specs.BigEndian.{toBE, overwrite}
-use Rattle.bigendian.proofs.Bytes.{bytes-none}
 use Rattle.block_type.specs.Limits.{lengthAt}
 use Rattle.format.specs.WellFormed.{wellFormed, lengthField}
 use Rattle.structure.specs.Structure.{encodeBlock, decodeZone, cell}
@@ -65,7 +64,7 @@ module _ (s : List ℕ) (k number l from : ℕ) (p : Planned (enlarge k) s numbe
   module _ (g : (i : ℕ) → Fits w8 (getD s i 0)) where
     pub call-idle : k ≡ 0 → result (told 0 0) s ≡ call (enlarge k) s
     call-idle e =
-        frame-same (enlarge k) s number l _ p g z (grows (take l s) (r .zone) k (length s) accepted) bytes-none (omega arith) (idle (take l s) (r .zone) k e)
+        frame-same (enlarge k) s number l _ p g z (grows (take l s) (r .zone) k (length s) accepted) tt (omega arith) (idle (take l s) (r .zone) k e)
 
   module _ (ne : k ≡ 0 → ⊥) where
     -- the new bytes
@@ -86,7 +85,7 @@ module _ (s : List ℕ) (k number l from : ℕ) (p : Planned (enlarge k) s numbe
     pub call-end : (x : List ℕ) → ((i : ℕ) → Fits w8 (getD s i 0)) → x ≡ overwrite (overwrite (take (l + k) s) from (encodeBlock (cell (free (length (take (l + k) s) - from))))) lengthAt (toBE 4 (length (take (l + k) s)))
         → result (told 0 0) (x ++ drop (l + k) s) ≡ call (enlarge k) s
     call-end x g e =
-        frame-grown (enlarge k) s number l _ p g z (grows (take l s) (r .zone) k (length s) accepted) bytes-none k refl x
+        frame-grown (enlarge k) s number l _ p g z (grows (take l s) (r .zone) k (length s) accepted) tt k refl x
         (e ∙ ap (λ (b : List ℕ). overwrite (overwrite b from (encodeBlock (cell (free (length b - from))))) lengthAt (toBE 4 (length b))) (sym both)
         ∙ ap (λ (o : ℕ). overwrite (overwrite (take l s ++ new) o (encodeBlock (cell (free (length (take l s ++ new) - o))))) lengthAt (toBE 4 (length (take l s ++ new)))) (r .tail)
         ∙ written (take l s) (r .zone) k (length s) accepted (omega arith) new new-long)

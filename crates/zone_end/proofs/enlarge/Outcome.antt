@@ -8,7 +8,6 @@ use lib.ListN.{length, getD}
 use mir.Val.{Fits}
 use mir.Syntax.{w8}
 use Rattle.bigendian.specs.BigEndian.{Bytes}
-use Rattle.bigendian.proofs.Bytes.{bytes-none}
 use Rattle.format.specs.WellFormed.{wellFormed, zoneOf, lengthField}
 use Rattle.structure.specs.Structure.{decodeZone}
 use Rattle.calls.specs.Calls.{Answer, told, enlarge, length-of, sums}
@@ -41,11 +40,11 @@ pub record Longer (k : ℕ) (s : List ℕ) : Type 0 where
 
 pub enlarged : (s : List ℕ) (k : ℕ) → Bytes s → (call (enlarge k) s) .answer .number ≡ 0 → Longer k s
 enlarged s k y e =
-    let a : Accepted (enlarge k) s = accepted (enlarge k) s (λ n. refl) refl e in
+    let a : Accepted (enlarge k) s = accepted (enlarge k) s (λ n v. refl) refl e in
     let value : Answer → ℕ = λ b. b .value in
     record {
-      sized = after a y bytes-none length-of ∙ ap (λ (b : Answer). told 0 (b .value + k)) (sym (before a y length-of));
-      total = omega (arith, ap value (after a y bytes-none sums), ap value (before a y sums), grown-sum k (zoneIn s .bays));
+      sized = after a y tt length-of ∙ ap (λ (b : Answer). told 0 (b .value + k)) (sym (before a y length-of));
+      total = omega (arith, ap value (after a y tt sums), ap value (before a y sums), grown-sum k (zoneIn s .bays));
     }
 
 pub enlarge-none : (s : List ℕ) → Bytes s → left 0 s ≡ s
@@ -56,7 +55,7 @@ enlarge-none s y = go (wellFormed s) refl
 
     still : (number l from : ℕ) → Planned (enlarge 0) s number l (ReadyIn s 0 l from) → left 0 s ≡ s
     still zero l from p = ap (λ (r : Result). r .bytes) (sym (call-idle s 0 zero l from p refl bytes refl))
-    still (suc n) l from p = ap (λ (r : Result). r .bytes) (sym (frame-no (enlarge 0) s (suc n) l _ p refl (λ e. omega arith)))
+    still (suc n) l from p = ap (λ (r : Result). r .bytes) (sym (frame-no (enlarge 0) s (suc n) l _ p (λ f. refl) (λ e. omega arith)))
 
     within : (w : wellFormed s ≡ true) (t : Bool) → t ≡ accepts (length s) (lengthField s + 0) 0 → left 0 s ≡ s
     within w false a = still 9 0 0 (plan-9 s 0 (lengthField s) true false (sym w) refl refl a bytes 0 0 refl)

@@ -157,7 +157,7 @@ module _ (z : List ℕ) (i : IsZone z) where
     pub idle : k ≡ 0 → z ≡ encode (longer k d)
     idle e =
         let n : endFree b ≡ endFree b + k = omega arith in
-        sym (encode-zone z w) ∙ ap encode (λ j. record { chain = d .chain; blocks = (parts ∙ ap (λ (x : ℕ). pre ++ rest x) n ∙ sym grown) j })
+        sym (encode-zone z w) ∙ ap encode (λ j. record { clock = d .clock; chain = d .chain; blocks = (parts ∙ ap (λ (x : ℕ). pre ++ rest x) n ∙ sym grown) j })
 
     last-hole : Hole z (lastFree d) (length z)
     last-hole = go (endFree b) refl parts
@@ -193,12 +193,12 @@ module _ (z : List ℕ) (i : IsZone z) where
           let same : endFree b + length g ≡ n + length {A = ℕ} [] = omega arith in
           let e₁ : z ++ g ≡ encode d ++ g = ap (_++ g) (sym (encode-zone z w)) in
           let e₂ : length (z ++ g) - lastFree d ≡ n = omega (arith, long, total) in
-          let e₃ : length (z ++ g) ≡ len (record { chain = d .chain; blocks = pre ++ rest n }) = omega (arith, long, len-zone, lens d pre (endFree b) n g [] parts (valid-sound d v) so same) in
+          let e₃ : length (z ++ g) ≡ len (record { clock = d .clock; chain = d .chain; blocks = pre ++ rest n }) = omega (arith, long, len-zone, lens d pre (endFree b) n g [] parts (valid-sound d v) so same) in
           (λ j. overwrite (overwrite (e₁ j) (is-from j) (encodeBlock (cell (free (e₂ j))))) lengthAt (toBE 4 (length (z ++ g))))
           ∙ ap (λ (x : List ℕ). overwrite (overwrite (encode d ++ g) (start d + sizes pre) x) lengthAt (toBE 4 (length (z ++ g)))) (sym (free-bytes n (omega arith)))
           ∙ end-changed d pre (endFree b) n g [] parts (valid-sound d v) so same (length (z ++ g)) e₃
           ∙ append-nil _
-          ∙ ap (λ (bs : List Block). encode (record { chain = d .chain; blocks = bs })) (sym grown)
+          ∙ ap (λ (bs : List Block). encode (record { clock = d .clock; chain = d .chain; blocks = bs })) (sym grown)
 
   -- what the search answers, where the blocks begin at first
   module _ (first : ℕ) (ef : first ≡ firstField z) (g : Bool) (a e sum tail : ℕ) (q : bayN g a e sum tail ≡ highBay 0 first (baysAt z first)) where

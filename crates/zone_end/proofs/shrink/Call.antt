@@ -8,7 +8,6 @@ use borrow.Author.Tests.{eq-eqb, ne-eqb}
 use lib.ListN.{length, getD, take, drop, replicate}
 use mir.Val.{Fits}
 use mir.Syntax.{w8, w32}
-use Rattle.bigendian.proofs.Bytes.{bytes-none}
 use Rattle.format.specs.WellFormed.{firstField}
 use Rattle.structure.specs.Structure.{Structure, fixed, sizes, start, len, decodeZone, encode}
 use Rattle.structure.proofs.Table.{encode-zone}
@@ -81,7 +80,7 @@ module _ (buf : ℕ) (z : List ℕ) (k m : ℕ) (is-m : m ≡ strips (decodeZone
 
   -- by whether nothing is stripped
   abbrev out : Bool → Out (List Cell)
-  out t = cond t (done 0 u) (done (strips c k) (record { buf = buf; len = u .len - strips c k; chain = u .chain; bays = onLast (takeHigh (strips c k)) (u .bays) }))
+  out t = cond t (done 0 u) (done (strips c k) (record { buf = buf; len = u .len - strips c k; clock = u .clock; chain = u .chain; bays = onLast (takeHigh (strips c k)) (u .bays) }))
 
   module _ (q : m ≡ 0) where
     none : work (shrink k) u ≡ done 0 u
@@ -91,7 +90,7 @@ module _ (buf : ℕ) (z : List ℕ) (k m : ℕ) (is-m : m ≡ strips (decodeZone
     stays = record {
       passed = refl;
       answer = ap (λ (o : Out (List Cell)). o .answer) none;
-      line = ap (λ (o : Out (List Cell)). inLine (o .next)) none ∙ (λ j. record { chain = c .chain; blocks = flatten-group (start c) (c .blocks) j });
+      line = ap (λ (o : Out (List Cell)). inLine (o .next)) none ∙ (λ j. record { clock = c .clock; chain = c .chain; blocks = flatten-group (start c) (c .blocks) j });
     }
 
     stays-long : (work (shrink k) (zoneAt buf z)) .next .len ≡ len (decodeZone z)
@@ -116,7 +115,7 @@ module _ (s : List ℕ) (k number l n a e sum tail : ℕ) (p : Planned (shrink k
 
   pub call-none : ((i : ℕ) → Fits w8 (getD s i 0)) → n ≡ 0 → result (told 0 0) s ≡ call (shrink k) s
   call-none g q =
-      frame-same (shrink k) s number l _ p g z (stays (length s) (take l s) k n (r .is-strip) q) bytes-none (stays-long (length s) (take l s) k n (r .is-strip) q)
+      frame-same (shrink k) s number l _ p g z (stays (length s) (take l s) k n (r .is-strip) q) tt (stays-long (length s) (take l s) k n (r .is-strip) q)
       (sym (encode-zone (take l s) (whole-of (take l s) (r .zone))))
 
   module _ (ne : n ≡ 0 → ⊥) where
@@ -129,4 +128,4 @@ module _ (s : List ℕ) (k number l n a e sum tail : ℕ) (p : Planned (shrink k
     pub call-end : (y : List ℕ) → ((i : ℕ) → Fits w8 (getD s i 0)) → y ≡ encode (stripped n (decodeZone (take l s))) ++ replicate n 0
         → result (told 0 n) (y ++ drop l s) ≡ call (shrink k) s
     call-end y g q =
-        frame-cut (shrink k) s number l _ p g z (cuts (length s) (take l s) k n (r .is-strip) ne) bytes-none n (cuts-long (length s) (take l s) k n (r .is-strip) ne) y q
+        frame-cut (shrink k) s number l _ p g z (cuts (length s) (take l s) k n (r .is-strip) ne) tt n (cuts-long (length s) (take l s) k n (r .is-strip) ne) y q

@@ -5,7 +5,6 @@ use Prim.Native.Nat.{ℕ, zero, suc, _+_, _≤_}
 use native.Mathlib.Omega.{arith}
 use lib.Dec.{eqb·suc-zero}
 use Rattle.bigendian.specs.BigEndian.{Bytes}
-use Rattle.bigendian.proofs.Bytes.{bytes-none}
 use Rattle.structure.specs.Structure.{decode}
 use Rattle.calls.specs.Calls.{Answer, Call, shrink, sums, length-of}
 use Rattle.calls.specs.Bays.{Bays, last, more, onLast, sumS, lastS}
@@ -42,7 +41,7 @@ less (suc m) z l h = rw (eqb·suc-zero m) (omega arith, total-less (suc m) (z .b
 
 module _ (s : List ℕ) (k : ℕ) (y : Bytes s) (e : asked (shrink k) s .number ≡ 0) where
   a : Accepted (shrink k) s
-  a = accepted (shrink k) s (λ n. refl) refl e
+  a = accepted (shrink k) s (λ n v. refl) refl e
 
   abbrev value : Answer → ℕ
   value r = r .value
@@ -51,6 +50,6 @@ module _ (s : List ℕ) (k : ℕ) (y : Bytes s) (e : asked (shrink k) s .number 
   shrink-told =
       let l = less (strips (decode s) k) (zoneIn s) (small (decode s) k) (omega arith) in
       record {
-        shorter = ap₂ _+_ (ap value (after a y bytes-none length-of)) (ap value (answered a y)) ∙ l .0 ∙ sym (ap value (before a y length-of));
-        fewer = ap₂ _+_ (ap value (after a y bytes-none sums)) (ap value (answered a y)) ∙ l .1 ∙ sym (ap value (before a y sums));
+        shorter = ap₂ _+_ (ap value (after a y tt length-of)) (ap value (answered a y)) ∙ l .0 ∙ sym (ap value (before a y length-of));
+        fewer = ap₂ _+_ (ap value (after a y tt sums)) (ap value (answered a y)) ∙ l .1 ∙ sym (ap value (before a y sums));
       }

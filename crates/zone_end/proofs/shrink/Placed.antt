@@ -74,7 +74,7 @@ module _ (z : List ℕ) (n a e sum tail : ℕ) (x : Site z n a e sum tail) where
   -- ---- the n bytes as a free block by themselves
 
   abbrev s₁ : Structure
-  s₁ = record { chain = s .chain; blocks = pre ++ (map cell (ds ++ gap n []) ++ []) }
+  s₁ = record { clock = s .clock; chain = s .chain; blocks = pre ++ (map cell (ds ++ gap n []) ++ []) }
 
   kept : Kept a (e - a) (ds ++ gap n [])
   kept =
@@ -116,7 +116,7 @@ module _ (z : List ℕ) (n a e sum tail : ℕ) (x : Site z n a e sum tail) where
       start-same s v pre (map cell cs) (map cell (ds ++ gap n [])) [] (s .chain) (run .parts) (sym (all-sizes (ds ++ gap n [])) ∙ size-is ∙ all-sizes cs) (all-sound (ds ++ gap n []) (kept .sound))
       (rw same-handles)
 
-  shorter : overwrite (beforeZeros (encode s) a ds n) lengthAt (toBE 4 (e - n)) ≡ encode (record { chain = s .chain; blocks = pre ++ (map cell ds ++ []) }) ++ zs
+  shorter : overwrite (beforeZeros (encode s) a ds n) lengthAt (toBE 4 (e - n)) ≡ encode (record { clock = s .clock; chain = s .chain; blocks = pre ++ (map cell ds ++ []) }) ++ zs
   unfolding join
   shorter =
       let there : e - n ≡ start s₁ + sizes (pre ++ map cell ds) = omega (arith, first, sizes-append pre (map cell ds), all-sizes ds, ends, run .numbers .start-is) in
@@ -125,7 +125,7 @@ module _ (z : List ℕ) (n a e sum tail : ℕ) (x : Site z n a e sum tail) where
       (zeros ∙ ap₂ (λ (x : List ℕ) (o : ℕ). overwrite x o zs) (sym (append-nil (encode s₁))) there)
       ∙ end-changed s₁ (pre ++ map cell ds) n 0 [] zs end-parts sound tt long (e - n)
       (omega (arith, there, lens s₁ (pre ++ map cell ds) n 0 [] zs end-parts sound tt long, ap sizes end-parts, sizes-append (pre ++ map cell ds) (rest n), gap-sizes n))
-      ∙ ap (λ (b : List Block). encode (record { chain = s .chain; blocks = b }) ++ zs) (append-assoc pre (map cell ds) [])
+      ∙ ap (λ (b : List Block). encode (record { clock = s .clock; chain = s .chain; blocks = b }) ++ zs) (append-assoc pre (map cell ds) [])
 
   -- ---- what the code asks
 
@@ -149,4 +149,4 @@ module _ (z : List ℕ) (n a e sum tail : ℕ) (x : Site z n a e sum tail) where
     strip-done y₂ q₂ =
         q₂ ∙ ap (λ (u : List ℕ). overwrite u lengthAt (toBE 4 (e - n))) (run-left z n a e sum tail run y q)
         ∙ shorter
-        ∙ ap (λ (b : List Block). encode (record { chain = s .chain; blocks = b }) ++ zs) (sym (at-new (x .found .at)))
+        ∙ ap (λ (b : List Block). encode (record { clock = s .clock; chain = s .chain; blocks = b }) ++ zs) (sym (at-new (x .found .at)))

@@ -20,7 +20,7 @@ grow k b = joinBays b (gap k [])
 
 -- the structure with k free bytes more at its end
 abbrev pub longer : ℕ → Structure → Structure
-longer k s = record { chain = s .chain; blocks = flatten (onLast (grow k) (baysOf s)) }
+longer k s = record { clock = s .clock; chain = s .chain; blocks = flatten (onLast (grow k) (baysOf s)) }
 
 -- where the last block starts if it is free, else where the blocks end: every bay's sum reaches 0, so the highest such bay is the last
 abbrev pub lastFree : Structure → ℕ

@@ -16,7 +16,7 @@ abbrev pub strips : Structure → ℕ → ℕ
 strips s k = min (k / 4 * 4) (baySum (lastS (baysOf s)))
 
 abbrev pub stripped : ℕ → Structure → Structure
-stripped n s = record { chain = s .chain; blocks = flatten (onLast (takeHigh n) (baysOf s)) }
+stripped n s = record { clock = s .clock; chain = s .chain; blocks = flatten (onLast (takeHigh n) (baysOf s)) }
 
 -- the last bay of the zone z, of which n bytes are stripped: it starts at a and ends at e
 pub record Site (z : List ℕ) (n a e sum tail : ℕ) : Type 0 where

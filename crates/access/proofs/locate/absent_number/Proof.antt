@@ -8,5 +8,8 @@ returns c = search needs
 returns-2 : tie.Need-returns-2
 returns-2 c = search needs
 
+returns-3 : tie.Need-returns-3
+returns-3 c = search needs
+
 pub absent-number-spec : {M : Type 1} → statement M
-absent-number-spec = tie.close (tie.spec (λ c. search needs) (λ c. search needs) returns returns-2)
+absent-number-spec = tie.close (tie.spec (λ c. search needs) (λ c. search needs) (λ c. search needs) returns returns-2 returns-3)

@@ -1,4 +1,4 @@
-use Rattle.access.proofs.locate.Laws.{named-handle, held-handle, named-pointer, held-pointer}
+use Rattle.access.proofs.locate.Laws.{named-handle, held-handle, named-pointer, held-pointer, named-name, held-name}
 use borrow.Author.Needs.{needs}
 use Rattle.access.proofs.locate.span_of.Statement.{statement}
 use Rattle.access.proofs.locate.span_of.Tie as tie
@@ -9,6 +9,9 @@ returns c = (search named-handle, search held-handle)
 returns-2 : tie.Need-returns-2
 returns-2 c = (search named-pointer, search held-pointer)
 
+returns-3 : tie.Need-returns-3
+returns-3 c = (search named-name, search held-name)
+
 pub span-of-spec : {M : Type 1} → statement M
 span-of-spec =
     tie.close
@@ -17,5 +20,8 @@ span-of-spec =
     (λ c κs. search needs)
     (λ c. search needs)
     (λ c κs. search needs)
+    (λ c. search needs)
+    (λ c κs. search needs)
     returns
-    returns-2)
+    returns-2
+    returns-3)

@@ -1,0 +1,14 @@
+use Rattle.block_check.proofs.Word.{word-law}
+use borrow.Author.Needs.{needs}
+use native.Mathlib.Omega.{arith}
+use Rattle.block_check.proofs.word_at.Statement.{statement}
+use Rattle.block_check.proofs.word_at.Tie as tie
+
+get4-requires : tie.Need-get4-requires
+get4-requires c κs = omega arith
+
+returns : tie.Need-returns
+returns c = λ _. search word-law
+
+pub word-at-spec : {M : Type 1} → statement M
+word-at-spec = tie.close (tie.spec get4-requires returns (λ c. search needs))

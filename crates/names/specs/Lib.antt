@@ -1,0 +1,5 @@
+pub mod Mix
+pub mod Seen
+pub mod Pages
+pub mod Tree
+pub mod Steps

@@ -1,0 +1,5 @@
+pub mod Among
+pub mod Dirty
+pub mod Fronts
+pub mod Law
+pub mod Ranks

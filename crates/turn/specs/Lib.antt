@@ -1,0 +1,4 @@
+pub mod Rank
+pub mod Walk
+pub mod Limit
+pub mod Turn

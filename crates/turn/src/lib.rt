@@ -1,0 +1,3 @@
+// Which pages a new one drives out, and in what turn.
+pub mod rank;
+pub mod search;
