@@ -15,6 +15,7 @@ use Rattle.format.specs.WellFormed.{wellFormed, zoneOf, lengthField, firstField
 use Rattle.format.specs.Steps.{Fields}
 use Rattle.format.proofs.Bool.{and-left}
 use Rattle.format.proofs.Header.{header-facts}
+use Rattle.zone_check.specs.Sought.{pageIn, pageOf}
 use Rattle.structure.specs.Structure.{decode, len}
 use Rattle.structure.proofs.Table.{whole, len-is}
 use Rattle.structure.specs.IsZone.{IsZone, is-zone}
@@ -62,6 +63,10 @@ module _ (s : List ℕ) (ok : Bool) (e : ok ≡ wellFormed s) (q : not ok ≡ fa
 
     pub has-whole : Bytes s → IsZone (take l s)
     has-whole y = is-zone s y is-well (ap (λ (k : ℕ). take k s) (sym el))
+
+    pub has-page : (name page : ℕ) → page ≡ pageOf name s → page ≡ pageIn name (take l s)
+    unfolding pageOf
+    has-page name page ep = rw (ep, is-well, el)
 
 -- ---- the zone
 

@@ -8,9 +8,8 @@ ghost use lib.Dec.{eqb};
 ghost use Rattle.block_type.specs.Limits.{fixedCode, fixedHeader, smallestBlock};
 ghost use Rattle.format.specs.WellFormed.{typeOf};
 ghost use Rattle.calls.specs.Calls.{by-handle, by-pointer, by-name};
-ghost use Rattle.access.specs.row.Row.{blockAt, Stepped};
-ghost use Rattle.access.specs.Named.{names};
-ghost use Rattle.access.specs.locate.Locate.{targetPlace, targetData, absentNumber, Located};
+ghost use Rattle.zone_check.specs.Sought.{pageIn};
+ghost use Rattle.access.specs.locate.Locate.{targetPlace, targetData, nameIn, absentNumber, Located};
 ghost use Rattle.access.specs.locate.Named.{targetOf};
 use block_type::BlockType;
 ghost use Rattle.structure.specs.IsZone.{IsZone};
@@ -66,45 +65,41 @@ fn by_pointer(z: &[u8], p: u32) -> Span
     Span { at: 0, size: 0 }
 }
 
-// Whether the block of n bytes at `at` is the page of that name.
-pub fn is_named(z: &[u8], at: usize, n: usize, name: u32) -> bool
-    requires { ⌜ Stepped (now z) at n ⌝ }
-    ensures { λ r. ⌜ r ≡ names (by-name name) at (blockAt (now (z .entry)) at) ⌝ }
-{
-    if block_check::type_at(z, at) == BlockType::PAGE_CODE {
-        return bigendian::get4(z, at + BlockType::TAG_AT) == name;
-    }
-    false
-}
-
-// The data of a page, found from block to block.
-pub fn by_name(z: &[u8], name: u32) -> Span
-    requires { ⌜ IsZone (now z) ⌝ }
+// The data of a page, where the check says that it starts, 0 for none. Its name is there for the contract alone.
+pub fn by_page(z: &[u8], name: u32, page: usize) -> Span
+    requires { ⌜ (IsZone (now z)) × (page ≡ pageIn name (now z)) ⌝ }
     ensures { λ r. ⌜ (r .at ≡ targetPlace (by-name name) (now (z .entry))) × (r .size ≡ length (targetData (by-name name) (now (z .entry)))) ⌝ }
 {
-    let mut at = bigendian::get4(z, block_type::FIRST_AT) as usize;
-    while at < z.len() {
-        let n = row::step(z, at);
-        if is_named(z, at, n, name) {
-            return Span {
-                at: at + BlockType::PAGE_HEADER,
-                size: n - BlockType::PAGE_HEADER,
-            };
-        }
-        at += n;
+    if page == 0 {
+        return Span { at: 0, size: 0 };
     }
-    Span { at: 0, size: 0 }
+    let n = block_check::size_at(z, page);
+    Span {
+        at: page + BlockType::PAGE_HEADER,
+        size: n - BlockType::PAGE_HEADER,
+    }
 }
 
-// The data of a block, in the bytes of a well-formed zone with none beyond its length.
-fn span_of(z: &[u8], block: Target) -> Span
-    requires { ⌜ IsZone (now z) ⌝ }
+// The name that the check looks for: 0 where no page is sought.
+fn name_of(block: Target) -> u32
+    ensures { λ r. ⌜ r ≡ nameIn (targetOf block) ⌝ }
+{
+    match block {
+        Target::Handle(_) => 0,
+        Target::Pointer(_) => 0,
+        Target::Name(n) => n,
+    }
+}
+
+// The data of a block, in the bytes of a well-formed zone with none beyond its length; `page` is where the page starts that is sought.
+fn span_of(z: &[u8], block: Target, page: usize) -> Span
+    requires { ⌜ (IsZone (now z)) × (page ≡ pageIn (nameIn (targetOf block)) (now z)) ⌝ }
     ensures { λ r. ⌜ (r .at ≡ targetPlace (targetOf block) (now (z .entry))) × (r .size ≡ length (targetData (targetOf block) (now (z .entry)))) ⌝ }
 {
     match block {
         Target::Handle(h) => by_handle(z, h),
         Target::Pointer(p) => by_pointer(z, p),
-        Target::Name(n) => by_name(z, n),
+        Target::Name(n) => by_page(z, n, page),
     }
 }
 
@@ -130,7 +125,8 @@ pub struct Found {
 pub fn find(zone: &[u8], block: Target) -> Found
     ensures { λ r. ⌜ Located (now (zone .entry)) (targetOf block) (r .number) (r .at) (r .size) ⌝ }
 {
-    let k = zone_check::check(zone);
+    let name = name_of(block);
+    let k = zone_check::check_for(zone, name);
     let ok = k.ok;
     if !ok {
         return Found {
@@ -140,7 +136,7 @@ pub fn find(zone: &[u8], block: Target) -> Found
         };
     }
     let l = bigendian::get4(zone, block_type::LENGTH_AT) as usize;
-    let s = span_of(&zone[..l], block);
+    let s = span_of(&zone[..l], block, k.page);
     let at = s.at;
     let size = s.size;
     if at == 0 {

@@ -101,16 +101,20 @@ module _ (k : ℕ) (free reloc page : Bool) where
   unfolding typeRule
   rule-page r t e q h = rw (← e, q) h
 
-  pub rule-other : (r : List ℕ) → k ≡ typeOf r → (k ≡ relocCode → ⊥) → (k ≡ freeCode → ⊥) → (k ≡ pageCode → ⊥) → eqb k fixedCode ≡ typeRule (typeOf r) free reloc page
+  pub rule-none : (r : List ℕ) → k ≡ typeOf r → fixedCode < k → (k ≡ relocCode → ⊥) → (k ≡ pageCode → ⊥) → false ≡ typeRule (typeOf r) free reloc page
   unfolding typeRule
-  rule-other r e a b c = rw (← e) (go k a b c)
+  rule-none r e l a b = rw (← e) (go k l a b)
     where
-      go : (k : ℕ) → (k ≡ relocCode → ⊥) → (k ≡ freeCode → ⊥) → (k ≡ pageCode → ⊥) → eqb k fixedCode ≡ typeRule k free reloc page
-      go zero a b c = absurd (b refl)
-      go (suc zero) a b c = refl
-      go (suc (suc zero)) a b c = absurd (a refl)
-      go (suc (suc (suc zero))) a b c = absurd (c refl)
-      go (suc (suc (suc (suc k)))) a b c = ne-eqb (suc (suc (suc (suc k)))) 1 (λ q. omega arith)
+      go : (k : ℕ) → fixedCode < k → (k ≡ relocCode → ⊥) → (k ≡ pageCode → ⊥) → false ≡ typeRule k free reloc page
+      go zero l a b = let x : ⊥ = omega arith in absurd x
+      go (suc zero) l a b = let x : ⊥ = omega arith in absurd x
+      go (suc (suc zero)) l a b = absurd (a refl)
+      go (suc (suc (suc zero))) l a b = absurd (b refl)
+      go (suc (suc (suc (suc k)))) l a b = refl
+
+  pub rule-fixed : (r : List ℕ) → k ≡ typeOf r → k ≤ fixedCode → (k ≡ freeCode → ⊥) → true ≡ typeRule (typeOf r) free reloc page
+  unfolding typeRule
+  rule-fixed r e l a = let i : typeOf r ≡ fixedCode = omega arith in rw i
 
 -- ---- the test of a block
 

@@ -21,6 +21,7 @@ ghost use Rattle.zone.specs.Work.{dataOffset};
 ghost use Rattle.zone.specs.Call.{inLine, result, call};
 ghost use Rattle.room.specs.place.Fit.{blankPage, Fit};
 ghost use Rattle.room.specs.place.Room.{LowestRoom, Stands};
+ghost use Rattle.zone_check.specs.Sought.{pageIn};
 ghost use Rattle.call_laws.specs.Frame.{PlannedIn, Planned};
 ghost use Rattle.clear.specs.Cleared.{cleared};
 ghost use Rattle.create.specs.Created.{created, made, RoomFor, SiteFor, ReadyIn, ValueBeside, ValueBesideIn};
@@ -53,12 +54,12 @@ fn need_of(c: u32) -> usize
     (BlockType::PAGE_HEADER + c as usize + 3) / 4 * 4
 }
 
-// The plan in a well-formed zone.
-fn plan_in(z: &[u8], name: u32, c: u32) -> CreatePlan
-    requires { ⌜ IsZone (now z) ⌝ }
+// The plan in a well-formed zone, in which a page of that name starts at `page`, 0 for none.
+fn plan_in(z: &[u8], name: u32, page: usize, c: u32) -> CreatePlan
+    requires { ⌜ (IsZone (now z)) × (page ≡ pageIn name (now z)) ⌝ }
     ensures { λ r. ⌜ PlannedIn (on-page name (create-page c)) (now (z .entry)) (r .number) (ReadyIn (now (z .entry)) name c (r .limit)) × ValueBesideIn (now (z .entry)) name c (r .number) (r .value) ⌝ }
 {
-    let old = locate::by_name(z, name);
+    let old = locate::by_page(z, name, page);
     let place = old.at;
     if place != 0 {
         return no_plan(11);
@@ -83,13 +84,13 @@ fn plan_in(z: &[u8], name: u32, c: u32) -> CreatePlan
 fn plan(zone: &[u8], name: u32, c: u32) -> CreatePlan
     ensures { λ r. ⌜ Planned (on-page name (create-page c)) (now (zone .entry)) (r .number) (r .len) (ReadyIn (take (r .len) (now (zone .entry))) name c (r .limit)) × ValueBeside (now (zone .entry)) name c (r .number) (r .value) ⌝ }
 {
-    let k = zone_check::check(zone);
+    let k = zone_check::check_for(zone, name);
     let ok = k.ok;
     if !ok {
         return no_plan(1);
     }
     let l = bigendian::get4(zone, block_type::LENGTH_AT) as usize;
-    let p = plan_in(&zone[..l], name, c);
+    let p = plan_in(&zone[..l], name, k.page, c);
     let number = p.number;
     let value = p.value;
     let limit = p.limit;

@@ -162,6 +162,7 @@ turn z first prev at n h g e =
     let d = drop-drop (sizeOf r) at z in
     let long = page-long z first prev at r (take (sizeOf r) r) (sym (first-rule z first prev at r (f .low) (f .four) (f .fits)) ∙ g) in
     record {
+      is-size = e;
       low = omega arith;
       four = rw e (f .four);
       fits = omega arith;

@@ -25,6 +25,7 @@ pub record Fields (s : List ℕ) (l first m head : ℕ) : Type 0 where
 
 -- a turn of the walk over a block of n bytes
 pub record Turn (z : List ℕ) (first : ℕ) (prev : Bool) (at n : ℕ) : Type 0 where
+  pub is-size : n ≡ sizeOf (drop at z)
   pub low : smallestBlock ≤ n
   pub four : n % 4 ≡ 0
   pub fits : at + n ≤ length z

@@ -264,13 +264,6 @@ name-page n e q = go (e .key) q
     go (of-handle h) q = absurd (true≢false (sym q))
     go (of-name i s) q = refl
 
-pub name-code : (n : ℕ) (e : Item) → hasName n e ≡ true → codeOf e ≡ pageCode
-name-code n e q = go (e .key) q
-  where
-    go : (k : Key) → keyNamed n k ≡ true → keyCode k ≡ pageCode
-    go (of-handle h) q = absurd (true≢false (sym q))
-    go (of-name i s) q = refl
-
 pub name-header : (n : ℕ) (e : Item) → hasName n e ≡ true → headerOf e ≡ pageHeader
 name-header n e q = go (e .key) q
   where

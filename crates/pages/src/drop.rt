@@ -6,6 +6,7 @@ ghost use mathlib.Core.Path.{_≡_};
 ghost use lib.ListN.{take};
 ghost use Rattle.calls.specs.Calls.{told, on-page, drop-page};
 ghost use Rattle.zone.specs.Call.{result, call};
+ghost use Rattle.zone_check.specs.Sought.{pageIn};
 ghost use Rattle.call_laws.specs.Frame.{PlannedIn, Planned};
 ghost use Rattle.pages.specs.drop.Ready.{Ready};
 ghost use Rattle.structure.specs.IsZone.{IsZone};
@@ -33,14 +34,14 @@ fn no_plan(number: u32) -> DropPlan
     }
 }
 
-// The plan in a well-formed zone.
-fn plan_in(z: &[u8], name: u32) -> DropPlan
-    requires { ⌜ IsZone (now z) ⌝ }
+// The plan in a well-formed zone, in which the page of that name starts at `page`, 0 for none.
+fn plan_in(z: &[u8], name: u32, page: usize) -> DropPlan
+    requires { ⌜ (IsZone (now z)) × (page ≡ pageIn name (now z)) ⌝ }
     ensures { λ r. ⌜ PlannedIn (on-page name drop-page) (now (z .entry)) (r .number) (Ready (now (z .entry)) name r) ⌝ }
 {
-    let page = locate::by_name(z, name);
-    let place = page.at;
-    let n = page.size;
+    let data = locate::by_page(z, name, page);
+    let place = data.at;
+    let n = data.size;
     if place == 0 {
         return no_plan(13);
     }
@@ -66,13 +67,13 @@ fn plan_in(z: &[u8], name: u32) -> DropPlan
 fn drop_plan(zone: &[u8], name: u32) -> DropPlan
     ensures { λ r. ⌜ Planned (on-page name drop-page) (now (zone .entry)) (r .number) (r .len) (Ready (take (r .len) (now (zone .entry))) name r) ⌝ }
 {
-    let k = zone_check::check(zone);
+    let k = zone_check::check_for(zone, name);
     let ok = k.ok;
     if !ok {
         return no_plan(1);
     }
     let l = bigendian::get4(zone, block_type::LENGTH_AT) as usize;
-    let p = plan_in(&zone[..l], name);
+    let p = plan_in(&zone[..l], name, k.page);
     let number = p.number;
     let from = p.from;
     let at = p.at;

@@ -21,15 +21,17 @@ use Rattle.block_check.specs.Word.{GoodBlock}
 use Rattle.names.specs.Pages.{namesAt}
 use Rattle.names.specs.Seen.{tableSize, met, Noted}
 use Rattle.names.proofs.seen.Laws.{none-met}
-use Rattle.zone_check.specs.Body.{Walked, Seen, Empty, Gone, Blocks}
+use Rattle.zone_check.specs.Body.{Walked, Seen, Found, Empty, Gone, Blocks}
+use Rattle.zone_check.proofs.Found.{found-on, found-past, found-end}
 
-pub walked-start : (z : List ℕ) (first : ℕ) → first ≤ length z → first % 4 ≡ 0 → length z % 4 ≡ 0 → length z ≤ longestZone → Walked z first first false 0
-walked-start z first h f g l =
+pub walked-start : (z : List ℕ) (first : ℕ) → 0 < first → first ≤ length z → first % 4 ≡ 0 → length z % 4 ≡ 0 → length z ≤ longestZone → Walked z first first false 0
+walked-start z first p h f g l =
     record {
       begins = h;
       begins-four = f;
       whole = g;
       limit = l;
+      past = p;
       within = h;
       four = f;
       few = omega arith;
@@ -42,25 +44,27 @@ cond-le true b f = rw (f refl) (omega arith)
 cond-le false b f = omega arith
 
 -- a block that breaks a rule
-pub walk-bad : (z : List ℕ) (first room at n count : ℕ) (prev free page : Bool) (one : ℕ) → Walked z first at prev count → GoodBlock z first prev at n free one page → at < length z → n ≡ 0
-    → Gone z first room false at false 0 false
-walk-bad z first room at n count prev free page one w b l e =
+pub walk-bad : (x : ℕ) (z : List ℕ) (first room at n count got : ℕ) (prev free page : Bool) (one : ℕ) → Walked z first at prev count → GoodBlock z first prev at n free one page → at < length z → n ≡ 0
+    → Gone x z first room false at false 0 false got
+walk-bad x z first room at n count got prev free page one w b l e =
     record {
       bad = λ _. sym (tiles-stop z first at n prev (b .size) _ l e (w .is-ok));
       good = λ q. absurd (not-both q refl);
       stops = λ q. absurd (not-both q refl);
       is-distinct = λ q. absurd (not-both q refl);
+      finds = λ q. absurd (not-both q refl);
     }
 
 -- a page, and no room for its name
-pub walk-stops : (z table : List ℕ) (first room at count : ℕ) (prev : Bool) → Walked z first at prev count → at < length z → length table ≡ room
-    → (length table < tableSize → namesAt z at ≡ namesAt z first) → length table < tableSize → Gone z first room true at prev count false
-walk-stops z table first room at count prev w l s e h =
+pub walk-stops : (x : ℕ) (z table : List ℕ) (first room at count page : ℕ) (prev : Bool) → Walked z first at prev count → at < length z → length table ≡ room
+    → (length table < tableSize → namesAt z at ≡ namesAt z first) → length table < tableSize → Found x z first at page → Gone x z first room true at prev count false page
+walk-stops x z table first room at count page prev w l s e h f =
     record {
       bad = λ q. absurd (not-both refl q);
       good = λ _. w;
       stops = λ _ _. (omega arith, e h);
       is-distinct = λ q. absurd (not-both q refl);
+      finds = λ _. f;
     }
 
 -- a name is noted only where all before were new
@@ -76,6 +80,7 @@ module _ (z : List ℕ) (first at n count : ℕ) (prev free page : Bool) (one : 
         begins-four = w .begins-four;
         whole = w .whole;
         limit = w .limit;
+        past = omega (arith, w .past);
         within = g .fits;
         four = omega (arith, g .four, w .four);
         few = omega (arith, g .low, b .few, w .few);
@@ -119,17 +124,26 @@ module _ (z : List ℕ) (first at n count : ℕ) (prev free page : Bool) (one : 
                 rw b (omega (arith, rw a at l, one-same y x j))
             on false i l = omega (arith, one-other y x (eqb-false y x i), cond-le (met table y) (met after y) (t .stays k y))
 
+    pub found-page : (x v got next : ℕ) → Found x z first at got → v ≡ nameOf (drop at z) → next ≡ cond (eqb v x && eqb got 0) at got → Found x z first (at + n) next
+    found-page x v got next f e k = found-on x z first prev at n (b .size .good ne) (w .past) page-here v got next e k f
+
     -- its name has room
     pub named-page : (table : List ℕ) (room : ℕ) → tableSize ≤ length table → room ≡ length table → room < tableSize → namesAt z (at + n) ≡ namesAt z first
     named-page table room h e l = let k : ⊥ = omega arith in absurd k
 
   -- a block that is no page has no name
   module _ (q : page ≡ false) where
+    other-here : isPage (drop at z) ≡ false
+    other-here = sym (b .is-page) ∙ q
+
     same-names : namesAt z at ≡ namesAt z (at + n)
     same-names = rw (← b .is-page, q) at (b .size .good ne .named)
 
     pub seen-other : (certain : Bool) (table : List ℕ) → Seen z table first at certain → Seen z table first (at + n) certain
     seen-other certain table s = record { once = λ k x. rw same-names at (s .once k x) }
+
+    pub found-other : (x got : ℕ) → Found x z first at got → Found x z first (at + n) got
+    found-other x got f = found-past x z first prev at n (b .size .good ne) other-here got f
 
     pub named-other : (table : List ℕ) → (length table < tableSize → namesAt z at ≡ namesAt z first) → length table < tableSize → namesAt z (at + n) ≡ namesAt z first
     named-other table e l = sym same-names ∙ e l
@@ -142,28 +156,33 @@ zeros-empty n = record { none = none-met n }
 pub seen-none : (z table : List ℕ) (first at : ℕ) → Empty table → namesAt z at ≡ namesAt z first → Seen z table first at true
 seen-none z table first at t e = record { once = λ _ x. rw (t .none x, e) (omega arith) }
 
-pub walk-ends : (z table : List ℕ) (first room at count : ℕ) (prev certain : Bool) → Walked z first at prev count → length z ≤ at → Seen z table first at certain
-    → Gone z first room true at prev count certain
+pub found-none : (x : ℕ) (z : List ℕ) (first page : ℕ) → page ≡ 0 → Found x z first first page
+found-none x z first page e = record { is-page = rw e }
+
+pub walk-ends : (x : ℕ) (z table : List ℕ) (first room at count page : ℕ) (prev certain : Bool) → Walked z first at prev count → length z ≤ at → Seen z table first at certain
+    → Found x z first at page → Gone x z first room true at prev count certain page
 unfolding occurs
-walk-ends z table first room at count prev certain w l s =
+walk-ends x z table first room at count page prev certain w l s f =
     record {
       bad = λ q. absurd (not-both refl q);
       good = λ _. w;
       stops = λ _ k. let q : ⊥ = omega arith in absurd q;
-      is-distinct = λ e. once-distinct (namesAt z first) (λ x. le x (s .once e x));
+      is-distinct = λ e. once-distinct (namesAt z first) (λ y. le y (s .once e y));
+      finds = λ _. f;
     }
   where
-    le : (x : ℕ) → occurs x (namesAt z first) ≤ occurs x (namesAt z at) + cond (met table x) 1 0 → occurs x (namesAt z first) ≤ 1
-    le x k = omega (arith, rw (end-names z at l) at k, cond-le (met table x) true (λ _. refl))
+    le : (y : ℕ) → occurs y (namesAt z first) ≤ occurs y (namesAt z at) + cond (met table y) 1 0 → occurs y (namesAt z first) ≤ 1
+    le y k = omega (arith, rw (end-names z at l) at k, cond-le (met table y) true (λ _. refl))
 
 -- ---- the two walks
 
-module _ (z : List ℕ) (first room at count : ℕ) (ok prev certain : Bool) (g : Gone z first room ok at prev count certain) where
-  all-blocks : (ok ≡ true → length z ≤ at) → Blocks z first ok count certain
+module _ (x : ℕ) (z : List ℕ) (first room at count page : ℕ) (ok prev certain : Bool) (g : Gone x z first room ok at prev count certain page) where
+  all-blocks : (ok ≡ true → length z ≤ at) → Blocks x z first ok count certain page
   all-blocks l =
       record {
         is-ok = by ok refl;
         is-count = λ e. tiles-end-count z at count _ (l e) (g .good e .is-count);
+        is-page = λ e. found-end x z first at page (l e) (g .finds e);
         is-distinct = g .is-distinct;
       }
     where
@@ -172,11 +191,11 @@ module _ (z : List ℕ) (first room at count : ℕ) (ok prev certain : Bool) (g 
       by false e = e ∙ sym (g .bad e)
 
   -- no page was in the way
-  pub one-walk : (ok && ltb at (length z)) ≡ false → Blocks z first ok count certain
+  pub one-walk : (ok && ltb at (length z)) ≡ false → Blocks x z first ok count certain page
   one-walk q = all-blocks (λ e. ltb-false at (length z) (rw e at q))
 
   -- or there was room for names
-  pub two-walks : tableSize ≤ room → Blocks z first ok count certain
+  pub two-walks : tableSize ≤ room → Blocks x z first ok count certain page
   two-walks h = all-blocks (λ e. le e (ltb at (length z)) refl)
     where
       le : ok ≡ true → (t : Bool) → ltb at (length z) ≡ t → length z ≤ at
@@ -190,3 +209,6 @@ module _ (z : List ℕ) (first room at count : ℕ) (ok prev certain : Bool) (g 
 
     pub first-names : namesAt z at ≡ namesAt z first
     first-names = g .stops (and-left ok _ q) (ltb-true at (length z) (and-right ok _ q)) .1
+
+    pub first-found : Found x z first at page
+    first-found = g .finds (and-left ok _ q)

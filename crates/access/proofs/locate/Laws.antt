@@ -10,10 +10,11 @@ use Rattle.block_type.specs.Limits.{fixedHeader, fixedCode}
 use Rattle.bigendian.specs.BigEndian.{Bytes}
 use Rattle.format.specs.WellFormed.{wellFormed, typeOf, lengthField, firstField}
 use Rattle.format.proofs.Bool.{and-right}
+use Rattle.zone_check.specs.Sought.{pageIn, pageOf}
 use Rattle.structure.specs.Structure.{Block, start, decodeZone}
 use Rattle.structure.proofs.Table.{start-is}
 use Rattle.access.specs.Edit as Edit
-use Rattle.access.proofs.Checked.{is-well}
+use Rattle.access.proofs.Checked.{is-well, has-page}
 use Rattle.access.specs.row.Row.{blocksOf, Stepped}
 use Rattle.access.proofs.row.Laws.{row-end}
 use Rattle.access.proofs.row.Zone.{blocks-are}
@@ -21,7 +22,7 @@ use Rattle.calls.specs.Calls.{Target, by-handle, by-pointer, by-name}
 use Rattle.access.specs.declared.locate.Target.{Target as CodeTarget}
 use Rattle.access.specs.declared.locate.Target.the-variants.{Handle, Pointer, Name}
 use Rattle.access.specs.locate.Named.{targetOf}
-use Rattle.access.specs.locate.Locate.{targetPlace, targetData, absentNumber, Located, ill-formed, absent, present}
+use Rattle.access.specs.locate.Locate.{targetPlace, targetData, nameIn, absentNumber, Located, ill-formed, absent, present}
 use Rattle.access.specs.Named.{placeAmong, dataAmong}
 use Rattle.access.proofs.locate.Among.{pointer-place, pointer-data}
 use Rattle.access.proofs.Among.{handle-place, handle-data}
@@ -89,6 +90,10 @@ module _ (s : List ℕ) (ok : Bool) (e : ok ≡ wellFormed s) (q : not ok ≡ fa
   wf : wellFormed s ≡ true
   wf = is-well s ok e q
 
+  -- the page is sought by the block's name, which the code has computed
+  pub sought-page : (l : ℕ) → l ≡ lengthField s → (x name page : ℕ) → name ≡ x → page ≡ pageOf name s → page ≡ pageIn x (take l s)
+  sought-page l el x name page en ep = has-page s ok e q l el x page (rw en at ep)
+
   module _ (l : ℕ) (el : l ≡ lengthField s) (t : Target) (at : ℕ) (ea : at ≡ targetPlace t (take l s)) where
     pub located-no : (k : ℕ) → Bytes s → at ≡ 0 → k ≡ absentNumber t → Located s t k 0 0
     located-no k y z n = absent y wf (sym (rw el at ea) ∙ z) n refl refl
@@ -104,6 +109,9 @@ module _ (z : List ℕ) (b : CodeTarget) (v n : ℕ) where
 
   pub held-handle : b ≡ Handle n → v ≡ length (targetData (by-handle n) z) → v ≡ length (targetData (targetOf b) z)
   held-handle q e = rw q e
+
+  pub page-name : b ≡ Name n → v ≡ pageIn (nameIn (targetOf b)) z → v ≡ pageIn n z
+  page-name q e = rw q at e
 
   pub named-name : b ≡ Name n → v ≡ targetPlace (by-name n) z → v ≡ targetPlace (targetOf b) z
   named-name q e = rw q e

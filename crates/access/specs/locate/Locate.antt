@@ -18,6 +18,12 @@ targetPlace t z = placeAmong t (start (decodeZone z)) (decodeZone z .blocks)
 unfoldable pub targetData : Target → List ℕ → List ℕ
 targetData t z = dataAmong t (start (decodeZone z)) (decodeZone z .blocks)
 
+-- the name of the page that is sought; 0 where the block is no page
+abbrev pub nameIn : Target → ℕ
+nameIn (by-handle h) = 0
+nameIn (by-pointer p) = 0
+nameIn (by-name n) = n
+
 -- the refusal where no block is so named
 abbrev pub absentNumber : Target → ℕ
 absentNumber (by-handle h) = 6

@@ -1,4 +1,4 @@
-use Rattle.access.proofs.locate.Laws.{located-1, located-no, located-yes}
+use Rattle.access.proofs.locate.Laws.{sought-page, located-1, located-no, located-yes}
 use Rattle.access.proofs.Checked.{has-length, has-zone, has-whole, take-len, bytes-of}
 use borrow.Author.Needs.{needs}
 use Rattle.access.proofs.locate.find.Statement.{statement}
@@ -14,7 +14,7 @@ slice-aggregate-span-of : tie.Need-slice-aggregate-span-of
 slice-aggregate-span-of c = search (take-len, has-zone)
 
 span-of-requires : tie.Need-span-of-requires
-span-of-requires c κs = search (has-whole, bytes-of)
+span-of-requires c κs = (search (has-whole, bytes-of), search sought-page)
 
 returns-2 : tie.Need-returns-2
 returns-2 c = search (located-no, bytes-of)
@@ -26,6 +26,7 @@ pub find-spec : {M : Type 1} → statement M
 find-spec =
     tie.close
     (tie.spec
+    (λ c κs. search needs)
     (λ c κs. search needs)
     returns
     get4-requires

@@ -1,7 +1,10 @@
-use Rattle.access.proofs.locate.Laws.{named-handle, held-handle, named-pointer, held-pointer, named-name, held-name}
+use Rattle.access.proofs.locate.Laws.{named-handle, held-handle, named-pointer, held-pointer, page-name, named-name, held-name}
 use borrow.Author.Needs.{needs}
 use Rattle.access.proofs.locate.span_of.Statement.{statement}
 use Rattle.access.proofs.locate.span_of.Tie as tie
+
+by-page-requires : tie.Need-by-page-requires
+by-page-requires c κs = (search needs, search page-name)
 
 returns : tie.Need-returns
 returns c = (search named-handle, search held-handle)
@@ -21,7 +24,7 @@ span-of-spec =
     (λ c. search needs)
     (λ c κs. search needs)
     (λ c. search needs)
-    (λ c κs. search needs)
+    by-page-requires
     returns
     returns-2
     returns-3)
