@@ -91,7 +91,7 @@ int main(void) {
         uint32_t at = nafelode_walker_start(Z), stop = random_below(30); /* b: the pointer of some fixed block */
         for (uint32_t k = 0; at && k < 60; k++) {
             nafelode_step s = nafelode_walker_step(Z, &at);
-            if (s.kind == 1) b = s.offset + 2;
+            if (s.kind == 1) b = s.offset + 4;
             if (k >= stop && b) break;
         }
         unsigned masters = zone[11], before = pages();

@@ -7,7 +7,7 @@
 #include <sys/mman.h>
 #include "nafelode.h"
 
-enum { PAGE = 4096, LENGTH = 81, SECOND = 29 }; /* odd: at the end of a page both start at an odd address */
+enum { PAGE = 4096, LENGTH = 85, SECOND = 29 }; /* odd: at the end of a page both start at an odd address */
 static uint8_t *zone_page, *second_page, *zone, *second;
 static uint8_t zone_kept[PAGE], second_kept[PAGE];
 static unsigned tests, wrong;
@@ -74,16 +74,16 @@ static void rig_sheet(void) {
     TOLD(nafelode_allocate_relocatable(Z, 0), 0, 24);
     TELLS(nafelode_size(Z, NAFELODE_HANDLE, 24), 0, 0);
     FRESH(); /* R5 */
-    TOLD(nafelode_allocate_fixed(Z, 5), 0, 58);
-    TELLS(nafelode_size(Z, NAFELODE_POINTER, 58), 0, 6);
-    IS(at(zone + 56) >> 16, 0x4004);
-    TOLD(nafelode_allocate_relocatable(Z, 21), 5, 0);
-    TOLD(nafelode_allocate_relocatable(Z, 20), 0, 16);
+    TOLD(nafelode_allocate_fixed(Z, 5), 0, 56);
+    TELLS(nafelode_size(Z, NAFELODE_POINTER, 56), 0, 8);
+    IS(at(zone + 52), 0x40060000);
+    TOLD(nafelode_allocate_relocatable(Z, 17), 5, 0);
+    TOLD(nafelode_allocate_relocatable(Z, 16), 0, 16);
     FRESH(); /* R6 */
-    TOLD(nafelode_allocate_fixed(Z, 0), 0, 62);
-    TOLD(nafelode_allocate_fixed(Z, 10), 0, 50);
-    TOLD(nafelode_allocate_fixed(Z, 0), 0, 46);
-    TOLD(nafelode_free_pointer(Z, 50), 0, 0);
+    TOLD(nafelode_allocate_fixed(Z, 0), 0, 64);
+    TOLD(nafelode_allocate_fixed(Z, 8), 0, 52);
+    TOLD(nafelode_allocate_fixed(Z, 0), 0, 48);
+    TOLD(nafelode_free_pointer(Z, 52), 0, 0);
     TOLD(nafelode_allocate_relocatable(Z, 9), 5, 0);
     TOLD(nafelode_compact(Z), 0, 12);
     TOLD(nafelode_allocate_relocatable(Z, 8), 0, 16);
@@ -104,19 +104,19 @@ static void rig_sheet(void) {
 static void bytes(void) {
     FRESH();
     TOLD(nafelode_allocate_relocatable(Z, 8), 0, 16);
-    TOLD(nafelode_allocate_fixed(Z, 6), 0, 58);
+    TOLD(nafelode_allocate_fixed(Z, 6), 0, 56);
     memcpy(second, "basis weight", 12);
     WRITES(nafelode_write(Z, NAFELODE_HANDLE, 16, 2, 5, second, SECOND), 0);
-    WRITES(nafelode_write(Z, NAFELODE_POINTER, 58, 0, 6, second + 6, 6), 0);
+    WRITES(nafelode_write(Z, NAFELODE_POINTER, 56, 0, 6, second + 6, 6), 0);
     IS(memcmp(zone + 38, "basis", 5) != 0, 0);
-    IS(memcmp(zone + 58, "weight", 6) != 0, 0);
+    IS(memcmp(zone + 56, "weight\0", 8) != 0, 0);
     READS(nafelode_read(Z, NAFELODE_HANDLE, 16, 1, 7, second, SECOND), 0);
     IS(memcmp(second, "\0basis\0eight", 12) != 0, 0); /* seven bytes come, the later ones stay */
-    READS(nafelode_read(Z, NAFELODE_POINTER, 58, 4, 2, second, 2), 0);
+    READS(nafelode_read(Z, NAFELODE_POINTER, 56, 4, 2, second, 2), 0);
     IS(memcmp(second, "htasis", 6) != 0, 0);
     nafelode_part part = nafelode_view(Z, NAFELODE_HANDLE, 16, 2, 5);
     IS(part.offset, 38), IS(part.length, 5);
-    part = nafelode_view(Z, NAFELODE_POINTER, 58, 0, 7);
+    part = nafelode_view(Z, NAFELODE_POINTER, 56, 0, 9);
     IS(part.offset, 0), IS(part.length, 0);
     keep(), told = nafelode_roster(Z, second, SECOND);
     stayed(__LINE__, told.number, 1, 0);
@@ -126,7 +126,7 @@ static void bytes(void) {
     uint32_t walker = nafelode_walker_start(Z), blocks = 0;
     IS(walker, 32);
     for (; walker < 64 && blocks < 9; blocks++) {
-        static const uint32_t kind[3] = {2, 0, 1}, size[3] = {12, 12, 8};
+        static const uint32_t kind[3] = {2, 0, 1}, size[3] = {12, 8, 12};
         uint32_t old = walker;
         nafelode_step step = nafelode_walker_step(Z, &walker);
         IS(step.number, 0), IS(step.offset, old), IS(walker, old + step.size);
@@ -136,14 +136,42 @@ static void bytes(void) {
     IS(blocks, 3), IS(walker, 64), IS(end.number + end.kind + end.offset + end.size, 0);
 }
 
+/* A fixed block's data lie on a four-byte line; without data its pointer is its end: L, or where the next block begins. */
+static void fixed_blocks(void) {
+    FRESH();
+    TOLD(nafelode_allocate_fixed(Z, 0), 0, 64);
+    TOLD(nafelode_allocate_fixed(Z, 0), 0, 60);
+    TOLD(nafelode_allocate_fixed(Z, 1), 0, 52);
+    IS(at(zone + 48), 0x40040000), IS(at(zone + 56), 0x40020000), IS(at(zone + 60), 0x40020000);
+    for (uint32_t p = 0; p < 80; p++) TELLS(nafelode_size(Z, NAFELODE_POINTER, p), p == 52 || p == 60 || p == 64 ? 0 : 7, p == 52 ? 4 : 0);
+    for (uint32_t p = 60; p <= 64; p += 4) {
+        READS(nafelode_read(Z, NAFELODE_POINTER, p, 0, 0, second, SECOND), 0);
+        READS(nafelode_read(Z, NAFELODE_POINTER, p, 0, 1, second, SECOND), 8);
+        WRITES(nafelode_write(Z, NAFELODE_POINTER, p, 0, 0, NULL, 0), 0);
+        WRITES(nafelode_write(Z, NAFELODE_POINTER, p, 0, 1, second, SECOND), 8);
+        nafelode_part part = nafelode_view(Z, NAFELODE_POINTER, p, 0, 0);
+        IS(part.offset, p), IS(part.length, 0);
+        TOLD(nafelode_free_pointer(Z, p), 0, 0);
+        TOLD(nafelode_free_pointer(Z, p), 7, 0);
+    }
+    IS(at(zone + 56), 4), IS(at(zone + 60), 0), IS(at(zone + 48), 0x40040000);
+    for (int i = 50; i < 52; i++) { /* a second word that is not zero: an older image has data there */
+        zone[i] = 1;
+        IS(nafelode_check(Z).yes, 0);
+        TELLS(nafelode_size(Z, NAFELODE_POINTER, 52), 1, 0);
+        zone[i] = 0;
+        IS(nafelode_check(Z).yes, 1);
+    }
+}
+
 /* The roster comes by rising handle: the blocks stand as 20, 24 and, in the second bay, 16, and were made as 24, 20, 16. */
 static void roster_order(void) {
     static const uint8_t records[24] = {0, 0, 0, 16, 0, 0, 0, 12, 0, 0, 0, 20, 0, 0, 0, 4, 0, 0, 0, 24, 0, 0, 0, 8};
     TOLD(nafelode_initialize(Z, 80, 4), 0, 0);
-    TOLD(nafelode_allocate_fixed(Z, 0), 0, 78);
-    TOLD(nafelode_allocate_fixed(Z, 14), 0, 62);
-    TOLD(nafelode_allocate_fixed(Z, 0), 0, 58);
-    TOLD(nafelode_free_pointer(Z, 62), 0, 0);
+    TOLD(nafelode_allocate_fixed(Z, 0), 0, 80);
+    TOLD(nafelode_allocate_fixed(Z, 12), 0, 64);
+    TOLD(nafelode_allocate_fixed(Z, 0), 0, 60);
+    TOLD(nafelode_free_pointer(Z, 64), 0, 0);
     TOLD(nafelode_allocate_relocatable(Z, 0), 0, 16);
     TOLD(nafelode_allocate_relocatable(Z, 0), 0, 20);
     TOLD(nafelode_allocate_relocatable(Z, 8), 0, 24);
@@ -162,9 +190,9 @@ static void roster_order(void) {
 /* Of the holes that are big enough the smallest is taken, the lowest of equals: by an allocation, and by a resize to another bay. */
 static void tightest_hole(void) {
     TOLD(nafelode_initialize(Z, 80, 5), 0, 0);
-    TOLD(nafelode_allocate_fixed(Z, 0), 0, 78);
-    TOLD(nafelode_allocate_fixed(Z, 0), 0, 74);
-    TOLD(nafelode_free_pointer(Z, 78), 0, 0);
+    TOLD(nafelode_allocate_fixed(Z, 0), 0, 80);
+    TOLD(nafelode_allocate_fixed(Z, 0), 0, 76);
+    TOLD(nafelode_free_pointer(Z, 80), 0, 0);
     TOLD(nafelode_allocate_relocatable(Z, 12), 0, 16);
     TOLD(nafelode_allocate_relocatable(Z, 0), 0, 20);
     TOLD(nafelode_allocate_relocatable(Z, 4), 0, 24);
@@ -188,29 +216,29 @@ static void tightest_hole(void) {
 /* Where no master is free eight are added, from 32 bytes of the first bay: its blocks close up behind them, handles and pointers stay. */
 static void more_masters(void) {
     uint32_t walker = 24;
-    TOLD(nafelode_initialize(Z, 80, 2), 0, 0);
-    TOLD(nafelode_allocate_fixed(Z, 0), 0, 78);
+    TOLD(nafelode_initialize(Z, 84, 2), 0, 0);
+    TOLD(nafelode_allocate_fixed(Z, 4), 0, 80);
     TOLD(nafelode_allocate_relocatable(Z, 0), 0, 16);
     TOLD(nafelode_allocate_relocatable(Z, 36), 0, 20);
     TOLD(nafelode_free_handle(Z, 16), 0, 0);
     TOLD(nafelode_allocate_relocatable(Z, 4), 0, 16);
     TOLD(nafelode_resize(Z, 20, 4), 0, 0);
-    memcpy(second, "markcoreHW", 10);
+    memcpy(second, "markcoreHARD", 12);
     WRITES(nafelode_write(Z, NAFELODE_HANDLE, 20, 0, 4, second, SECOND), 0);
     WRITES(nafelode_write(Z, NAFELODE_HANDLE, 16, 0, 4, second + 4, 4), 0);
-    WRITES(nafelode_write(Z, NAFELODE_POINTER, 78, 0, 2, second + 8, 2), 0);
+    WRITES(nafelode_write(Z, NAFELODE_POINTER, 80, 0, 4, second + 8, 4), 0);
     IS(at(zone + 24), 2), IS(at(zone + 20), 32), IS(at(zone + 36), 16), IS(at(zone + 16), 72); /* holes of 4 and 32 bytes */
     TOLD(nafelode_allocate_relocatable(Z, 1), 5, 0); /* 36 bytes are free, 4 after the masters: no master is added */
     TOLD(nafelode_allocate_relocatable(Z, 32), 5, 0);
     TOLD(nafelode_allocate_relocatable(Z, 32760), 5, 0);
     TOLD(nafelode_allocate_relocatable(Z, 32761), 3, 0);
     TOLD(nafelode_allocate_relocatable(Z, 0), 0, 24);
-    IS(at(zone), 80), IS(at(zone + 4), 56), IS(at(zone + 8), 10), IS(at(zone + 12), 28u << 16); /* L, bkFst, m, the chain */
+    IS(at(zone), 84), IS(at(zone + 4), 56), IS(at(zone + 8), 10), IS(at(zone + 12), 28u << 16); /* L, bkFst, m, the chain */
     IS(at(zone + 20), 60), IS(at(zone + 16), 68), IS(at(zone + 24), 76); /* up by 28 bytes, down by 4; the new block */
     for (uint32_t i = 28; i < 56; i += 4) IS(at(zone + i), i < 52 ? i + 4 : 0);
     IS(at(zone + 56), 0x80040014), IS(at(zone + 64), 0x80040010), IS(at(zone + 72), 0x80020018);
-    IS(memcmp(zone + 60, "mark", 4) || memcmp(zone + 68, "core", 4) || memcmp(zone + 78, "HW", 2), 0);
-    READS(nafelode_read(Z, NAFELODE_POINTER, 78, 0, 2, second, 2), 0);
+    IS(memcmp(zone + 60, "mark", 4) || memcmp(zone + 68, "core", 4) || memcmp(zone + 80, "HARD", 4), 0);
+    READS(nafelode_read(Z, NAFELODE_POINTER, 80, 0, 4, second, 4), 0);
     IS(nafelode_check(Z).yes, 1), IS(nafelode_check(Z).count, 3);
     IS(nafelode_walker_start(Z), 56), IS(nafelode_walker_step(Z, &walker).size, 0), IS(walker, 24); /* no block starts at 24 now */
     TOLD(nafelode_allocate_relocatable(Z, 0), 5, 0); /* a handle is free, no byte is */
@@ -219,15 +247,15 @@ static void more_masters(void) {
     TOLD(nafelode_allocate_relocatable(Z, 0), 0, 28);
     for (uint32_t length = 72; length <= 76; length += 4) { /* 28 bytes of the first bay are too few, 32 are just enough; the block goes to the next bay */
         TOLD(nafelode_initialize(Z, length, 1), 0, 0);
-        TOLD(nafelode_allocate_fixed(Z, 10), 0, length - 10);
-        TOLD(nafelode_allocate_fixed(Z, 2), 0, length - 14);
-        TOLD(nafelode_free_pointer(Z, length - 10), 0, 0);
+        TOLD(nafelode_allocate_fixed(Z, 8), 0, length - 8);
+        TOLD(nafelode_allocate_fixed(Z, 0), 0, length - 12);
+        TOLD(nafelode_free_pointer(Z, length - 8), 0, 0);
         TOLD(nafelode_allocate_relocatable(Z, 4), 0, 16);
         TOLD(nafelode_allocate_relocatable(Z, 9), length == 72 ? 4 : 5, 0);
         TOLD(nafelode_allocate_relocatable(Z, 8), length == 72 ? 4 : 0, length == 72 ? 0 : 20);
     }
     IS(at(zone + 4), 52), IS(at(zone + 8), 9), IS(at(zone + 16), 56), IS(at(zone + 20), 68);
-    TELLS(nafelode_size(Z, NAFELODE_POINTER, 62), 0, 2);
+    TELLS(nafelode_size(Z, NAFELODE_POINTER, 64), 0, 0);
 }
 
 /* Pages: a create stamps, a use stamps anew, the marks stay beside the stamp; size, read, write and view by name. */
@@ -356,7 +384,7 @@ static void refused_1(void) {
     TOLD(nafelode_allocate_relocatable(Z, 40000), 1, 0);
     TOLD(nafelode_allocate_fixed(Z, 0), 1, 0);
     TOLD(nafelode_free_handle(Z, 16), 1, 0);
-    TOLD(nafelode_free_pointer(Z, 58), 1, 0);
+    TOLD(nafelode_free_pointer(Z, 56), 1, 0);
     TOLD(nafelode_resize(Z, 16, 4), 1, 0);
     TELLS(nafelode_size(Z, NAFELODE_HANDLE, 16), 1, 0);
     READS(nafelode_read(Z, NAFELODE_HANDLE, 16, 0, 0, second, SECOND), 1);
@@ -376,17 +404,17 @@ static void refused_1(void) {
 static void refused_2_to_10(void) {
     TOLD(nafelode_initialize(Z, 63, 4), 2, 0);
     TOLD(nafelode_initialize(Z, 28, 4), 2, 0);
-    TOLD(nafelode_initialize(Z, 84, 4), 2, 0);
+    TOLD(nafelode_initialize(Z, 88, 4), 2, 0);
     TOLD(nafelode_initialize(Z, 64, 8189), 2, 0);
     TOLD(nafelode_initialize(Z, 64, 0xFFFFFFFF), 2, 0);
     TOLD(nafelode_initialize(Z, 44, 0), 0, 0); /* 28 bytes: too few for eight masters */
     TOLD(nafelode_allocate_relocatable(Z, 32761), 3, 0);
     TOLD(nafelode_allocate_relocatable(Z, 32760), 4, 0);
     FRESH();
-    TOLD(nafelode_allocate_fixed(Z, 32763), 3, 0);
-    TOLD(nafelode_allocate_fixed(Z, 32762), 5, 0);
+    TOLD(nafelode_allocate_fixed(Z, 32761), 3, 0);
+    TOLD(nafelode_allocate_fixed(Z, 32760), 5, 0);
     TOLD(nafelode_free_handle(Z, 16), 6, 0);
-    TOLD(nafelode_free_pointer(Z, 58), 7, 0);
+    TOLD(nafelode_free_pointer(Z, 56), 7, 0);
     TOLD(nafelode_resize(Z, 16, 0xFFFFFFFF), 6, 0); /* 6 comes before 3 */
     TOLD(nafelode_allocate_relocatable(Z, 8), 0, 16);
     TOLD(nafelode_resize(Z, 16, 32761), 3, 0);
@@ -402,7 +430,7 @@ static void refused_2_to_10(void) {
     WRITES(nafelode_write(Z, NAFELODE_POINTER, 16, 0, 0, second, SECOND), 7);
     WRITES(nafelode_write(Z, NAFELODE_HANDLE, 16, 1, 0xFFFFFFFF, second, SECOND), 8);
     WRITES(nafelode_write(Z, NAFELODE_HANDLE, 16, 4, 4, second, 3), 10);
-    TOLD(nafelode_enlarge(Z, 20), 9, 0);
+    TOLD(nafelode_enlarge(Z, 24), 9, 0);
     TOLD(nafelode_enlarge(Z, 0xFFFFFFFC), 9, 0);
     TELLS(nafelode_roster(Z, second, 7), 10, 0);
 }
@@ -430,7 +458,8 @@ static void largest(void) {
     IS(nafelode_initialize(big, sizeof big, 1048580, 0).number, 2);
     IS(nafelode_initialize(big, sizeof big, 1048576, 8188).number, 0);
     IS(nafelode_enlarge(big, sizeof big, 4).number, 9);
-    IS(nafelode_allocate_fixed(big, sizeof big, 32762).value, 1048576 - 32762);
+    IS(nafelode_allocate_fixed(big, sizeof big, 32761).number, 3);
+    IS(nafelode_allocate_fixed(big, sizeof big, 32760).value, 1048576 - 32760);
     for (uint32_t i = 0; i < 30; i++) IS(nafelode_allocate_relocatable(big, sizeof big, 32760).value, 16 + 4 * i);
     IS(nafelode_allocate_relocatable(big, sizeof big, 32760).number, 5);
 }
@@ -471,7 +500,7 @@ int main(void) {
         memset(zone_page, 0xA5, PAGE), memset(second_page, 0xA5, PAGE);
         zone = low ? zone_page : zone_page + PAGE - LENGTH;
         second = low ? second_page : second_page + PAGE - SECOND;
-        rig_sheet(), bytes(), roster_order(), tightest_hole(), more_masters(), page_by_name(), dropping();
+        rig_sheet(), bytes(), fixed_blocks(), roster_order(), tightest_hole(), more_masters(), page_by_name(), dropping();
         refused_1(), refused_2_to_10(), refused_11_and_13(), empty();
     }
     largest(), most_masters(), many_pages();

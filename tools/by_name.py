@@ -16,8 +16,8 @@ DEFINITIONS = "crates/block_type/"
 
 # each number of the papers, with the names that it has in crates/block_type/specs/Limits.antt
 NUMBERS = {
-    2: "fixedHeader, tagAt or relocCode",
-    4: "freeHeader, relocHeader, smallestBlock, masterSize, firstAt or amountAt",
+    2: "tagAt or relocCode",
+    4: "freeHeader, fixedHeader, relocHeader, smallestBlock, masterSize, firstAt or amountAt",
     8: "mastersAt, recordSize, addedMasters or pageHeader",
     12: "chainAt",
     14: "clockAt",
@@ -28,8 +28,7 @@ NUMBERS = {
     8188: "mostMasters",
     16384: "typeUnit or lockBit",
     32756: "pageLimit",
-    32760: "relocLimit",
-    32762: "fixedLimit",
+    32760: "fixedLimit or relocLimit",
     32764: "largestBlock",
     32768: "relocCode * typeUnit, firstBlock mostMasters or dirtyBit",
     65536: "handleRange",
@@ -143,6 +142,8 @@ ALLOWED = [
     ("crates/zone/specs/PageSheet.antt", r"^(?:vacant|round|sides|flaggedPages|filled|between|atEnd|growing|brokenZone) = .*", "the pages by example: the zone, and what is asked"),
     ("crates/zone/specs/PageSheet.antt", r"^ +(?:\+\+ )?[(]?(?:word \d|\d).*", "the pages by example: the bytes after it"),
     ("crates/zone/specs/PageSheet.antt", r"^ +pub [\w-]+ : .*", "the pages by example: what is asked, what is answered, and bytes"),
+    ("crates/zone/specs/FixedSheet.antt", r"^(?:vacant|older d) = .*", "fixed blocks by example: the zone"),
+    ("crates/zone/specs/FixedSheet.antt", r"^ +pub [\w-]+ : .*", "fixed blocks by example: what is asked, what is answered, and bytes"),
     ("crates/zone/specs/ReelB.antt", CALLS, "the customer's list: an argument"),
     ("crates/zone/specs/ReelB.antt", r"\b(?:read|write|view) \([\w-]+ \d+\) \d+ \d+\b", "the customer's list: an offset and a count"),
     ("crates/zone/specs/ReelB.antt", r"\breplicate (?:4|32) 9\b", "the customer's list: a second buffer"),

@@ -141,7 +141,7 @@ fn tell(buffer: &[u8], words: &[&str]) -> Vec<String> {
 fn check_file(path: &str) -> usize {
     let text = std::fs::read_to_string(path).unwrap_or_else(|error| panic!("{path}: {error}"));
     let mut lines = text.lines().enumerate();
-    assert_eq!(lines.next().map(|(_, line)| line), Some("nafelode-vectors 2"), "{path}");
+    assert_eq!(lines.next().map(|(_, line)| line), Some("nafelode-vectors 3"), "{path}");
     let (mut buffer, mut calls) = (Vec::new(), 0);
     while let Some((at, line)) = lines.next() {
         let words: Vec<&str> = line.split_whitespace().collect();

@@ -26,7 +26,7 @@ def zone() -> bytes:
 
 def main() -> None:
     image = zone()
-    print(f"""nafelode-vectors 2
+    print(f"""nafelode-vectors 3
 # The most masters that a zone can have are 8,188. Made by masters_calls.py. Eight are added to 8,180, none to 8,181 (document 02, U3).
 
 list masters_limit

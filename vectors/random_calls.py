@@ -38,7 +38,7 @@ class Steered:
     def live(self, kind: int) -> list:
         walk, zone = list(self.library.walk()), self.library.zone
         if kind == POINTER:
-            return [at + 2 for kind, at, _ in walk if kind == 1]
+            return [at + 4 for kind, at, _ in walk if kind == 1]
         return [int.from_bytes(zone[at + 2:at + 4], "big")
                 for kind, at, _ in walk if kind == 2]
 
@@ -100,7 +100,7 @@ class Steered:
 
 def main() -> None:
     rng, library = random.Random(int(sys.argv[2])), Library(sys.argv[1])
-    print("nafelode-vectors 2")
+    print("nafelode-vectors 3")
     print(f"# Random lists, made by random_calls.py with seed {sys.argv[2]}.")
     for number, (length, masters, beyond, steps) in enumerate(LISTS, 1):
         print(f"\nlist random_{number}\nbuffer {length + beyond} 165")

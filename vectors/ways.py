@@ -19,6 +19,7 @@ WAYS = (
     "fixed_exact fixed_rest fixed_compacted fixed_lower_bay "
     "free_handle_alone free_handle_left free_handle_right free_handle_both "
     "free_pointer_alone free_pointer_left free_pointer_right free_pointer_both "
+    "free_pointer_is_end free_pointer_is_next "
     "resize_same resize_cut resize_cut_merged "
     "resize_grow_exact resize_grow_rest resize_layout "
     "resize_move_up resize_move_up_compacted "
@@ -144,7 +145,7 @@ def _relocatable(zone: Zone, c: int) -> Set[str]:
 
 
 def _fixed(zone: Zone, c: int) -> Set[str]:
-    need = up4(2 + c)
+    need = up4(4 + c)
     bay = [bay for bay in zone.bays if bay.sum >= need][-1]
     last = bay.blocks[-1] if bay.blocks else None
     if free(last) and last.size >= need:
@@ -152,6 +153,15 @@ def _fixed(zone: Zone, c: int) -> Set[str]:
     else:
         found = {"fixed_compacted"}
     return found if bay is zone.bays[-1] else found | {"fixed_lower_bay"}
+
+
+def _free_pointer(zone: Zone, pointer: int) -> Set[str]:
+    """A block without data has its own end for a pointer (document 02, U6)."""
+    block = zone.by_pointer(pointer)
+    found = {"free_pointer_" + merges(zone, block)}
+    if pointer == block.end:
+        found.add("free_pointer_is_" + ("end" if pointer == zone.length else "next"))
+    return found
 
 
 def _resize(zone: Zone, handle: int, c: int) -> Set[str]:
@@ -291,7 +301,7 @@ def ways(before: bytes, call: Sequence[str], made: Sequence[int]) -> Set[str]:
     elif name == "free_handle":
         found = {"free_handle_" + merges(zone, zone.by_handle(*numbers))}
     elif name == "free_pointer":
-        found = {"free_pointer_" + merges(zone, zone.by_pointer(*numbers))}
+        found = _free_pointer(zone, *numbers)
     elif name == "resize":
         found = _resize(zone, *numbers)
     elif name.endswith("_page"):

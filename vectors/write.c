@@ -169,7 +169,7 @@ int main(void) {
     char line[LINE], copy[LINE];
     while (fgets(line, sizeof line, stdin)) {
         if (!strchr(line, '\n')) fail("too long, or no line end");
-        if (line_number++ == 0 && strcmp(line, "nafelode-vectors 2\n")) fail("'nafelode-vectors 2' is wanted");
+        if (line_number++ == 0 && strcmp(line, "nafelode-vectors 3\n")) fail("'nafelode-vectors 3' is wanted");
         fputs(line, stdout);
         strcpy(copy, line);
         count = 0;

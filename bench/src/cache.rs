@@ -38,7 +38,7 @@ fn zone_of(pages: &Pages, random: &mut Random) -> Vec<u8> {
             data,
         }));
         if (i + 1) % (pages.count / BAYS) == 0 && i + 1 < pages.count {
-            items.push(Item::Fixed(vec![0xF1; FIXED - 2]));
+            items.push(Item::Fixed(vec![0xF1; FIXED - 4]));
         }
     }
     let used: usize = items.iter().map(Item::size).sum();

@@ -31,7 +31,7 @@ pub fn zone_of(plan: &Plan, random: &mut Random) -> Vec<u8> {
         // fixed blocks stand at equal distances
         if (i + 1) * plan.fixed / blocks > fixed {
             fixed += 1;
-            items.push(Item::Fixed(vec![0xF1; 14]));
+            items.push(Item::Fixed(vec![0xF1; 12]));
         } else {
             let words = random.below(plan.most_data / 4) as usize + 1;
             let data = (0..4 * words).map(|_| random.any() as u8).collect();
@@ -90,7 +90,7 @@ pub fn known(zone: &[u8]) -> Known {
         known.starts.push(at as u32);
         match item {
             Item::Free(_) | Item::Page(_) => {}
-            Item::Fixed(_) => known.pointers.push(at as u32 + 2),
+            Item::Fixed(_) => known.pointers.push(at as u32 + 4),
             Item::Relocatable(handle, data) => known.handles.push((*handle, data.len() as u32)),
         }
         at += item.size();
@@ -232,7 +232,7 @@ pub fn alone<'z>(zone: &'z [u8], plan: &Plan, count: usize, random: &mut Random)
         let pointer = |random: &mut Random| random.pick(&known.pointers);
         add("free by pointer", &mut |random| Call::FreePointer(pointer(random)));
         add("read by pointer", &mut |random| {
-            Call::Read(Stretch { block: Target::Pointer(pointer(random)), offset: 0, count: 14 })
+            Call::Read(Stretch { block: Target::Pointer(pointer(random)), offset: 0, count: 12 })
         });
     }
     // right after the allocations that find a free master

@@ -82,7 +82,7 @@ const PAGE_EDGES: [u32; 9] =
 
 /// Names of pages: few, so that they come again.
 const NAMES: [u32; 12] =
-    [0, 1, 2, 3, 5, 8, 16, 62, 255, 0x0100_0000, 0x8000_0000, 0xFFFF_FFFF];
+    [0, 1, 2, 3, 5, 8, 16, 64, 255, 0x0100_0000, 0x8000_0000, 0xFFFF_FFFF];
 
 /// A call and its second buffer. Weights for all calls let targets be names, too.
 pub fn a_call(random: &mut Random, buffer: &[u8], weights: &[u32]) -> (Call, Vec<u8>) {
@@ -140,7 +140,7 @@ impl About {
                     2 * header
                 }
                 1 => {
-                    about.pointers.push((at + 2, short - 2));
+                    about.pointers.push((at + 4, short - 4));
                     about.sums_without_pages.push(sum + std::mem::take(&mut paged));
                     about.sums.push(std::mem::take(&mut sum));
                     short
@@ -217,12 +217,12 @@ impl About {
     }
 
     fn pointer_and_size(&self, random: &mut Random) -> (u32, u32) {
-        let fixed = random.pick_or(&self.pointers, (62, 0));
+        let fixed = random.pick_or(&self.pointers, (64, 0));
         let other = match random.below(16) {
             0 => random.pick(&EDGES),
             1 => random.below(self.length + 4),
-            2 => random.pick_or(&self.starts, 16) + 2,
-            3 => fixed.0 + random.pick(&[1, 2, 65_536]),
+            2 => random.pick_or(&self.starts, 16) + random.pick(&[0, 2, 4]),
+            3 => fixed.0 + random.pick(&[1, 2, 4, 65_536]),
             _ => return fixed,
         };
         (other, fixed.1)

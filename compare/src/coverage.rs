@@ -1,5 +1,6 @@
 //! What a set of lists reaches, so that agreement on them says something.
 
+use crate::fixed_ways;
 use crate::holes;
 use crate::pool;
 use crate::records::{BUFFER, RECORD};
@@ -38,6 +39,7 @@ pub struct Coverage {
     nearly_full: u64,
     many_fixed: u64,
     slides: u64,
+    frees: fixed_ways::Counts,
     holes: holes::Counts,
     pool: pool::Counts,
 }
@@ -89,6 +91,10 @@ impl Coverage {
         if refusal == 0 {
             self.accepted(record[0], before, zone);
             ways::add(&mut self.holes, &holes_of(record, before));
+        }
+        if (record[0], refusal) == (4, 0) {
+            let pointer = word(record, 4) as u32;
+            ways::add(&mut self.frees, &fixed_ways::of_pointer(before, pointer));
         }
     }
 
@@ -148,6 +154,7 @@ impl Coverage {
         self.nearly_full += other.nearly_full;
         self.many_fixed += other.many_fixed;
         self.slides += other.slides;
+        ways::add(&mut self.frees, &other.frees);
         ways::add(&mut self.holes, &other.holes);
         ways::add(&mut self.pool, &other.pool);
     }
@@ -178,6 +185,8 @@ impl Coverage {
             ("calls that slide a block", self.slides),
             ("records skipped", self.skips),
             ("lists with a short last record", self.short_last),
+            ("frees by a pointer that is L", self.frees[0]),
+            ("frees by a pointer where the next block begins", self.frees[1]),
         ];
         features.extend(holes::WAYS.into_iter().zip(self.holes));
         features.extend(pool::WAYS.into_iter().zip(self.pool));

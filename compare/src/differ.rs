@@ -2,12 +2,14 @@
 
 use crate::arena::{Arena, Place};
 use crate::calls::{ask_zone, Call, Reply};
+use crate::fixed_ways;
 use crate::foreign::{ask_archive, without_number};
 use crate::holes;
 use crate::model::Picture;
 use crate::page_ways;
 use crate::pool;
 use crate::random::Random;
+use crate::rules;
 use crate::strata;
 use crate::verdict::{difference, Left};
 use crate::ways;
@@ -83,6 +85,21 @@ fn which(call: &Call) -> usize {
     }
 }
 
+/// The functions that take a pointer, as `which` numbers them.
+pub const BY_POINTER: [usize; 5] = [4, 6, 7, 8, 9];
+
+/// The pointer that a call names its block by.
+fn pointer_of(call: &Call) -> Option<u32> {
+    match *call {
+        Call::FreePointer(pointer) | Call::Size(Target::Pointer(pointer)) => Some(pointer),
+        Call::Read(stretch) | Call::Write(stretch) | Call::View(stretch) => match stretch.block {
+            Target::Pointer(pointer) => Some(pointer),
+            _ => None,
+        },
+        _ => None,
+    }
+}
+
 /// A stretch of so many bytes is a long one.
 pub const LONG: u32 = 1_000;
 
@@ -97,6 +114,10 @@ pub struct Tally {
     pub long_by_name: u64,
     /// rosters of zones whose blocks do not stand by rising handle
     pub rosters_apart: u64,
+    /// calls refused with 1 for a fixed block's second word
+    pub second_words: u64,
+    /// by function of `BY_POINTER`, done
+    pub pointers: [fixed_ways::Counts; BY_POINTER.len()],
     pub holes: holes::Counts,
     pub pool: pool::Counts,
     pub pages: page_ways::Counts,
@@ -114,8 +135,12 @@ impl Tally {
         if let (Call::Roster, 0) = (call, refusal) {
             self.rosters_apart += u64::from(!Picture::decode(zone).handles().is_sorted());
         }
+        if refusal == 1 {
+            self.second_words += u64::from(rules::broken_rule(zone) == Some(rules::SECOND_WORD));
+        }
         if refusal == 0 {
             ways::add(&mut self.holes, &holes_of(zone, call));
+            self.note_pointer(zone, call);
         }
         if let Call::Relocatable(c) = *call {
             ways::add(&mut self.pool, &pool::of_allocation(zone, c, refusal));
@@ -130,6 +155,13 @@ impl Tally {
         }
     }
 
+    fn note_pointer(&mut self, zone: &[u8], call: &Call) {
+        let Some(pointer) = pointer_of(call) else { return };
+        if let Some(place) = BY_POINTER.iter().position(|&function| function == which(call)) {
+            ways::add(&mut self.pointers[place], &fixed_ways::of_pointer(zone, pointer));
+        }
+    }
+
     pub fn add(&mut self, other: &Tally) {
         let more = other.answers.iter().flatten();
         self.answers.iter_mut().flatten().zip(more).for_each(|(all, more)| *all += more);
@@ -137,6 +169,10 @@ impl Tally {
         self.long_by_pointer += other.long_by_pointer;
         self.long_by_name += other.long_by_name;
         self.rosters_apart += other.rosters_apart;
+        self.second_words += other.second_words;
+        for (mine, theirs) in self.pointers.iter_mut().zip(&other.pointers) {
+            ways::add(mine, theirs);
+        }
         ways::add(&mut self.holes, &other.holes);
         ways::add(&mut self.pool, &other.pool);
         self.pages.add(&other.pages);

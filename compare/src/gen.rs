@@ -4,6 +4,8 @@
 
 #[allow(dead_code)]
 mod coverage;
+#[allow(dead_code)]
+mod fixed_ways;
 mod generator;
 #[allow(dead_code)]
 mod holes;

@@ -173,13 +173,13 @@ impl Generator {
         if self.random.once_in(16) {
             return match self.random.below(5) {
                 0 => self.random.pick(&EDGES),
-                1 => self.random.pick_or(&self.pointers, 62) + 65_536,
-                2 => self.random.pick_or(&self.pointers, 62) + self.random.between(1, 4),
+                1 => self.random.pick_or(&self.pointers, 64) + 65_536,
+                2 => self.random.pick_or(&self.pointers, 64) + self.random.between(1, 4),
                 3 => self.random.below(self.word(0) + 8),
-                _ => self.random.pick_or(&self.dead_pointers, 2),
+                _ => self.random.pick_or(&self.dead_pointers, 4),
             };
         }
-        self.random.pick_or(&self.pointers, 62)
+        self.random.pick_or(&self.pointers, 64)
     }
 
     fn data_size(&self, handle: u32) -> u32 {
@@ -187,13 +187,13 @@ impl Generator {
     }
 
     /// Data bytes for an allocation: ordinary ones, or at the edge of the
-    /// largest sum, or at document 01's limits.
-    fn a_size(&mut self, era: &Era, header: u32) -> u32 {
+    /// largest sum (less a header of 4 bytes), or at document 01's limits.
+    fn a_size(&mut self, era: &Era) -> u32 {
         let (_, largest) = zone::sum(&self.zone).unwrap_or((0, 0));
         match self.random.below(40) {
             0 => self.random.pick(&EDGES),
             1 => self.random.any(),
-            2 | 3 => (largest + self.random.below(8)).saturating_sub(header + 3),
+            2 | 3 => (largest + self.random.below(8)).saturating_sub(4 + 3),
             4..=6 => self.random.below(largest + 1),
             7..=9 => self.random.below(largest / 4 + 1),
             10..=19 => self.random.below(13),
@@ -211,7 +211,7 @@ impl Generator {
             4 => self.random.below(old + 1),
             5 => old + self.random.below(self.own_sum(handle) + 1),
             6 => old.saturating_sub(self.random.below(9)),
-            _ => self.a_size(era, 4),
+            _ => self.a_size(era),
         }
     }
 
@@ -292,8 +292,8 @@ impl Generator {
         let lower: u32 = sizes.iter().map(|size| 4 + size + 4).sum();
         let m = 2 * count + 1;
         self.call(0, &[16 + 4 * m + lower + 4 + 12, m]);
-        let above = self.call(2, &[10]).unwrap_or(0);
-        self.call(2, &[2]);
+        let above = self.call(2, &[8]).unwrap_or(0);
+        self.call(2, &[0]);
         self.call(4, &[above]);
         let below = sizes.iter().filter_map(|&size| self.block_and_keeper(size));
         let below: Vec<u32> = below.collect();
@@ -349,8 +349,8 @@ impl Generator {
         let wall = if upper > 0 { 4 } else { 0 };
         self.call(0, &[16 + 4 * m + lower + wall + upper, m]);
         if upper > 0 {
-            let above = self.call(2, &[upper - 2]).unwrap_or(0);
-            self.call(2, &[2]);
+            let above = self.call(2, &[upper - 4]).unwrap_or(0);
+            self.call(2, &[0]);
             self.call(4, &[above]);
         }
         for size in sizes {
@@ -514,13 +514,13 @@ impl Generator {
         }
         match code {
             1 => {
-                let c = self.a_size(era, 4);
+                let c = self.a_size(era);
                 if let Some(handle) = self.call(1, &[c]) {
                     self.mark(handle);
                 }
             }
             2 => {
-                let c = self.a_size(era, 2);
+                let c = self.a_size(era);
                 self.call(2, &[c]);
             }
             3 => {

@@ -75,9 +75,10 @@ impl Ledger {
         Err(6)
     }
 
-    /// "A pointer is a fixed block's place plus 2."
+    /// "A pointer is a fixed block's place plus 2", which is 4 now: "data start at
+    /// byte 4" (document 02, U6).
     fn find_pointer(&self, pointer: u32) -> Result<usize, u32> {
-        self.fixed.iter().position(|fixed| fixed.place + 2 == u64::from(pointer)).ok_or(7)
+        self.fixed.iter().position(|fixed| fixed.place + 4 == u64::from(pointer)).ok_or(7)
     }
 
     fn data(&mut self, target: Target) -> Result<&mut Vec<u8>, u32> {
@@ -123,10 +124,10 @@ impl Ledger {
     }
 
     fn allocate_fixed(&mut self, c: u32) -> Result<u32, u32> {
-        if c > 32_762 {
+        if c > 32_760 {
             return Err(3);
         }
-        let size = up4(2 + u64::from(c));
+        let size = up4(4 + u64::from(c));
         let bay = self.bays.iter().rposition(|bay| bay.sum() >= size).ok_or(5u32)?;
         // "the bay's end less its size, with an empty bay after it, and the
         // bay's capacity falls by that size"
@@ -134,8 +135,8 @@ impl Ledger {
         let place = end - size;
         self.bays[bay].capacity -= size;
         self.bays.insert(bay + 1, Bay::default());
-        self.fixed.insert(bay, Fixed { place, size, data: vec![0; size as usize - 2] });
-        Ok(place as u32 + 2)
+        self.fixed.insert(bay, Fixed { place, size, data: vec![0; size as usize - 4] });
+        Ok(place as u32 + 4)
     }
 
     fn allocate_relocatable(&mut self, c: u32) -> Result<u32, u32> {
@@ -297,7 +298,7 @@ impl Ledger {
         });
         let mut fixed = self.fixed.iter();
         handles
-            && fixed.all(|fixed| zone[fixed.place as usize + 2..].starts_with(&fixed.data))
+            && fixed.all(|fixed| zone[fixed.place as usize + 4..].starts_with(&fixed.data))
             && self.pages_stand_in(zone)
     }
 }

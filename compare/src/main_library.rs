@@ -8,6 +8,7 @@ mod c_interface;
 #[allow(dead_code)]
 mod calls;
 mod differ;
+mod fixed_ways;
 mod foreign;
 mod holes;
 mod library_pages;
@@ -28,10 +29,12 @@ mod zones;
 
 use arguments::{a_call, every_call, ALLOCATING, PLACING, STRETCHES, WEIGHTS};
 use calls::Call;
-use differ::{Differ, Tally, LONG, NAMES, NUMBERS};
+use differ::{Differ, Tally, BY_POINTER, LONG, NAMES, NUMBERS};
+use model::{Item, Page, Picture};
 use random::Random;
 use std::process::ExitCode;
 use std::thread;
+use zone::{Stretch, Target};
 
 const FIXED_SEED: u64 = 1;
 
@@ -145,6 +148,64 @@ fn long_stretches(differ: &mut Differ, count: u32) -> Outcome {
     Ok(())
 }
 
+/// A fixed block of the most data bytes, one byte more, and its two ends.
+fn the_largest_fixed_block(differ: &mut Differ) -> Outcome {
+    const LENGTH: u32 = 32_784;
+    let mut buffer = vec![0xEE; LENGTH as usize + 5];
+    let block = Target::Pointer(LENGTH - 32_760);
+    let stretch = |offset, count| Stretch { block, offset, count };
+    for call in [
+        Call::Initialize(LENGTH, 0),
+        Call::Fixed(32_761),
+        Call::Fixed(32_760),
+        Call::Size(block),
+        Call::Write(stretch(0, 4)),
+        Call::Write(stretch(32_756, 4)),
+        Call::Read(stretch(32_757, 4)),
+        Call::View(stretch(0, 32_760)),
+        Call::FreePointer(LENGTH - 32_762),
+        Call::FreePointer(LENGTH - 32_760),
+    ] {
+        differ.compare(&mut buffer, &call, b"data")?;
+    }
+    Ok(())
+}
+
+/// Fixed blocks without data: one at the zone's end, others before blocks of
+/// each kind; each call that takes a pointer, by every offset that there is.
+fn pointers_of_no_data(differ: &mut Differ) -> Outcome {
+    let empty = || Item::Fixed(vec![]);
+    let page = Page { name: 5, dirty: false, lock: false, stamp: 0, data: vec![3; 4] };
+    let others = [
+        Item::Relocatable(16, vec![1; 4]),
+        Item::Free(12),
+        Item::Page(page),
+        Item::Fixed(vec![2; 4]),
+        empty(),
+    ];
+    let items: Vec<Item> = others.into_iter().flat_map(|item| [empty(), item]).collect();
+    let length = 20 + items.iter().map(Item::size).sum::<usize>();
+    let zone = Picture { length, m: 1, chain: vec![], clock: 0, items }.encode();
+    for pointer in 0..zone.len() as u32 + 4 {
+        let block = Target::Pointer(pointer);
+        let stretch = |offset, count| Stretch { block, offset, count };
+        for call in [
+            Call::Size(block),
+            Call::Read(stretch(0, 0)),
+            Call::Read(stretch(0, 1)),
+            Call::Read(stretch(1, 0)),
+            Call::Write(stretch(0, 0)),
+            Call::Write(stretch(0, 1)),
+            Call::View(stretch(0, 0)),
+            Call::View(stretch(0, 4)),
+            Call::FreePointer(pointer),
+        ] {
+            differ.compare(&mut zone.clone(), &call, b"data")?;
+        }
+    }
+    Ok(())
+}
+
 /// A walker from bkFst to L and one step more.
 fn walks(differ: &mut Differ, count: u32) -> Outcome {
     for _ in 0..count {
@@ -197,6 +258,8 @@ fn everything(differ: &mut Differ) -> Outcome {
     full_zones(differ, 100, zones::a_zone_of_all_masters)?;
     walks(differ, 3_000)?;
     long_stretches(differ, 40)?;
+    the_largest_fixed_block(differ)?;
+    pointers_of_no_data(differ)?;
     reached_zones(differ, 120, 12, 1_000)?;
     reached_zones(differ, 12, 6, 16_384)?;
     reached_zones(differ, 3, 4, 262_144)?;
@@ -217,6 +280,12 @@ fn print(tally: &Tally) {
         tally.long_by_handle, tally.long_by_pointer, tally.long_by_name
     );
     println!("  rosters of blocks that do not stand by rising handle: {}", tally.rosters_apart);
+    println!("  refused 1 for a fixed block's second word: {}", tally.second_words);
+    for (call, counts) in BY_POINTER.iter().zip(tally.pointers) {
+        for (way, count) in fixed_ways::WAYS.iter().zip(counts) {
+            println!("  {} by {way}: {count}", NAMES[*call]);
+        }
+    }
     for (way, count) in holes::WAYS.iter().zip(tally.holes) {
         println!("  {way}: {count}");
     }
@@ -232,14 +301,20 @@ fn print(tally: &Tally) {
 }
 
 /// Without them the roster's order, the choice between holes, the pool of
-/// masters that grows, a stratum's formula, or pages, would not have been
-/// compared.
+/// masters that grows, a stratum's formula, pages, or where a fixed block's data
+/// start, would not have been compared.
 fn never_met(tally: &Tally) -> Vec<&'static str> {
     let mut never = ways::never_met(holes::WAYS, &tally.holes);
     never.extend(ways::never_met(pool::WAYS, &tally.pool));
     never.extend(tally.pages.never_met());
     if tally.rosters_apart == 0 {
         never.push("rosters of blocks that do not stand by rising handle");
+    }
+    if tally.second_words == 0 {
+        never.push("zones refused for a fixed block's second word");
+    }
+    if tally.pointers.iter().flatten().any(|&count| count == 0) {
+        never.push("one of the calls by a pointer of a fixed block without data");
     }
     // a free block has at least 2 words, so stratum 0 has none
     if tally.strata[1..].contains(&0) {

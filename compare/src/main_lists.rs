@@ -6,6 +6,8 @@
 mod coverage;
 mod cut;
 mod failure;
+#[allow(dead_code)]
+mod fixed_ways;
 mod generator;
 #[allow(dead_code)]
 mod holes;

@@ -53,8 +53,7 @@ impl Item {
     pub fn size(&self) -> usize {
         match self {
             Item::Free(size) => *size,
-            Item::Fixed(data) => 2 + data.len(),
-            Item::Relocatable(_, data) => 4 + data.len(),
+            Item::Fixed(data) | Item::Relocatable(_, data) => 4 + data.len(),
             Item::Page(page) => 8 + page.data.len(),
         }
     }
@@ -121,7 +120,7 @@ impl Picture {
             let short = 2 * (big_endian(&rest[..2]) & 0x3FFF);
             let item = match rest[0] >> 6 {
                 0 => Item::Free(2 * big_endian(&rest[..4])),
-                1 => Item::Fixed(rest[2..short].to_vec()),
+                1 => Item::Fixed(rest[4..short].to_vec()),
                 2 => Item::Relocatable(big_endian(&rest[2..4]) as u32, rest[4..short].to_vec()),
                 _ => Item::Page(Page::decode(&rest[..short])),
             };
@@ -147,6 +146,7 @@ impl Picture {
                 }
                 Item::Fixed(data) => {
                     body.extend(bytes_of(0x4000 + item.size() / 2, 2));
+                    body.extend(bytes_of(0, 2));
                     body.extend(data);
                 }
                 Item::Relocatable(handle, data) => {
@@ -276,7 +276,7 @@ impl Picture {
     fn of_pointer(&self, pointer: u32) -> Option<usize> {
         let mut at = 16 + 4 * self.m;
         for (index, item) in self.items.iter().enumerate() {
-            if item.is_fixed() && at + 2 == pointer as usize {
+            if item.is_fixed() && at + 4 == pointer as usize {
                 return Some(index);
             }
             at += item.size();
@@ -419,12 +419,12 @@ impl Picture {
                 vec![handle]
             }
             Call::Fixed(c) => {
-                if c > 32_762 {
+                if c > 32_760 {
                     return Err(3);
                 }
-                let block = Item::Fixed(vec![0; padded(c as usize, 2)]);
+                let block = Item::Fixed(vec![0; padded(c as usize, 4)]);
                 let index = self.place_high(block).ok_or(5u32)?;
-                vec![self.start_of(index) as u32 + 2]
+                vec![self.start_of(index) as u32 + 4]
             }
             Call::FreeHandle(handle) => {
                 let index = self.of_handle(handle).ok_or(6u32)?;

@@ -11,7 +11,7 @@ use crate::page_zones::{a_zone_of_many_pages, a_zone_of_pages, break_a_page};
 use crate::random::Random;
 use crate::rules;
 use crate::zone::{self, Stretch, Target};
-use crate::{block, bytes, compare, master, paint, refusal};
+use crate::{block, bytes, compare, master, paint, refusal, wall};
 use std::collections::{BTreeMap, HashSet};
 
 // ------------------------------------------------------------------- bytes
@@ -166,9 +166,6 @@ fn page(name: u32, age: u8, flags: &str, data: usize) -> Item {
     })
 }
 
-fn wall() -> Item {
-    Item::Fixed(vec![0xA5, 0x5A])
-}
 
 fn zone_of(items: Vec<Item>) -> Vec<u8> {
     let length = 16 + items.iter().map(Item::size).sum::<usize>();
@@ -258,10 +255,10 @@ fn a_dirty_page_stops_the_dropping() {
 #[test]
 fn a_page_of_a_bay_that_does_not_help() {
     let bays = || vec![page(1, 9, "", 0), wall(), page(2, 8, "", 24), wall(), page(3, 7, "", 0)];
-    assert_created(bays(), 24, 36, &[99, 3]);
+    assert_created(bays(), 24, 40, &[99, 3]);
     // it is dropped, and the bay below has a free block in its place
     let mut zone = zone_of(bays());
-    assert_eq!(zone::create_page(&mut zone, 99, 24), Ok(36));
+    assert_eq!(zone::create_page(&mut zone, 99, 24), Ok(40));
     assert_eq!(zone[16..24], [0, 0, 0, 4, 0, 0, 0, 0]);
     // dirty there, it stops the dropping all the same
     let bays = vec![page(1, 9, "d", 0), wall(), page(2, 8, "", 24)];
@@ -299,11 +296,11 @@ fn order_of_refusals() {
 #[test]
 fn other_calls_drop_nothing() {
     let pages = || vec![page(1, 9, "", 40), Item::Free(8)];
-    for call in [Call::Relocatable(0), Call::Fixed(8), Call::Enlarge(4)] {
+    for call in [Call::Relocatable(0), Call::Fixed(5), Call::Enlarge(4)] {
         let mut zone = zone_of(pages());
         assert_ne!(compare(&mut zone, &call, &[], None).refusal, Some(0), "{call:?}");
     }
-    assert_eq!(refusal(zone::allocate_fixed(&mut zone_of(pages()), 6)), 0);
+    assert_eq!(refusal(zone::allocate_fixed(&mut zone_of(pages()), 4)), 0);
 }
 
 /// The page is placed as a relocatable block is: tightest hole, lowest of equals.
@@ -614,14 +611,14 @@ fn renew(zone: &mut [u8]) {
 fn every_state(length: u32, m: u32, names: &[u32]) -> (usize, u64) {
     let mut first = vec![0xEE; length as usize];
     assert_eq!(zone::initialize(&mut first, length, m), Ok(()));
-    let mut calls = vec![Call::Compact, Call::Shrink(4), Call::Fixed(2)];
+    let mut calls = vec![Call::Compact, Call::Shrink(4), Call::Fixed(0)];
     for c in (0..length - 16 - 4 * m).step_by(4) {
         calls.push(Call::Relocatable(c));
         calls.extend((0..m).map(|i| Call::Resize(16 + 4 * i, c)));
         calls.extend(names.iter().map(|&name| Call::CreatePage(name, c)));
     }
     calls.extend((0..m).map(|i| Call::FreeHandle(16 + 4 * i)));
-    calls.extend((16..length).step_by(4).map(|at| Call::FreePointer(at + 2)));
+    calls.extend((16..length).step_by(4).map(|at| Call::FreePointer(at + 4)));
     for &name in names {
         calls.extend([Call::UsePage(name), Call::SetDirty(name), Call::ClearDirty(name)]);
         calls.extend([Call::SetLock(name), Call::ClearLock(name), Call::DropPage(name)]);

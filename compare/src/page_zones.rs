@@ -2,11 +2,11 @@
 
 use crate::model::{Item, Page, Picture};
 use crate::random::Random;
-use crate::zones::{block_starts, shuffled_handles, word};
+use crate::zones::{a_wall, block_starts, shuffled_handles, word};
 
 /// Names of pages: few, so that a call's name is often there.
 const NAMES: [u32; 14] =
-    [0, 1, 2, 3, 5, 8, 16, 62, 255, 256, 0x0100_0000, 0x7FFF_FFFF, 0x8000_0000, 0xFFFF_FFFF];
+    [0, 1, 2, 3, 5, 8, 16, 64, 255, 256, 0x0100_0000, 0x7FFF_FFFF, 0x8000_0000, 0xFFFF_FFFF];
 
 /// How the ages and flags of a zone's pages are spread.
 struct Temper {
@@ -48,7 +48,7 @@ pub fn a_zone_of_pages(random: &mut Random) -> Vec<u8> {
     let mut items = Vec::new();
     for bay in 0..random.between(1, 3) {
         if bay > 0 {
-            items.push(Item::Fixed(vec![0xA5, 0x5A]));
+            items.push(a_wall(random));
         }
         for _ in 0..random.below(8) {
             if random.once_in(hole_once_in) {
@@ -126,5 +126,5 @@ pub fn break_a_page(random: &mut Random, zone: &mut [u8]) {
 fn cut_to_4(zone: &mut [u8], at: usize) {
     let rest = 2 * (word(zone, at) >> 16 & 0x3FFF) - 4;
     zone[at..at + 2].copy_from_slice(&[0xC0, 2]);
-    zone[at + 4..at + 6].copy_from_slice(&(0x4000 + rest as u16 / 2).to_be_bytes());
+    zone[at + 4..at + 8].copy_from_slice(&(0x4000_0000 + ((rest as u32 / 2) << 16)).to_be_bytes());
 }

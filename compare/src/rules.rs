@@ -1,6 +1,6 @@
-//! Document 01's paragraph 'Well-formed', with document 02's rules of pages (U5),
-//! one function for each rule, each read from the bytes alone. Slow and plain;
-//! made to be compared with.
+//! Document 01's paragraph 'Well-formed', with document 02's rules of pages (U5)
+//! and of fixed blocks (U6), one function for each rule, each read from the bytes
+//! alone. Slow and plain; made to be compared with.
 
 use std::collections::BTreeSet;
 
@@ -94,6 +94,14 @@ fn no_free_neighbours(entries: &[Entry]) -> bool {
     !entries.windows(2).any(|pair| pair[0].kind == 0 && pair[1].kind == 0)
 }
 
+/// "A fixed block's header becomes 4 bytes, the second word zero"
+fn second_words_are_zero(buffer: &Bytes, entries: &[Entry]) -> bool {
+    entries
+        .iter()
+        .filter(|entry| entry.kind == 1)
+        .all(|entry| number(buffer, entry.start as usize + 2, 2) == Some(0))
+}
+
 /// Of pages: "its size is at least 8"
 fn pages_are_large(entries: &[Entry]) -> bool {
     entries.iter().all(|entry| entry.kind != 3 || entry.size >= 8)
@@ -151,7 +159,8 @@ fn chain(buffer: &Bytes) -> Option<Vec<u64>> {
     Some(visited)
 }
 
-/// The rules of pages, as `broken_rule` tells them.
+/// The rules that document 02 brings, as `broken_rule` tells them.
+pub const SECOND_WORD: &str = "a fixed block's second word";
 pub const BYTE_15: &str = "header byte 15";
 pub const PAGE_SIZE: &str = "a page's size";
 pub const STATUS_BITS: &str = "the status word's six bits";
@@ -180,6 +189,9 @@ pub fn broken_rule(buffer: &Bytes) -> Option<&'static str> {
     }
     if !no_free_neighbours(&entries) {
         return Some("free neighbours");
+    }
+    if !second_words_are_zero(buffer, &entries) {
+        return Some(SECOND_WORD);
     }
     if !pages_are_large(&entries) {
         return Some(PAGE_SIZE);

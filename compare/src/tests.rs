@@ -1,14 +1,15 @@
 //! Tests of the zone: the rig sheet to the byte, zone-run's example, the choice
-//! between holes, the pool of masters that grows, the stratum of every size,
-//! every state that small zones reach, long random lists, zones built at random
-//! and broken buffers. Two models answer beside it: the structured one (`model`)
-//! for every byte, and the ledger (`ledger`) for every answer of a list. Pages
-//! have their tests in `page_tests`.
+//! between holes, the pool of masters that grows, the stratum of every size, fixed
+//! blocks without data and older ones, every state that small zones reach, long
+//! random lists, zones built at random and broken buffers. Two models answer
+//! beside it: the structured one (`model`) for every byte, and the ledger
+//! (`ledger`) for every answer of a list. Pages have their tests in `page_tests`.
 
 #![allow(dead_code)]
 
 mod arguments;
 mod calls;
+mod fixed_ways;
 mod holes;
 mod ledger;
 mod lines;
@@ -133,28 +134,28 @@ fn r4_no_space_then_resize() {
 #[test]
 fn r5_fixed() {
     let mut zone = fresh();
-    assert_eq!(zone::allocate_fixed(&mut zone, 5), Ok(58));
-    assert_eq!(zone::size(&zone, Target::Pointer(58)), Ok(6));
-    let fixed = "40040000 00000000";
-    assert_eq!(zone[56..], bytes(fixed, 8));
+    assert_eq!(zone::allocate_fixed(&mut zone, 5), Ok(56));
+    assert_eq!(zone::size(&zone, Target::Pointer(56)), Ok(8));
+    let fixed = "40060000 00000000 00000000";
+    assert_eq!(zone[52..], bytes(fixed, 12));
     let before = zone.clone();
-    assert_eq!(refusal(zone::allocate_relocatable(&mut zone, 21)), 5);
+    assert_eq!(refusal(zone::allocate_relocatable(&mut zone, 17)), 5);
     assert_eq!(zone, before);
-    assert_eq!(zone::allocate_relocatable(&mut zone, 20), Ok(16));
+    assert_eq!(zone::allocate_relocatable(&mut zone, 16), Ok(16));
     let mut expected = bytes(
-        "00000040 00000020 00000004 00140000 00000024 00000018 0000001C 00000000 800C0010",
-        56,
+        "00000040 00000020 00000004 00140000 00000024 00000018 0000001C 00000000 800A0010",
+        52,
     );
-    expected.extend(bytes(fixed, 8));
+    expected.extend(bytes(fixed, 12));
     assert_eq!(zone, expected);
 }
 
 #[test]
 fn r6_bays() {
     let mut zone = fresh();
-    let pointers = [0, 10, 0].map(|c| zone::allocate_fixed(&mut zone, c).unwrap());
-    assert_eq!(pointers, [62, 50, 46]);
-    assert_eq!(zone::free_pointer(&mut zone, 50), Ok(()));
+    let pointers = [0, 8, 0].map(|c| zone::allocate_fixed(&mut zone, c).unwrap());
+    assert_eq!(pointers, [64, 52, 48]);
+    assert_eq!(zone::free_pointer(&mut zone, 52), Ok(()));
     assert_eq!(zone::sum(&zone), Ok((24, 12)));
     let before = zone.clone();
     assert_eq!(refusal(zone::allocate_relocatable(&mut zone, 9)), 5);
@@ -204,7 +205,7 @@ fn zone_run(list: &[u8]) -> String {
 #[test]
 fn zone_run_example() {
     let list = [record(0, 64, 4, 9), record(1, 6, 9, 9), record(2, 0, 9, 9), record(3, 20, 9, 9)];
-    assert_eq!(zone_run(&list.concat()), "0 0\n0 16\n0 62\n6 0\n");
+    assert_eq!(zone_run(&list.concat()), "0 0\n0 16\n0 64\n6 0\n");
 }
 
 #[test]
@@ -236,8 +237,8 @@ fn zone_run_codes() {
     add(record(9, 65_472, 0, 0), "9 0");
     add(record(10, 11, 0, 0), "0 8");
     add(record(8, 0, 0, 0), "0 20");
-    add(record(4, 62, 0, 0), "7 0");
-    add(record(2, 32_763, 0, 0), "3 0");
+    add(record(4, 64, 0, 0), "7 0");
+    add(record(2, 32_761, 0, 0), "3 0");
     add(record(5, 16, 28, 0), "0 0");
     add(record(5, 16, 29, 0), "5 0");
     add(record(5, 20, 40_000, 0), "6 0");
@@ -269,7 +270,8 @@ fn order_of_refusals() {
     assert_eq!(zone::initialize(&mut none, 16, 0), Ok(()));
     assert_eq!(refusal(zone::allocate_relocatable(&mut none, 32_761)), 3);
     assert_eq!(refusal(zone::allocate_relocatable(&mut none, 32_760)), 4);
-    assert_eq!(refusal(zone::allocate_fixed(&mut none, 32_762)), 5);
+    assert_eq!(refusal(zone::allocate_fixed(&mut none, 32_761)), 3);
+    assert_eq!(refusal(zone::allocate_fixed(&mut none, 32_760)), 5);
 }
 
 #[test]
@@ -295,8 +297,9 @@ fn largest_zone_and_largest_blocks() {
     assert_eq!(zone::initialize(&mut zone, 1_048_576, 8_188), Ok(()));
     assert_eq!(zone::allocate_relocatable(&mut zone, 32_760), Ok(16));
     assert_eq!(zone::size(&zone, Target::Handle(16)), Ok(32_760));
-    assert_eq!(zone::allocate_fixed(&mut zone, 32_762), Ok(1_048_576 - 32_764 + 2));
-    assert_eq!(zone::size(&zone, Target::Pointer(1_015_814)), Ok(32_762));
+    assert_eq!(refusal(zone::allocate_fixed(&mut zone, 32_761)), 3);
+    assert_eq!(zone::allocate_fixed(&mut zone, 32_760), Ok(1_048_576 - 32_764 + 4));
+    assert_eq!(zone::size(&zone, Target::Pointer(1_015_816)), Ok(32_760));
     assert_eq!(refusal(zone::enlarge(&mut zone, 4)), 9);
     assert_eq!(zone::shrink(&mut zone, u32::MAX), Ok(0));
     assert_eq!(rules::broken_rule(&zone), None);
@@ -366,15 +369,72 @@ fn a_view_is_that_part_of_the_zone() {
 #[test]
 fn a_walker_goes_round_the_blocks() {
     let mut zone = after_r2();
-    assert_eq!(zone::allocate_fixed(&mut zone, 5), Ok(58));
+    assert_eq!(zone::allocate_fixed(&mut zone, 5), Ok(56));
     let mut walker = zone::Walker::start(&zone).unwrap();
     let mut seen = Vec::new();
     for _ in 0..5 {
         let step = walker.advance(&zone).unwrap();
         seen.push((step.kind, step.offset, step.size));
     }
-    assert_eq!(seen, [(2, 32, 12), (0, 44, 12), (1, 56, 8), (0, 0, 0), (0, 0, 0)]);
+    assert_eq!(seen, [(2, 32, 12), (0, 44, 8), (1, 52, 12), (0, 0, 0), (0, 0, 0)]);
     assert_eq!(walker.offset, 64);
+}
+
+// ------------------------------------------- fixed blocks, data from byte 4
+
+/// A fixed block without data has its own end for a pointer: L, or where the next
+/// block begins.
+#[test]
+fn a_pointer_of_no_data() {
+    let mut zone = fresh();
+    let mut ledger = Ledger::new(64, 64, 4);
+    for (c, pointer) in [(0, 64), (0, 60), (4, 52)] {
+        let reply = compare(&mut zone, &Call::Fixed(c), &[], Some(&mut ledger));
+        assert_eq!(reply, Reply::new(0, &[pointer]));
+    }
+    assert_eq!(zone[48..], bytes("40040000 00000000 40020000 40020000", 16));
+    let sizes = [(64, Some(0)), (60, Some(0)), (52, Some(4))];
+    for (pointer, size) in sizes.into_iter().chain([68, 62, 58, 56, 50, 48].map(|at| (at, None))) {
+        let block = Target::Pointer(pointer);
+        let stretch = |count| Stretch { block, offset: 0, count };
+        for (call, number) in [
+            (Call::Size(block), 0),
+            (Call::Read(stretch(0)), 0),
+            (Call::Write(stretch(0)), 0),
+            (Call::Read(stretch(5)), 8),
+            (Call::FreePointer(pointer), 0),
+        ] {
+            let reply = compare(&mut zone.clone(), &call, b"longer", Some(&mut ledger.clone()));
+            assert_eq!(reply.refusal, Some(size.map_or(7, |_| number)), "{call:?}");
+        }
+        assert_eq!(zone::size(&zone, block).ok(), size);
+        let part = zone::view(&zone, stretch(0));
+        let offset = part.as_ptr() as usize - zone.as_ptr() as usize;
+        assert_eq!((offset, part.len()), (size.map_or(0, |_| pointer as usize), 0));
+    }
+}
+
+/// "an older image that holds a fixed block is refused unless it meets the new
+/// layout": the block had its data from byte 2.
+#[test]
+fn an_older_image() {
+    let older = |block: &str| {
+        let mut zone = bytes("0000001C 00000010 00000000 00000000", 16);
+        zone.extend(bytes(block, 12));
+        zone
+    };
+    for (block, good) in [
+        ("40060102 03040506 0708090A", false),
+        ("40060100 03040506 0708090A", false),
+        ("40060002 03040506 0708090A", false),
+        ("40060000 03040506 0708090A", true),
+    ] {
+        let zone = older(block);
+        let broken = if good { None } else { Some(rules::SECOND_WORD) };
+        assert_eq!((zone::check(&zone), rules::broken_rule(&zone)), ((good, 0), broken), "{block}");
+        let size = zone::size(&zone, Target::Pointer(20));
+        assert_eq!(size, if good { Ok(8) } else { Err(zone::Refusal::NotWellFormed) });
+    }
 }
 
 // ---------------------------------------------------------- tightest hole
@@ -386,6 +446,11 @@ fn keeper(handle: u32) -> Item {
     Item::Relocatable(handle, vec![0xBB; KEEPER - 4])
 }
 
+/// A fixed block of 8 bytes, which keeps bays apart.
+fn wall() -> Item {
+    Item::Fixed(vec![0xFF; 4])
+}
+
 /// A zone with holes of these sizes in its lower bay, a keeper after each of
 /// them: handles 16, 20 and so on. The bay above is full: it has one block of 8
 /// data bytes, whose handle is answered. One more master is free.
@@ -394,7 +459,7 @@ fn pitted(holes: &[usize]) -> (Vec<u8>, u32) {
     let mut items: Vec<Item> =
         holes.iter().zip(keepers).flat_map(|(&hole, keeper)| [Item::Free(hole), keeper]).collect();
     let (upper, m) = (16 + 4 * holes.len() as u32, holes.len() + 2);
-    items.extend([Item::Fixed(vec![0xFF; 2]), Item::Relocatable(upper, vec![0xAA; 8])]);
+    items.extend([wall(), Item::Relocatable(upper, vec![0xAA; 8])]);
     let length = 16 + 4 * m + items.iter().map(Item::size).sum::<usize>();
     (Picture { length, m, chain: vec![upper + 4], clock: 0, items }.encode(), upper)
 }
@@ -458,7 +523,7 @@ fn assert_no_slide(before: &[u8], zone: &[u8], keepers: usize) {
 #[test]
 fn the_bay_is_the_lowest_whose_sum_reaches_the_need() {
     let bay = |one, handle, other| {
-        [Item::Free(one), keeper(handle), Item::Free(other), Item::Fixed(vec![0xFF; 2])]
+        [Item::Free(one), keeper(handle), Item::Free(other), wall()]
     };
     let items = [bay(12, 16, 32), bay(16, 20, 12)].concat();
     let length = 28 + items.iter().map(Item::size).sum::<usize>();
@@ -480,8 +545,8 @@ fn fixed_blocks_and_growth_do_not_look_for_the_tightest_hole() {
     let items = vec![Item::Free(8), keeper(16), Item::Free(32)];
     let zone = Picture { length: 24 + 48, m: 2, chain: vec![20], clock: 0, items }.encode();
     let mut one = zone.clone();
-    let reply = compare(&mut one, &Call::Fixed(6), &[], None);
-    assert_eq!(reply, Reply::new(0, &[24 + 48 - 6]));
+    let reply = compare(&mut one, &Call::Fixed(4), &[], None);
+    assert_eq!(reply, Reply::new(0, &[24 + 48 - 4]));
     let mut other = zone;
     compare(&mut other, &Call::Resize(16, 8), &[], None);
     assert_eq!(master(&other, 16), 24 + 8 + 4);
@@ -589,12 +654,12 @@ fn the_block_goes_to_another_bay() {
     let zone = full(vec![
         block(16, b"MARK"),
         Item::Free(32),
-        Item::Fixed(vec![0xF1, 0xF2]),
+        Item::Fixed(vec![0xF1, 0xF2, 0xF3, 0xF4]),
         Item::Free(12),
     ]);
-    let expected = "0000004C 00000034 00000009 00180000 00000038
-        00000044 0000001C 00000020 00000024 00000028 0000002C 00000030 00000000
-        80040010 4D41524B 4002F1F2 80060014";
+    let expected = "00000050 00000034 00000009 00180000 00000038
+        00000048 0000001C 00000020 00000024 00000028 0000002C 00000030 00000000
+        80040010 4D41524B 40040000 F1F2F3F4 80060014";
     assert_grows(zone.clone(), 8, 20, expected);
     // 32 bytes were enough for it, 0 and 12 are not
     assert_refused(&zone, 9, 5);
@@ -606,11 +671,11 @@ fn the_block_goes_to_another_bay() {
 #[test]
 fn another_bay_has_its_tightest_hole_taken() {
     let upper = [24, 16, 12, 16].map(Item::Free).into_iter().zip([20, 24, 28, 32].map(keeper));
-    let items = [Item::Free(20), keeper(16), Item::Free(16), Item::Fixed(vec![0xFF; 2])];
+    let items = [Item::Free(20), keeper(16), Item::Free(16), wall()];
     let items = items.into_iter().chain(upper.flat_map(|(hole, keeper)| [hole, keeper]));
     let mut zone = full(items.collect());
     compare(&mut zone, &Call::Relocatable(12), &[], None);
-    let upper = 36 + 20 + 8 + 16 + 4;
+    let upper = 36 + 20 + 8 + 16 + 8;
     assert_eq!(master(&zone, 36), upper + 24 + 8 + 4);
     assert_eq!(master(&zone, 16), 36 + 32 + 4);
     assert_eq!(zone[36 + 32 + 8..][..4], [0, 0, 0, 2], "4 bytes are left in the first bay");
@@ -619,7 +684,7 @@ fn another_bay_has_its_tightest_hole_taken() {
 /// 4 by the first bay alone, whatever the others have; 5 comes after it.
 #[test]
 fn too_little_in_the_first_bay() {
-    let walls = || [Item::Fixed(vec![0xFF; 2]), Item::Free(400)];
+    let walls = || [wall(), Item::Free(400)];
     for holes in [vec![28], vec![8, 20], vec![]] {
         let blocks = (0..).map(|i| block(16 + 4 * i, b""));
         let items = holes.iter().zip(blocks).flat_map(|(&hole, block)| [Item::Free(hole), block]);
@@ -632,7 +697,7 @@ fn too_little_in_the_first_bay() {
     let mut zone = full([Item::Free(32)].into_iter().chain(walls()).collect());
     assert_refused(&zone, 397, 5);
     compare(&mut zone, &Call::Relocatable(396), &[], None);
-    assert_eq!(master(&zone, 16), 16 + 32 + 4 + 4);
+    assert_eq!(master(&zone, 16), 16 + 32 + 8 + 4);
 }
 
 /// Eight handles, one after the other, then eight more.
@@ -691,10 +756,10 @@ fn handles_out_of_order() -> (Vec<u8>, Ledger) {
     assert_eq!(zone::initialize(&mut zone, 96, 5), Ok(()));
     let mut ledger = Ledger::new(96, 96, 5);
     for (call, value) in [
-        (Call::Fixed(2), Some(94)),
-        (Call::Fixed(18), Some(74)),
-        (Call::Fixed(2), Some(70)),
-        (Call::FreePointer(74), None),
+        (Call::Fixed(0), Some(96)),
+        (Call::Fixed(16), Some(76)),
+        (Call::Fixed(0), Some(72)),
+        (Call::FreePointer(76), None),
         (Call::Relocatable(12), Some(16)),
         (Call::Relocatable(4), Some(20)),
         (Call::Relocatable(0), Some(24)),
@@ -808,12 +873,13 @@ fn assert_refused_values(call: &Call, reply: &Reply) {
 const NUMBERS: usize = 11;
 
 /// Counts of accepted calls (0) and of each refusal; of choices between holes; of
-/// allocations that find no free master.
+/// allocations that find no free master; of frees by a pointer of no data.
 #[derive(Default)]
 struct Tally {
     answers: [u64; NUMBERS],
     holes: holes::Counts,
     pool: pool::Counts,
+    frees: fixed_ways::Counts,
 }
 
 impl Tally {
@@ -822,6 +888,9 @@ impl Tally {
         self.answers[refusal as usize] += 1;
         if let Call::Relocatable(c) = *call {
             ways::add(&mut self.pool, &pool::of_allocation(before, c, refusal));
+        }
+        if let (Call::FreePointer(pointer), 0) = (*call, refusal) {
+            ways::add(&mut self.frees, &fixed_ways::of_pointer(before, pointer));
         }
         let met = match *call {
             _ if refusal != 0 => return,
@@ -833,8 +902,8 @@ impl Tally {
     }
 
     fn tell(&self, name: &str) {
-        let Tally { answers, holes, pool } = self;
-        println!("{name}; done and refused 1 to 10: {answers:?}; choices between holes: {holes:?}; no free master: {pool:?}");
+        let Tally { answers, holes, pool, frees } = self;
+        println!("{name}; done and refused 1 to 10: {answers:?}; choices between holes: {holes:?}; no free master: {pool:?}; frees by a pointer of no data: {frees:?}");
     }
 
     /// The ways of `pool` that were never met, but for the one of large zones.
@@ -881,6 +950,7 @@ fn many_lists(name: &str, seed: u64, lists: u32, steps: u32, words: impl Fn(&mut
     if lists > 100 {
         assert!(tally.answers[3..].iter().all(|&times| times > 0), "a refusal was never reached");
         assert_eq!(tally.pool_not_met(), [""; 0], "never met");
+        assert_eq!(ways::never_met(fixed_ways::WAYS, &tally.frees), [""; 0], "never met");
     }
 }
 
@@ -977,7 +1047,7 @@ fn initialize_over_anything() {
 #[test]
 fn damaged_zones() {
     let mut random = Random::new(7);
-    let (mut yes, mut no) = (0, 0);
+    let (mut yes, mut no, mut second_words) = (0, 0, 0);
     for _ in 0..150_000 {
         let mut buffer = a_zone(&mut random, 10);
         if random.once_in(3) {
@@ -988,6 +1058,7 @@ fn damaged_zones() {
         assert_eq!(zone::check(&buffer), rules::check(&buffer), "{buffer:02X?}");
         let good = zone::check(&buffer).0;
         *if good { &mut yes } else { &mut no } += 1;
+        second_words += u32::from(rules::broken_rule(&buffer) == Some(rules::SECOND_WORD));
         if random.once_in(4) {
             for (call, second) in every_call(&mut random, &buffer) {
                 let reply = compare(&mut buffer.clone(), &call, &second, None);
@@ -997,8 +1068,8 @@ fn damaged_zones() {
             }
         }
     }
-    println!("damaged zones: {yes} still well-formed, {no} not");
-    assert!(yes > 1_000 && no > 1_000);
+    println!("damaged zones: {yes} still well-formed, {no} not, {second_words} for a fixed block's second word");
+    assert!(yes > 1_000 && no > 1_000 && second_words > 1_000);
 }
 
 #[test]
@@ -1035,7 +1106,7 @@ fn every_state(length: u32, beyond: u32, m: u32, most: usize) -> (usize, u64) {
         calls.extend((0..handles).map(|i| Call::Resize(16 + 4 * i, c)));
     }
     calls.extend((0..handles).map(|i| Call::FreeHandle(16 + 4 * i)));
-    calls.extend((16..length + beyond).step_by(2).map(Call::FreePointer));
+    calls.extend((16..=length + beyond).step_by(2).map(Call::FreePointer));
     let mut steps = 0;
     while let Some(state) = open.pop() {
         for call in &calls {

@@ -209,10 +209,11 @@ struct Block {
 /// "Block header lengths and limits belong to the block type".
 impl Block {
     const FREE_HEADER: usize = 4;
-    const FIXED_HEADER: usize = 2;
+    /// document 02, U6
+    const FIXED_HEADER: usize = 4;
     const RELOCATABLE_HEADER: usize = 4;
     const PAGE_HEADER: usize = 8;
-    const FIXED_DATA_LIMIT: u32 = 32_762;
+    const FIXED_DATA_LIMIT: u32 = 32_760;
     const RELOCATABLE_DATA_LIMIT: u32 = 32_760;
     const PAGE_DATA_LIMIT: u32 = 32_756;
     /// sizes "are multiples of 4 and at least 4"; a page's is "at least 8"
@@ -271,10 +272,15 @@ impl Block {
         self.size - self.header()
     }
 
-    /// The handle in a relocatable block's header.
+    /// The header's second word: a relocatable block's handle, 0 in a fixed one.
+    #[inline]
+    fn second_word(&self, zone: &[u8]) -> u32 {
+        get16(zone, self.at + 2)
+    }
+
     #[inline]
     fn handle(&self, zone: &[u8]) -> usize {
-        get16(zone, self.at + 2) as usize
+        self.second_word(zone) as usize
     }
 }
 
@@ -285,9 +291,10 @@ fn put_free(zone: &mut [u8], at: usize, size: usize) {
     }
 }
 
-/// "Fixed: 14-bit size in words".
+/// "Fixed: 14-bit size in words"; "the second word zero" (document 02, U6).
 fn put_fixed(zone: &mut [u8], at: usize, size: usize) {
     put16(zone, at, Block::FIXED_BITS | (size / 2) as u32);
+    put16(zone, at + 2, 0);
 }
 
 /// "Relocatable: the same 14 bits, then the handle (2 bytes)"; its master
@@ -350,7 +357,12 @@ fn inspect_blocks(zone: &[u8], layout: &Layout) -> Option<usize> {
                     return None;
                 }
             }
-            Kind::Fixed => {}
+            Kind::Fixed => {
+                // "the second word zero" (document 02, U6)
+                if block.second_word(zone) != 0 {
+                    return None;
+                }
+            }
             Kind::Relocatable => {
                 // "each relocatable block's handle is a master's offset and
                 // that master holds the block's data offset"

@@ -18,7 +18,7 @@ pub fn a_zone(random: &mut Random, most: u32) -> Vec<u8> {
             0..=2 if !matches!(items.last(), Some(Item::Free(_))) => {
                 items.push(Item::Free(4 * words + 4));
             }
-            3 => items.push(Item::Fixed(vec![data, vec![0xA5, 0x5A]].concat())),
+            3 => items.push(Item::Fixed(data)),
             _ => {
                 if let Some(handle) = handles.pop() {
                     items.push(Item::Relocatable(handle, data));
@@ -29,6 +29,11 @@ pub fn a_zone(random: &mut Random, most: u32) -> Vec<u8> {
     let mut buffer = encoded(items, m, handles);
     buffer.extend((0..random.below(2) * random.below(30)).map(|_| random.any() as u8));
     buffer
+}
+
+/// A small fixed block, with data or without.
+pub fn a_wall(random: &mut Random) -> Item {
+    Item::Fixed([0xA5, 0x5A, 0x3C, 0xC3].repeat(random.below(2) as usize))
 }
 
 /// The handles of m masters in any order.
@@ -57,7 +62,7 @@ pub fn a_pitted_zone(random: &mut Random) -> Vec<u8> {
     let mut items = Vec::new();
     for bay in 0..random.between(1, MOST_BAYS) {
         if bay > 0 {
-            items.push(Item::Fixed(vec![0xA5, 0x5A]));
+            items.push(a_wall(random));
         }
         let full = random.once_in(2);
         for handle in handles.split_off(handles.len() - random.between(1, MOST_BLOCKS) as usize) {
@@ -82,7 +87,7 @@ pub fn a_zone_without_free_master(random: &mut Random) -> Vec<u8> {
     let last_bay = random.below(3);
     for bay in 0..=last_bay {
         if bay > 0 {
-            items.push(Item::Fixed(vec![0xA5, 0x5A]));
+            items.push(a_wall(random));
         }
         let few = random.below(handles.len() as u32 + 1);
         let count = if bay == last_bay { handles.len() } else { few as usize };
@@ -151,7 +156,7 @@ pub fn break_a_rule(random: &mut Random, buffer: &mut Vec<u8>) {
     let (length, first) = (word(buffer, 0), word(buffer, 4));
     let masters = (first - 16) / 4;
     let starts = block_starts(buffer);
-    match random.below(11) {
+    match random.below(12) {
         // L past the buffer, short of the blocks, or no multiple of 4
         0 => {
             let wrong =
@@ -180,11 +185,21 @@ pub fn break_a_rule(random: &mut Random, buffer: &mut Vec<u8>) {
                 buffer[at + place] ^= 1 << random.below(8);
             }
         }
+        7 => break_second_word(random, buffer, &starts),
         _ => {
             if let Some(&at) = starts.get(random.below(starts.len() as u32) as usize) {
                 break_block(random, buffer, at, length);
             }
         }
+    }
+}
+
+/// One bit of some fixed block's second word.
+fn break_second_word(random: &mut Random, buffer: &mut [u8], starts: &[usize]) {
+    let fixed: Vec<usize> = starts.iter().copied().filter(|&at| buffer[at] >> 6 == 1).collect();
+    if !fixed.is_empty() {
+        let at = random.pick(&fixed) + 2 + random.below(2) as usize;
+        buffer[at] ^= 1 << random.below(8);
     }
 }
 

@@ -1,10 +1,12 @@
-"""Well-formedness, exactly as document 01 has it, with document 02's pages.
+"""Well-formedness, exactly as document 01 has it, with document 02's pages and
+header of fixed blocks.
 
 When several rules are broken, the first in reading order is named: the header
 by its fields' offsets, then the blocks by address (for each its size, end,
-left neighbour, zeros, handle and master, status word and name), then the chain
-from link to link, at last the count of masters. Masters have no rule of their
-own: they are looked at from the block or the link that leads to them.
+left neighbour, zeros, second word, handle and master, status word and name),
+then the chain from link to link, at last the count of masters. Masters have no
+rule of their own: they are looked at from the block or the link that leads to
+them.
 """
 
 from typing import Dict, List, NamedTuple, Optional, Sequence, Tuple, Union
@@ -18,6 +20,7 @@ from .format import (
     AT_LENGTH,
     AT_M,
     AT_NAME,
+    AT_SECOND_WORD,
     AT_STATUS,
     AT_ZERO,
     DIRTY,
@@ -131,6 +134,8 @@ def _read_blocks(data: bytes, header: Header) -> Tuple[Block, ...]:
                             f"block at {blocks[-1].offset}")
         if free:
             _check_zeros(data, block)
+        elif block.type is BlockType.FIXED:
+            _check_second_word(data, block)
         elif block.handle is not None:
             _check_master(data, header, block, block.handle)
         elif block.page is not None:
@@ -162,7 +167,7 @@ def _read_block(data: bytes, offset: int, header: Header) -> Block:
     handle: Optional[int] = None
     page: Optional[Page] = None
     if kind is BlockType.RELOCATABLE:
-        handle = number(data, offset + 2, 2)
+        handle = number(data, offset + AT_SECOND_WORD, 2)
     elif kind is BlockType.PAGE:
         page = _read_page(data, offset, header.clock)
     return Block(offset, kind, size, handle, page)
@@ -200,10 +205,19 @@ def _check_zeros(data: bytes, block: Block) -> None:
                         f"{block.offset}")
 
 
+def _check_second_word(data: bytes, block: Block) -> None:
+    at = block.offset + AT_SECOND_WORD
+    word = number(data, at, 2)
+    if word != 0:
+        raise ZoneError(rules.SECOND_WORD, at,
+                        f"the fixed block at {block.offset} has second word "
+                        f"0x{word:04X}, where an older image has data")
+
+
 def _check_master(data: bytes, header: Header, block: Block,
                   handle: int) -> None:
     if not header.is_master(handle):
-        raise ZoneError(rules.HANDLE, block.offset + 2,
+        raise ZoneError(rules.HANDLE, block.offset + AT_SECOND_WORD,
                         f"the block at {block.offset} has handle {handle}, "
                         f"which is no master's offset")
     held = number(data, handle, MASTER_LENGTH)

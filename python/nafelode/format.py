@@ -1,7 +1,7 @@
 """The bytes of a zone: header fields, limits and block types.
 
 They are document 01's; pages and the clock are document 02's (U5), which calls
-a page a named block.
+a page a named block, and a fixed block's header of 4 bytes is, too (U6).
 """
 
 from enum import IntEnum
@@ -23,6 +23,9 @@ AT_CLOCK = 14
 AT_ZERO = 15
 
 SIZE_BITS = 0x3FFF  # the 14-bit size of all blocks but free ones
+
+# A block's second word: a relocatable one's handle, zero in a fixed one.
+AT_SECOND_WORD = 2
 
 # Where a page's name and status word stand in its block, and the word's bits.
 AT_NAME = 2
@@ -51,7 +54,7 @@ class BlockType(IntEnum):
         return 8 if self is BlockType.PAGE else 4
 
 
-_HEADER_LENGTHS = {BlockType.FREE: 4, BlockType.FIXED: 2,
+_HEADER_LENGTHS = {BlockType.FREE: 4, BlockType.FIXED: 4,
                    BlockType.RELOCATABLE: 4, BlockType.PAGE: 8}
 
 
@@ -113,7 +116,7 @@ class Block(NamedTuple):
 
     @property
     def pointer(self) -> Optional[int]:
-        """A fixed block's pointer: its data offset."""
+        """A fixed block's pointer: its data offset; its end if it has none."""
         return self.data_offset if self.type is BlockType.FIXED else None
 
     @property

@@ -2,7 +2,8 @@
 
 The names quote document 01's 'Well-formed' sentence. Where that sentence
 says 'as above', the words it points to follow a colon. Rules of pages quote
-document 02 (U5), which calls a page a named block.
+document 02 (U5), which calls a page a named block, and so does that of a fixed
+block's header (U6).
 """
 
 BUFFER = "the buffer has at least 16 bytes"
@@ -18,6 +19,7 @@ PAGE_SIZE = "a named block's size is at least 8"
 TILE = "blocks tile bkFst to L"
 NEIGHBOURS = "no two free blocks are neighbours"
 FREE_ZEROS = "the zeros of free blocks as above: all later bytes zero"
+SECOND_WORD = "a fixed block's header becomes 4 bytes, the second word zero"
 HANDLE = "each relocatable block's handle is a master's offset"
 MASTER = "that master holds the block's data offset"
 STATUS = ("in the status word the top bit is dirty, the next is lock, the low "
@@ -42,6 +44,7 @@ WELL_FORMED = (
     TILE,
     NEIGHBOURS,
     FREE_ZEROS,
+    SECOND_WORD,
     HANDLE,
     MASTER,
     STATUS,

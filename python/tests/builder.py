@@ -12,7 +12,10 @@ DIRTY, LOCK = 0x8000, 0x4000
 
 
 class Part(NamedTuple):
-    """A block of the plan: data for live ones, a size in bytes for all."""
+    """A block of the plan: data for live ones, a size in bytes for all.
+
+    A fixed block has 0 where a relocatable one has its handle.
+    """
 
     kind: int
     size: int
@@ -71,7 +74,7 @@ def block_bytes(part: Part) -> bytes:
     if part.kind == FREE:
         return words.to_bytes(4, "big") + bytes(part.size - 4)
     head = (part.kind << 14 | words).to_bytes(2, "big")
-    if part.kind == RELOCATABLE:
+    if part.kind in (FIXED, RELOCATABLE):
         head += part.handle.to_bytes(2, "big")
     if part.kind == PAGE:
         head += part.name.to_bytes(4, "big") + part.status.to_bytes(2, "big")
@@ -89,7 +92,7 @@ def free(size: int) -> Part:
 
 
 def fixed(data: bytes) -> Part:
-    return Part(FIXED, 2 + len(data), 0, data)
+    return Part(FIXED, 4 + len(data), 0, data)
 
 
 def relocatable(handle: int, data: bytes) -> Part:
@@ -108,7 +111,7 @@ def cache_and_dropped() -> Tuple[Plan, Plan]:
     recipe = page(101, b"GRADE A 70 GSM..", 6)
     profile = relocatable(16, b"PROFILE 01..")
     mark = page(0, b"", LOCK | 7)
-    hardware = fixed(bytes(range(10, 16)))
+    hardware = fixed(bytes(range(10, 14)))
     kept = page(7, b"GRADE C 120 GSM.", DIRTY | LOCK | 5), free(20)
     old, new = page(102, b"GRADE B 80 GSM..", DIRTY | 2), page(103, bytes(16), 8)
     cache = Plan(2, (recipe, profile, old, free(12), mark, hardware, *kept),
@@ -125,7 +128,7 @@ def full_and_grown() -> Tuple[Plan, Plan]:
     mark = relocatable(24, b"MARK")
     one = relocatable(28, b"SP222222")
     two = relocatable(16, b"P1111111111Z")
-    hardware = fixed(bytes(range(10, 16)))
+    hardware = fixed(bytes(range(10, 14)))
     new = relocatable(32, b"P" + b"3" * 15)
     full = Plan(4, (free(8), recipe, mark, free(40), one, two, free(20),
                     hardware), ())
@@ -169,7 +172,7 @@ def _random_part(rng: random.Random, kind: int, largest: int,
     if kind == FREE:
         return free(size)
     if kind == FIXED:
-        return fixed(rng.randbytes(size - 2))
+        return fixed(rng.randbytes(size - 4))
     if kind == PAGE:
         status = rng.choice((0, DIRTY, LOCK, DIRTY | LOCK)) | rng.randrange(256)
         return page(names.pop(), rng.randbytes(max(0, size - 8)), status)

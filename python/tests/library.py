@@ -166,9 +166,10 @@ def _same_refusals(library, zone, same) -> None:
         same(f"free master {master}", _refused(zone.by_handle, master),
              library.call("size", HANDLE, master).number == 6)
     for block in zone.blocks:
-        at = block.offset + 2
-        same(f"pointer {at}", _refused(zone.by_pointer, at),
-             library.call("size", POINTER, at).number == 7)
+        # its start, where older images had a pointer, where one may be
+        for at in (block.offset, block.offset + 2, block.offset + 4):
+            same(f"pointer {at}", _refused(zone.by_pointer, at),
+                 library.call("size", POINTER, at).number == 7)
     for name in {0, 1, 2**32 - 1, *(name ^ 1 for name in zone.names)}:
         same(f"name {name}", _refused(zone.by_name, name),
              library.call("size", NAME, name).number == 13)

@@ -1,4 +1,5 @@
-"""Well-formedness once more, with document 02's pages, as plainly as can be.
+"""Well-formedness once more, with document 02's pages and header of fixed blocks,
+as plainly as can be.
 
 It is slow and names no rule; the tests hold the package's answer against it.
 """
@@ -48,6 +49,8 @@ def well_formed(image: bytes) -> bool:
             return False
     for offset, kind, size in blocks:
         if kind == 0 and any(b[offset + 4:offset + size]):
+            return False
+        if kind == 1 and any(b[offset + 2:offset + 4]):
             return False
         if kind == 2:
             handle = _at(b, offset + 2, 2)

@@ -40,7 +40,7 @@ class Command(unittest.TestCase):
 
     def test_table(self) -> None:
         plan = builder.Plan(4, (builder.relocatable(20, b"recipe01"),
-                                builder.free(8), builder.fixed(b"splice"),
+                                builder.free(8), builder.fixed(b"edge"),
                                 builder.free(4)), (16, 28, 24), b"beyond")
         done = self.run_it(self.file("zone.bin", plan.image()))
         self.assertEqual((done.returncode, done.stderr), (0, b""))
@@ -49,7 +49,7 @@ class Command(unittest.TestCase):
         self.assertIn(
             "32 relocatable 12 handle 20 8 72656369 70653031".split(), rows)
         self.assertIn("44 free 8 - - -".split(), rows)
-        self.assertIn("52 fixed 8 pointer 54 6 73706C69 6365".split(), rows)
+        self.assertIn("52 fixed 8 pointer 56 4 65646765".split(), rows)
         self.assertIn("0 32 52 20 8 1 8 0".split(), rows)
         self.assertIn("1 60 64 4 4 1 4 0".split(), rows)
         self.assertIn("free bytes: 12; largest bay's sum 8", text)
@@ -80,8 +80,7 @@ class Command(unittest.TestCase):
         self.assertIn("100 page 8 name 0 0 lock 0 -".split(), rows)
         self.assertIn("116 page 24 name 7 2 dirty lock 16 47524144 45204320 "
                       "31323020 47534D2E".split(), rows)
-        self.assertIn("108 fixed 8 pointer 110 - - 6 0A0B0C0D 0E0F".split(),
-                      rows)
+        self.assertIn("108 fixed 8 pointer 112 - - 4 0A0B0C0D".split(), rows)
 
     def test_standard_input(self) -> None:
         done = self.run_it("-", data=support.R1)
@@ -118,6 +117,13 @@ class Command(unittest.TestCase):
         self.fails(self.run_it("-", data=b""), "standard input", "offset 0",
                    "the buffer has at least 16 bytes")
 
+    def test_older_image(self) -> None:
+        image = builder.Plan(0, (builder.fixed(b"edge"),), ()).image()
+        image[18:24] = b"splice"
+        path = self.file("older.bin", image)
+        self.fails(self.run_it(path), path, "offset 18", "older image",
+                   "a fixed block's header becomes 4 bytes")
+
     def test_no_such_image(self) -> None:
         self.fails(self.run_it(os.path.join(self.place, "none")), "none")
         self.fails(self.run_it(self.place), self.place)
@@ -138,7 +144,7 @@ class Command(unittest.TestCase):
         self.fails(self.run_it("--mop", "a", "b"), "usage", status=2)
 
     def test_broken_pipe(self) -> None:
-        parts = (builder.free(4), builder.fixed(bytes(2))) * 3000
+        parts = (builder.free(4), builder.fixed(b"")) * 3000
         path = self.file("long.bin", builder.Plan(0, parts, ()).image())
         for argument in (path, "--help"):
             read_end, write_end = os.pipe()

@@ -52,7 +52,7 @@ class Map(unittest.TestCase):
         for expected in ("live master 32, holds 120", "live master 20, holds 68",
                          "free master 36, next 40", "free master 60, next 0",
                          "header: L 160, bkFst 64, m 12, hFstFree 36, clock 0",
-                         "fixed block at 152, size 8, pointer 154"):
+                         "fixed block at 152, size 8, pointer 156"):
             self.assertIn(expected, tips)
 
     def test_pages(self) -> None:
@@ -97,7 +97,7 @@ class Map(unittest.TestCase):
     def test_least_zones(self) -> None:
         chain = tuple(16 + 4 * i for i in range(17))
         for plan in (builder.Plan(0, (), ()), builder.Plan(17, (), chain),
-                     builder.Plan(0, (builder.fixed(bytes(2)),) * 3, ())):
+                     builder.Plan(0, (builder.fixed(b""),) * 3, ())):
             self.assertTrue(self.words(Zone(plan.image())))
 
     def test_strange_names(self) -> None:

@@ -15,7 +15,7 @@ def sample() -> builder.Plan:
     """Masters at 16 to 28, blocks at 32, 44, 52, 60 and 68; L is 72."""
     return builder.Plan(4, (builder.relocatable(20, b"profiles"),
                             builder.free(8),
-                            builder.fixed(b"splice"),
+                            builder.fixed(b"edge"),
                             builder.relocatable(16, b"mark"),
                             builder.free(4)), (28, 24))
 
@@ -113,7 +113,7 @@ class EveryRule(unittest.TestCase):
     def test_page_size(self) -> None:
         self.names(put(pages().image(), 20, 0xC002, 2), rules.PAGE_SIZE, 20)
         # Also where no byte of a name follows.
-        last = builder.Plan(0, (builder.fixed(bytes(2)),) * 2, ()).image()
+        last = builder.Plan(0, (builder.fixed(b""),) * 2, ()).image()
         self.names(put(last, 20, 0xC002, 2), rules.PAGE_SIZE, 20)
 
     def test_status(self) -> None:
@@ -149,6 +149,23 @@ class EveryRule(unittest.TestCase):
         for offset in range(48, 52):
             self.names(put(sample().image(), offset, 1, 1),
                        rules.FREE_ZEROS, offset)
+
+    def test_second_word(self) -> None:
+        for bit in range(16):
+            self.names(put(sample().image(), 54, 1 << bit, 2),
+                       rules.SECOND_WORD, 54)
+        # Also where no data follow, up to L.
+        last = builder.Plan(0, (builder.fixed(b""),) * 2, ()).image()
+        self.names(put(last[:], 18, 1, 2), rules.SECOND_WORD, 18)
+        self.names(put(last[:], 22, 0xFFFF, 2), rules.SECOND_WORD, 22)
+
+    def test_older_image(self) -> None:
+        # A fixed block had its data from byte 2: six bytes here.
+        image = sample().image()
+        image[54:60] = b"splice"
+        self.names(image, rules.SECOND_WORD, 54)
+        image[54:60] = b"\0\0lice"
+        self.assertEqual(Zone(image).read_pointer(56), b"lice")
 
     def test_handle(self) -> None:
         for handle in (0, 12, 18, 32, 0xFFFC):
@@ -187,6 +204,7 @@ class ReadingOrder(unittest.TestCase):
             (28, 0, 4, rules.COUNT, 24),
             (28, 8, 4, rules.CHAIN_MASTERS, 28),
             (62, 2, 2, rules.HANDLE, 62),
+            (54, 1, 2, rules.SECOND_WORD, 54),
             (51, 1, 1, rules.FREE_ZEROS, 51),
             (44, 0, 4, rules.SIZES, 44),
             (32, 0xC0, 1, rules.STATUS, 38),
@@ -277,6 +295,12 @@ class Errors(unittest.TestCase):
         self.assertIn("offset 50 (0x32)", str(error))
         self.assertIn("the pages at 20 and 48 both have name 7", str(error))
         self.assertIn("names are distinct", str(error))
+
+    def test_older_image(self) -> None:
+        error = fault(put(sample().image(), 54, 0x7370, 2))
+        self.assertIn("offset 54 (0x36)", str(error))
+        self.assertIn("the fixed block at 52 has second word 0x7370, where an "
+                      "older image has data", str(error))
 
     def test_pickled(self) -> None:
         error = pickle.loads(pickle.dumps(fault(b"")))

@@ -47,22 +47,22 @@ class RigSheet(unittest.TestCase):
         self.assertEqual(zone.sum(), (0, 0))
 
     def test_r5_fixed(self) -> None:
-        plan = builder.Plan(4, (builder.free(24), builder.fixed(b"splice")),
+        plan = builder.Plan(4, (builder.free(20), builder.fixed(b"splices!")),
                             (16, 20, 24, 28))
         image = plan.image()
-        self.assertEqual(image[56:58].hex(), "4004")
+        self.assertEqual(image[52:56].hex(), "40060000")
         zone = Zone(image)
-        self.assertEqual(zone.pointers, (58,))
-        self.assertEqual(zone.by_pointer(58).data_size, 6)
-        self.assertEqual(zone.read_pointer(58), b"splice")
+        self.assertEqual(zone.pointers, (56,))
+        self.assertEqual(zone.by_pointer(56).data_size, 8)
+        self.assertEqual(zone.read_pointer(56), b"splices!")
 
     def test_r6_bays_are_not_added(self) -> None:
-        # Fixed 0, 10, 0 at 62, 50, 46; then the one at 50 is freed.
-        plan = builder.Plan(4, (builder.free(12), builder.fixed(bytes(2)),
-                                builder.free(12), builder.fixed(bytes(2))),
+        # Fixed 0, 8, 0 at 64, 52, 48; then the one at 52 is freed.
+        plan = builder.Plan(4, (builder.free(12), builder.fixed(b""),
+                                builder.free(12), builder.fixed(b"")),
                             (16, 20, 24, 28))
         zone = Zone(plan.image())
-        self.assertEqual(zone.pointers, (46, 62))
+        self.assertEqual(zone.pointers, (48, 64))
         self.assertEqual([(bay.start, bay.end, bay.sum) for bay in zone.bays],
                          [(32, 44, 12), (48, 60, 12), (64, 64, 0)])
         self.assertEqual(zone.sum(), (24, 12))
@@ -89,8 +89,8 @@ class Grown(unittest.TestCase):
                              self.full.read_handle(handle))
         self.assertEqual(self.grown.handles, (*self.full.handles, 32))
         self.assertEqual(self.grown.pointers, self.full.pointers)
-        self.assertEqual(self.grown.read_pointer(154),
-                         self.full.read_pointer(154))
+        self.assertEqual(self.grown.read_pointer(156),
+                         self.full.read_pointer(156))
 
     def test_both_ways(self) -> None:
         moved = {handle: self.grown.by_handle(handle).offset
@@ -204,7 +204,7 @@ class RandomZones(unittest.TestCase):
             self.assertEqual(zone.by_handle(part.handle), block)
             self.assertIsNone(block.pointer)
         elif part.kind == builder.FIXED:
-            self.assertEqual(block.pointer, block.offset + 2)
+            self.assertEqual(block.pointer, block.offset + 4)
             self.assertEqual(zone.read_pointer(block.pointer), part.data)
             self.assertIsNone(block.handle)
         elif part.kind == builder.PAGE:
@@ -249,7 +249,7 @@ class Census(unittest.TestCase):
     def counts(self, *sizes: int):
         parts = []
         for size in sizes:
-            parts += [builder.free(size), builder.fixed(bytes(2))]
+            parts += [builder.free(size), builder.fixed(b"")]
         return Zone(builder.Plan(0, tuple(parts), ()).image()).census()
 
     def test_strata(self) -> None:
@@ -277,9 +277,9 @@ class Limits(unittest.TestCase):
 
     def test_largest_blocks(self) -> None:
         plan = builder.Plan(1, (builder.relocatable(16, bytes(32_760)),
-                                builder.fixed(bytes(32_762))), ())
+                                builder.fixed(bytes(32_760))), ())
         zone = Zone(plan.image())
-        self.assertEqual([b.data_size for b in zone.blocks], [32_760, 32_762])
+        self.assertEqual([b.data_size for b in zone.blocks], [32_760, 32_760])
 
     def test_bytes_beyond_the_limit_are_not_read(self) -> None:
         image = support.R1 + b"\xff" * 1_100_000
@@ -304,7 +304,8 @@ class Images(unittest.TestCase):
 class Questions(unittest.TestCase):
     def setUp(self) -> None:
         plan = builder.Plan(3, (builder.relocatable(20, b"abcd"),
-                                builder.free(4), builder.fixed(b"123456")),
+                                builder.free(4), builder.fixed(b"12345678"),
+                                builder.fixed(b""), builder.fixed(b"")),
                             (24, 16))
         self.zone = Zone(plan.image())
 
@@ -316,13 +317,26 @@ class Questions(unittest.TestCase):
     def test_stretches(self) -> None:
         self.assertEqual(self.zone.read_handle(20, 1, 2), b"bc")
         self.assertEqual(self.zone.read_handle(20, 4), b"")
-        self.assertEqual(self.zone.read_pointer(42, 2), b"3456")
+        self.assertEqual(self.zone.read_pointer(44, 2), b"345678")
+
+    def test_pointers_of_no_data(self) -> None:
+        # The first is where the next block begins, the second is L.
+        self.assertEqual((self.zone.pointers, self.zone.length),
+                         ((44, 56, 60), 60))
+        for pointer in (56, 60):
+            block = self.zone.by_pointer(pointer)
+            self.assertEqual((block.end, block.data_offset, block.data_size),
+                             (pointer, pointer, 0))
+            self.assertEqual(self.zone.read_pointer(pointer), b"")
+            self.assertEqual(self.zone.read_pointer(pointer, 0, 0), b"")
+            self.refused("offset + count, unwrapped, above data size",
+                         self.zone.read_pointer, pointer, 0, 1)
 
     def test_refusals(self) -> None:
         zone = self.zone
         for handle in (0, 16, 24, 28, 65_556, -4, 2**32 + 20):
             self.refused("handle not live", zone.read_handle, handle)
-        for pointer in (0, 20, 32, 40, 44, -2):
+        for pointer in (0, 20, 32, 40, 42, 48, 52, 54, 58, 64, -4):
             self.refused("pointer not that of a fixed block",
                          zone.read_pointer, pointer)
         past = "offset + count, unwrapped, above data size"
@@ -338,7 +352,7 @@ class Roster(unittest.TestCase):
         # The blocks stand in another order, and in two bays.
         plan = builder.Plan(5, (builder.relocatable(24, bytes(4)),
                                 builder.relocatable(16, bytes(8)),
-                                builder.fixed(bytes(2)), builder.free(8),
+                                builder.fixed(b""), builder.free(8),
                                 builder.relocatable(20, b"")), (32, 28))
         zone = Zone(plan.image())
         self.assertEqual([b.handle for b in zone.blocks if b.handle],

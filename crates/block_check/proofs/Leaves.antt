@@ -16,7 +16,7 @@ use Rattle.bigendian.proofs.Parts.{drop-take}
 use Rattle.memory.specs.Zeros.{allZero}
 use Rattle.format.proofs.Bool.{and-left, and-right, is-false, not-both}
 use Rattle.format.specs.WellFormed.{headerOk, lengthField, firstField, mastersField, typeOf, sizeOf, handleOf, statusOf, isFree, isReloc, isPage, splitBlocks, isMaster, relocs}
-use Rattle.format.specs.OneWalk.{links, typeRule, freeRule, relocRule, pageRule, blockOk, blocksOk, ruleOf}
+use Rattle.format.specs.OneWalk.{links, typeRule, freeRule, fixedRule, relocRule, pageRule, blockOk, blocksOk, ruleOf}
 use Rattle.format.proofs.Masters.{is-master}
 use Rattle.format.proofs.Walk.{is-first, first-rule, turn, stop, end, end-count}
 use Rattle.format.specs.Steps.{GoodSize}
@@ -88,33 +88,34 @@ pub page-rule : (z : List ℕ) (at n v : ℕ) → n ≡ sizeOf (drop at z) → p
 unfolding pageRule statusOf
 page-rule z at n v e h w = rw (← e, le-leb pageHeader n h, drop-drop statusAt at z, w)
 
-module _ (k : ℕ) (free reloc page : Bool) where
-  pub rule-free : (r : List ℕ) (t : Bool) → k ≡ typeOf r → k ≡ freeCode → t ≡ free → t ≡ typeRule (typeOf r) free reloc page
+module _ (k : ℕ) (free fixed reloc page : Bool) where
+  pub rule-free : (r : List ℕ) (t : Bool) → k ≡ typeOf r → k ≡ freeCode → t ≡ free → t ≡ typeRule (typeOf r) free fixed reloc page
   unfolding typeRule
   rule-free r t e q h = rw (← e, q) h
 
-  pub rule-reloc : (r : List ℕ) (t : Bool) → k ≡ typeOf r → k ≡ relocCode → t ≡ reloc → t ≡ typeRule (typeOf r) free reloc page
+  pub rule-reloc : (r : List ℕ) (t : Bool) → k ≡ typeOf r → k ≡ relocCode → t ≡ reloc → t ≡ typeRule (typeOf r) free fixed reloc page
   unfolding typeRule
   rule-reloc r t e q h = rw (← e, q) h
 
-  pub rule-page : (r : List ℕ) (t : Bool) → k ≡ typeOf r → k ≡ pageCode → t ≡ page → t ≡ typeRule (typeOf r) free reloc page
+  pub rule-page : (r : List ℕ) (t : Bool) → k ≡ typeOf r → k ≡ pageCode → t ≡ page → t ≡ typeRule (typeOf r) free fixed reloc page
   unfolding typeRule
   rule-page r t e q h = rw (← e, q) h
 
-  pub rule-none : (r : List ℕ) → k ≡ typeOf r → fixedCode < k → (k ≡ relocCode → ⊥) → (k ≡ pageCode → ⊥) → false ≡ typeRule (typeOf r) free reloc page
+  pub rule-none : (r : List ℕ) → k ≡ typeOf r → fixedCode < k → (k ≡ relocCode → ⊥) → (k ≡ pageCode → ⊥) → false ≡ typeRule (typeOf r) free fixed reloc page
   unfolding typeRule
   rule-none r e l a b = rw (← e) (go k l a b)
     where
-      go : (k : ℕ) → fixedCode < k → (k ≡ relocCode → ⊥) → (k ≡ pageCode → ⊥) → false ≡ typeRule k free reloc page
+      go : (k : ℕ) → fixedCode < k → (k ≡ relocCode → ⊥) → (k ≡ pageCode → ⊥) → false ≡ typeRule k free fixed reloc page
       go zero l a b = let x : ⊥ = omega arith in absurd x
       go (suc zero) l a b = let x : ⊥ = omega arith in absurd x
       go (suc (suc zero)) l a b = absurd (a refl)
       go (suc (suc (suc zero))) l a b = absurd (b refl)
       go (suc (suc (suc (suc k)))) l a b = refl
 
-  pub rule-fixed : (r : List ℕ) → k ≡ typeOf r → k ≤ fixedCode → (k ≡ freeCode → ⊥) → true ≡ typeRule (typeOf r) free reloc page
-  unfolding typeRule
-  rule-fixed r e l a = let i : typeOf r ≡ fixedCode = omega arith in rw i
+pub rule-fixed : (z : List ℕ) (at k v : ℕ) (free reloc page : Bool) → v ≡ fromBE (slice z (at + tagAt) 2) → k ≡ typeOf (drop at z) → k ≤ fixedCode → (k ≡ freeCode → ⊥)
+    → eqb v 0 ≡ typeRule (typeOf (drop at z)) free (fixedRule (drop at z)) reloc page
+unfolding handleOf typeRule
+rule-fixed z at k v free reloc page e q l a = let i : typeOf (drop at z) ≡ fixedCode = omega arith in rw (i, drop-drop tagAt at z, ← e)
 
 -- ---- the test of a block
 

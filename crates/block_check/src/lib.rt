@@ -119,7 +119,7 @@ fn rule_ok(z: &[u8], first: usize, prev: bool, at: usize, n: usize) -> bool
     if k == BlockType::FREE_CODE {
         return free_ok(z, at, n, prev);
     }
-    true
+    bigendian::get2(z, at + BlockType::TAG_AT) == 0
 }
 
 // The size of the block at `at` where it obeys the rules, else 0.

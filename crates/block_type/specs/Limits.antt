@@ -17,13 +17,13 @@ relocCode = 2
 abbrev pub pageCode : ℕ
 pageCode = 3
 
--- ---- header lengths: a free block has "a 4-byte size", a fixed one "data from byte 2", a relocatable one "data from byte 4"
+-- ---- header lengths: a free block has "a 4-byte size", a relocatable one "data from byte 4"; of a fixed one "data start at byte 4" (document 02, U6)
 
 abbrev pub freeHeader : ℕ
 freeHeader = 4
 
 abbrev pub fixedHeader : ℕ
-fixedHeader = 2
+fixedHeader = 4
 
 abbrev pub relocHeader : ℕ
 relocHeader = 4
@@ -32,7 +32,7 @@ relocHeader = 4
 abbrev pub pageHeader : ℕ
 pageHeader = 8
 
--- "Relocatable: the same 14 bits, then the handle (2 bytes)"; of a page "a 4-byte name, a status word"
+-- "Relocatable: the same 14 bits, then the handle (2 bytes)"; of a fixed block "the second word"; of a page "a 4-byte name, a status word"
 abbrev pub tagAt : ℕ
 tagAt = 2
 
@@ -75,10 +75,11 @@ handleRange = 65536
 abbrev pub argumentRange : ℕ
 argumentRange = 4294967296
 
--- ---- the largest data sizes that may be asked for: "c above 32,760 (relocatable, resize) or 32,762 (fixed)" is refused
+-- ---- the largest data sizes that may be asked for: "c above 32,760 (relocatable, resize)", "for fixed blocks: c above 32,760" (document 02, U6)
+-- is refused
 
 abbrev pub fixedLimit : ℕ
-fixedLimit = 32762
+fixedLimit = 32760
 
 abbrev pub relocLimit : ℕ
 relocLimit = 32760
@@ -93,7 +94,7 @@ pageLimit = 32756
 abbrev pub up4 : ℕ → ℕ
 up4 k = (k + 3) / 4 * 4
 
--- "For c data bytes a fixed block needs up4(2 + c), a relocatable one up4(4 + c)"
+-- "For c data bytes .. a relocatable one [needs] up4(4 + c)"; of a fixed one "The need is up4(4 + c)" (document 02, U6)
 abbrev pub fixedNeed : ℕ → ℕ
 fixedNeed c = up4 (fixedHeader + c)
 

@@ -23,13 +23,14 @@ impl BlockType {
 
     pub const FREE_HEADER: usize = 4;
 
-    pub const FIXED_HEADER: usize = 2;
+    // document 02, U6: "A fixed block's header becomes 4 bytes"
+    pub const FIXED_HEADER: usize = 4;
 
     pub const RELOCATABLE_HEADER: usize = 4;
 
     pub const PAGE_HEADER: usize = 8;
 
-    // "Relocatable: the same 14 bits, then the handle (2 bytes)"; of a page "a 4-byte name, a status word"
+    // "Relocatable: the same 14 bits, then the handle (2 bytes)"; of a fixed block "the second word"; of a page "a 4-byte name, a status word"
     pub const TAG_AT: usize = 2;
 
     pub const STATUS_AT: usize = 6;
@@ -53,7 +54,8 @@ impl BlockType {
     // "Sizes include the header, are multiples of 4 and at least 4"
     pub const SMALLEST: usize = 4;
 
-    pub const FIXED_LIMIT: u32 = 32762;
+    // "(3 for fixed blocks: c above 32,760.)"
+    pub const FIXED_LIMIT: u32 = 32760;
 
     pub const RELOCATABLE_LIMIT: u32 = 32760;
 

@@ -65,7 +65,8 @@ pub record Fixed : Type 0 where
 abbrev pub fsize : Fixed → ℕ
 fsize x = fixedHeader + length (x .bytes)
 
--- "Answers the data offset, its pointer"; "A pointer is a fixed block's place plus 2"
+-- "Answers the data offset, its pointer"; of a fixed block "data start at byte 4", and "Ledger lists are read with the new pointers and sizes"
+-- (document 02, U6)
 abbrev pub pointer : Fixed → ℕ
 pointer x = x .place + fixedHeader
 

@@ -87,7 +87,7 @@ abbrev pub badInitialize : ℕ → ℕ → ℕ → Cause
 badInitialize buf n m =
     cause 2 (not (eqb (n % 4) 0) || (below n (firstBlock m) || (below buf n || (below longestZone n || below mostMasters m))))
 
--- 3: "c above 32,760 (relocatable, resize) or 32,762 (fixed)"; "Create gives 3 for c above 32,756" (document 02, U5)
+-- 3: "c above 32,760 (relocatable, resize)"; "Create gives 3 for c above 32,756" (document 02, U5); "3 for fixed blocks: c above 32,760" (U6)
 abbrev pub tooLarge : ℕ → ℕ → Cause
 tooLarge limit c = cause 3 (below limit c)
 

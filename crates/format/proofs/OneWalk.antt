@@ -10,9 +10,9 @@ use native.Mathlib.Decide.{ℕ-discrete}
 use lib.ListN.{length, drop}
 use lib.Dec.{eqb, leb, eqb·suc-suc}
 use borrow.Author.Tests.{eq-eqb, ne-eqb, eqb-true, le-leb, lt-leb, leb-true}
-use Rattle.block_type.specs.Limits.{freeCode, relocCode, pageCode}
+use Rattle.block_type.specs.Limits.{freeCode, fixedCode, relocCode, pageCode}
 use Rattle.format.proofs.Bool.{and-left, and-right, is-false}
-use Rattle.format.specs.WellFormed.{headerOk, firstField, mastersField, chainField, handleOf, isFree, isReloc, isPage, splitBlocks, relocs, names, distinct, every, typeOk, sizeOk, tileOk, zerosOk, pageSizeOk, statusOk, neighboursOk, isMaster, masterAt, handlesOk, linked, chainFrom, countsOk, zoneOf, blockRules, zoneRules, wellFormed}
+use Rattle.format.specs.WellFormed.{headerOk, firstField, mastersField, chainField, handleOf, isFree, isFixed, isReloc, isPage, splitBlocks, relocs, names, distinct, every, typeOk, sizeOk, tileOk, zerosOk, secondOk, pageSizeOk, statusOk, neighboursOk, isMaster, masterAt, handlesOk, linked, chainFrom, countsOk, zoneOf, blockRules, zoneRules, wellFormed}
 use Rattle.format.specs.OneWalk.{links, typeRule, freeRule, relocRule, pageRule, blockOk, blocksOk, bodyOk}
 
 -- ---- blocks
@@ -22,10 +22,10 @@ interchange true x true y = refl
 interchange true x false y = and-false x
 interchange false x b y = refl
 
--- eight rules, each of a block (a to h) and of the blocks behind it (q to x): all of the block, then all of those behind it
-block-first : (a q b r c s d t e u f v g w h x : Bool)
-    → ((a && q) && (b && r) && (c && s) && (d && t) && (e && u) && (f && v) && (g && w) && (h && x)) ≡ ((a && b && c && d && e && f && g && h) && (q && r && s && t && u && v && w && x))
-block-first a q b r c s d t e u f v g w h x =
+-- nine rules, each of a block (a to i) and of the blocks behind it (q to y): all of the block, then all of those behind it
+block-first : (a q b r c s d t e u f v g w h x i y : Bool)
+    → ((a && q) && (b && r) && (c && s) && (d && t) && (e && u) && (f && v) && (g && w) && (h && x) && (i && y)) ≡ ((a && b && c && d && e && f && g && h && i) && (q && r && s && t && u && v && w && x && y))
+block-first a q b r c s d t e u f v g w h x i y =
     rw (
       interchange a q b r,
       interchange (a && b) (q && r) c s,
@@ -34,31 +34,33 @@ block-first a q b r c s d t e u f v g w h x =
       interchange (a && b && c && d && e) (q && r && s && t && u) f v,
       interchange (a && b && c && d && e && f) (q && r && s && t && u && v) g w,
       interchange (a && b && c && d && e && f && g) (q && r && s && t && u && v && w) h x,
+      interchange (a && b && c && d && e && f && g && h) (q && r && s && t && u && v && w && x) i y,
     )
 
 -- the walk asks for a block's type last: t goes behind the two size rules p, q and the tile rule l
-type-last : (t p q l d e f g h : Bool) → (t && (p && q) && l && d && e && f && g && h) ≡ (p && (q && (l && (t && d && e && f && g && h))))
-type-last true true true true d e f g h = refl
-type-last true true true false d e f g h = refl
-type-last true true false l d e f g h = refl
-type-last true false q l d e f g h = refl
-type-last false p q l d e f g h = simp and-false
+type-last : (t p q l d c e f g h : Bool) → (t && (p && q) && l && d && c && e && f && g && h) ≡ (p && (q && (l && (t && d && c && e && f && g && h))))
+type-last true true true true d c e f g h = refl
+type-last true true true false d c e f g h = refl
+type-last true true false l d c e f g h = refl
+type-last true false q l d c e f g h = refl
+type-last false p q l d c e f g h = simp and-false
 
 -- the rules that depend on the type k, by type; a page's size and status are two rules
-by-type : (k : ℕ) (prev zeros large status reloc : Bool)
-    → (leb k pageCode && (not (eqb k freeCode) || zeros) && (not (eqb k pageCode) || large) && (not (eqb k pageCode) || status) && not (prev && eqb k freeCode) && (not (eqb k relocCode) || reloc))
-    ≡ typeRule k (not prev && zeros) reloc (large && status)
+by-type : (k : ℕ) (prev zeros second large status reloc : Bool)
+    → (leb k pageCode && (not (eqb k freeCode) || zeros) && (not (eqb k fixedCode) || second) && (not (eqb k pageCode) || large) && (not (eqb k pageCode) || status) && not (prev && eqb k freeCode) && (not (eqb k relocCode) || reloc))
+    ≡ typeRule k (not prev && zeros) second reloc (large && status)
 unfolding typeRule
-by-type zero true true large status reloc = refl
-by-type zero true false large status reloc = refl
-by-type zero false true large status reloc = refl
-by-type zero false false large status reloc = refl
-by-type (suc zero) prev zeros large status reloc = simp and-false
-by-type (suc (suc zero)) prev zeros large status reloc = simp and-false
-by-type (suc (suc (suc zero))) prev zeros true true reloc = simp and-false
-by-type (suc (suc (suc zero))) prev zeros true false reloc = simp and-false
-by-type (suc (suc (suc zero))) prev zeros false status reloc = refl
-by-type (suc (suc (suc (suc k)))) prev zeros large status reloc = rw (lt-leb (suc (suc (suc (suc k)))) pageCode (omega arith))
+by-type zero true true second large status reloc = refl
+by-type zero true false second large status reloc = refl
+by-type zero false true second large status reloc = refl
+by-type zero false false second large status reloc = refl
+by-type (suc zero) prev zeros true large status reloc = simp and-false
+by-type (suc zero) prev zeros false large status reloc = refl
+by-type (suc (suc zero)) prev zeros second large status reloc = simp and-false
+by-type (suc (suc (suc zero))) prev zeros second true true reloc = simp and-false
+by-type (suc (suc (suc zero))) prev zeros second true false reloc = simp and-false
+by-type (suc (suc (suc zero))) prev zeros second false status reloc = refl
+by-type (suc (suc (suc (suc k)))) prev zeros second large status reloc = rw (lt-leb (suc (suc (suc (suc k)))) pageCode (omega arith))
 
 module _ (z : List ℕ) (first : ℕ) where
   block-walk : (prev : Bool) (at : ℕ) (b : List ℕ)
@@ -66,16 +68,17 @@ module _ (z : List ℕ) (first : ℕ) where
       && sizeOk b
       && tileOk b
       && zerosOk b
+      && secondOk b
       && pageSizeOk b
       && statusOk b
       && not (prev && isFree b)
       && (not (isReloc b) || relocRule z first at (handleOf b)))
       ≡ blockOk z first prev at b
-  unfolding typeOk sizeOk tileOk zerosOk pageSizeOk statusOk isFree isReloc isPage blockOk freeRule pageRule
+  unfolding typeOk sizeOk tileOk zerosOk secondOk pageSizeOk statusOk isFree isFixed isReloc isPage blockOk freeRule pageRule
   block-walk prev at b = rw (type-last, by-type)
 
   pub blocks-walk : (bs : List (List ℕ)) (prev : Bool) (at : ℕ)
-      → (every typeOk bs && every sizeOk bs && every tileOk bs && every zerosOk bs && every pageSizeOk bs && every statusOk bs && neighboursOk prev bs && handlesOk z first at bs)
+      → (every typeOk bs && every sizeOk bs && every tileOk bs && every zerosOk bs && every secondOk bs && every pageSizeOk bs && every statusOk bs && neighboursOk prev bs && handlesOk z first at bs)
       ≡ blocksOk z first prev at bs
   unfolding every neighboursOk handlesOk blocksOk relocRule
   blocks-walk [] prev at = refl

@@ -7,24 +7,27 @@ use lib.ListN.{length, drop}
 use lib.Dec.{eqb, leb, ltb}
 use Rattle.memory.specs.Zeros.{allZero}
 use Rattle.block_type.specs.Limits.{freeHeader, relocHeader, pageHeader, lockBit, stampRange, smallestBlock}
-use Rattle.format.specs.WellFormed.{typeOf, sizeOf, handleOf, statusOf, isFree, isMaster, masterAt, splitBlocks, relocs, names, distinct}
+use Rattle.format.specs.WellFormed.{typeOf, sizeOf, handleOf, secondWord, statusOf, isFree, isMaster, masterAt, splitBlocks, relocs, names, distinct}
 
 -- n masters are visited from h on, and the last holds 0
 unfoldable pub links : List ℕ → ℕ → ℕ → ℕ → Bool
 links z first zero h = eqb h 0
 links z first (suc n) h = isMaster first h && links z first n (masterAt z h)
 
--- by type: a free block's rule, nothing more for a fixed one, a relocatable one's rule, a page's; there is no type 4
-unfoldable pub typeRule : ℕ → Bool → Bool → Bool → Bool
-typeRule zero free reloc page = free
-typeRule (suc zero) free reloc page = true
-typeRule (suc (suc zero)) free reloc page = reloc
-typeRule (suc (suc (suc zero))) free reloc page = page
-typeRule (suc (suc (suc (suc k)))) free reloc page = false
+-- by type: the rule of a free, a fixed, a relocatable block, of a page; there is no type 4
+unfoldable pub typeRule : ℕ → Bool → Bool → Bool → Bool → Bool
+typeRule zero free fixed reloc page = free
+typeRule (suc zero) free fixed reloc page = fixed
+typeRule (suc (suc zero)) free fixed reloc page = reloc
+typeRule (suc (suc (suc zero))) free fixed reloc page = page
+typeRule (suc (suc (suc (suc k)))) free fixed reloc page = false
 
 -- prev: the block before is free
 unfoldable pub freeRule : Bool → List ℕ → Bool
 freeRule prev b = not prev && allZero (drop freeHeader b)
+
+abbrev pub fixedRule : List ℕ → Bool
+fixedRule r = eqb (secondWord r) 0
 
 unfoldable pub relocRule : List ℕ → ℕ → ℕ → ℕ → Bool
 relocRule z first at h = isMaster first h && eqb (masterAt z h) (at + relocHeader)
@@ -34,7 +37,7 @@ pageRule r = leb pageHeader (sizeOf r) && ltb (statusOf r % lockBit) stampRange
 
 -- the rule of a block b of type k at offset `at`, whose header is read from r: the block, or the bytes from it on
 abbrev pub ruleOf : ℕ → List ℕ → ℕ → Bool → ℕ → List ℕ → List ℕ → Bool
-ruleOf k z first prev at b r = typeRule k (freeRule prev b) (relocRule z first at (handleOf r)) (pageRule r)
+ruleOf k z first prev at b r = typeRule k (freeRule prev b) (fixedRule r) (relocRule z first at (handleOf r)) (pageRule r)
 
 -- the block b at offset `at`
 unfoldable pub blockOk : List ℕ → ℕ → Bool → ℕ → List ℕ → Bool

@@ -1,4 +1,4 @@
--- Document 01, 'Bytes of a zone', with document 02's U5: the fields, the blocks, and what a well-formed zone is, rule by rule, as a test that computes.
+-- Document 01, 'Bytes of a zone', with document 02's U5 and U6: the fields, the blocks, and what a well-formed zone is, rule by rule, as a test that computes.
 -- A block is the list of its own bytes; `splitBlocks` cuts them out. Type, size, handle, name and status read a block's first bytes
 -- alone, so they can be asked of the bytes from a block on, too.
 use Prim.Native.Nat.{ℕ, zero, suc, _+_, _*_, _-_, _/_, _%_}
@@ -9,7 +9,7 @@ use lib.ListN.{length, getD, take, drop}
 use lib.Dec.{eqb, leb, ltb}
 use Rattle.bigendian.specs.BigEndian.{fromBE, slice}
 use Rattle.memory.specs.Zeros.{allZero}
-use Rattle.block_type.specs.Limits.{freeCode, relocCode, pageCode, freeHeader, relocHeader, pageHeader, zoneHeader, masterSize, firstBlock, longestZone, mostMasters, typeUnit, smallestBlock, tagAt, statusAt, lockBit, stampRange, typeByteUnit, lengthAt, firstAt, mastersAt, chainAt, clockAt, zeroAt}
+use Rattle.block_type.specs.Limits.{freeCode, fixedCode, relocCode, pageCode, freeHeader, relocHeader, pageHeader, zoneHeader, masterSize, firstBlock, longestZone, mostMasters, typeUnit, smallestBlock, tagAt, statusAt, lockBit, stampRange, typeByteUnit, lengthAt, firstAt, mastersAt, chainAt, clockAt, zeroAt}
 use Rattle.format.specs.Occurs.{occurs}
 
 -- ---- the header: "at 0 the length L (4 bytes); at 4 bkFst, .. (4); at 8 m, .. (4); at 12 hFstFree, .. (2)"
@@ -58,6 +58,10 @@ sizeOf b = cond (eqb (typeOf b) freeCode) (fromBE (take 4 b) * 2) (fromBE (take 
 unfoldable pub handleOf : List ℕ → ℕ
 handleOf b = fromBE (slice b tagAt 2)
 
+-- of a fixed block: "the second word" (document 02, U6), where a relocatable one has its handle
+abbrev pub secondWord : List ℕ → ℕ
+secondWord b = handleOf b
+
 -- of a page: "a 4-byte name, a status word" (document 02, U5)
 unfoldable pub nameOf : List ℕ → ℕ
 nameOf b = fromBE (slice b tagAt 4)
@@ -67,6 +71,9 @@ statusOf b = fromBE (slice b statusAt 2)
 
 unfoldable pub isFree : List ℕ → Bool
 isFree b = eqb (typeOf b) freeCode
+
+unfoldable pub isFixed : List ℕ → Bool
+isFixed b = eqb (typeOf b) fixedCode
 
 unfoldable pub isReloc : List ℕ → Bool
 isReloc b = eqb (typeOf b) relocCode
@@ -109,6 +116,10 @@ tileOk b = eqb (sizeOf b) (length b)
 -- "Free: .. all later bytes zero"
 unfoldable pub zerosOk : List ℕ → Bool
 zerosOk b = not (isFree b) || allZero (drop freeHeader b)
+
+-- "A fixed block's header becomes 4 bytes, the second word zero" (document 02, U6)
+unfoldable pub secondOk : List ℕ → Bool
+secondOk b = not (isFixed b) || eqb (secondWord b) 0
 
 -- of a page: "its size is at least 8"
 unfoldable pub pageSizeOk : List ℕ → Bool
@@ -188,6 +199,7 @@ blockRules z first bs =
     && every sizeOk bs
     && every tileOk bs
     && every zerosOk bs
+    && every secondOk bs
     && every pageSizeOk bs
     && every statusOk bs
     && neighboursOk false bs

@@ -108,8 +108,9 @@ pub extern "C" fn nafelode_allocate_relocatable(zone: &mut [u8], c: u32) -> Told
 }
 
 // Allocates a fixed block for c data bytes, which are zero. It never moves until it is freed.
-// Value: the pointer, which is the offset of its first data byte from the zone's first byte.
-// Refused: 1 zone not well-formed, 3 c above 32762, 5 no space.
+// Value: the pointer, which is the offset of its first data byte from the zone's first byte, a multiple of 4. Of a block without data it is the
+// block's end, which may be L.
+// Refused: 1 zone not well-formed, 3 c above 32760, 5 no space.
 #[no_mangle]
 pub extern "C" fn nafelode_allocate_fixed(zone: &mut [u8], c: u32) -> Told
     ensures { λ r. ⌜ Promise (allocate-fixed c) (now (zone .entry)) (told (r .number) (r .value)) (now (zone .exit)) ⌝ }

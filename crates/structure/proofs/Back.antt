@@ -14,8 +14,8 @@ use Rattle.bigendian.specs.BigEndian.{fromBE, toBE, slice}
 use Rattle.bigendian.proofs.Laws.{length-toBE, be-front}
 use Rattle.block_type.specs.Limits.{freeCode, fixedCode, fixedHeader, fixedLimit, relocHeader, zoneHeader, freeHeader, handleRange, masterSize, smallestBlock, argumentRange, tagAt, typeUnit}
 use Rattle.memory.specs.Zeros.{allZero}
-use Rattle.format.specs.WellFormed.{typeOf, sizeOf, nameOf, isFree, isReloc, isPage, isMaster, masterAt, relocs, names, offsets, chain}
-use Rattle.format.specs.OneWalk.{links, typeRule, freeRule, relocRule, blockOk, blocksOk, ruleOf}
+use Rattle.format.specs.WellFormed.{typeOf, sizeOf, handleOf, nameOf, isFree, isReloc, isPage, isMaster, masterAt, relocs, names, offsets, chain}
+use Rattle.format.specs.OneWalk.{links, typeRule, freeRule, fixedRule, relocRule, blockOk, blocksOk, ruleOf}
 use Rattle.format.proofs.Masters.{Master}
 use Rattle.format.proofs.Count.{one-same}
 use Rattle.structure.specs.Structure.{Block, fixed, size, code, fixedTag, encodeBlock, decodeBlock, byType, sizes, headOf, placeOf, nextOf, words, join, cell, handlesOf, namesIn}
@@ -92,6 +92,10 @@ free-good : (n : ℕ) (prev : Bool) → prev ≡ false → freeRule prev (encode
 unfolding encodeBlock freeRule
 free-good n prev e = rw (e, drop-at (toBE 4 (n / 2)) (replicate (n - freeHeader) 0) freeHeader (length-toBE 4 (n / 2))) (all-zeros (n - freeHeader))
 
+fixed-good : (d : List ℕ) → fixedRule (encodeBlock (fixed d)) ≡ true
+unfolding encodeBlock handleOf fromBE
+fixed-good d = let v = fixedCode * typeUnit + (fixedHeader + length d) / 2 in rw (drop-at (toBE 2 v) (fixedTag ++ d) tagAt (length-toBE 2 v))
+
 reloc-good : (z : List ℕ) (first at h : ℕ) → Master first h → masterAt z h ≡ at + relocHeader → relocRule z first at h ≡ true
 unfolding relocRule
 reloc-good z first at h m e = rw (master-of first h m, eq-eqb (masterAt z h) (at + relocHeader) e)
@@ -150,7 +154,7 @@ module _ (z : List ℕ) (first : ℕ) (small : first ≤ handleRange) where
   encs prev at (fixed d ∷ bs) t p =
       let e = enc-fixed d (t .0) (t .1) in
       let k = e .kind in
-      cons prev false at (fixed d) bs e (good-of z first prev at (fixed d) e (omega (arith, t .0)) (t .0) (rw k)) (rw k) (rw k (zero-add _)) (rw k)
+      cons prev false at (fixed d) bs e (good-of z first prev at (fixed d) e (omega (arith, t .0)) (t .0) (rw k (fixed-good d))) (rw k) (rw k (zero-add _)) (rw k)
       (encs false (at + (fixedHeader + length d)) bs (t .3) (record { holds = p .holds; single = p .single }))
   encs prev at (cell (held i) ∷ bs) t p =
       let own : (h : ℕ) → is h i ≡ true → Master first h × (masterAt z h ≡ at + relocHeader) = λ h y.

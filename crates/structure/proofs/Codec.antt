@@ -7,18 +7,18 @@ use native.Mathlib.Omega.{arith}
 use lib.Dec.{eqb}
 use borrow.Author.Tests.{eqb-true}
 use lib.ListN.{length, take, drop, replicate, length-append, length-take, length-drop, take-append-drop}
-use lib.Seq.{take-append-seam, drop-append-seam}
+use lib.Seq.{drop-drop, take-append-seam, drop-append-seam}
 use Rattle.block_type.specs.Limits.{fixedHeader, typeUnit, fixedCode, freeHeader, smallestBlock, freeCode, tagAt}
 use Rattle.bigendian.specs.BigEndian.{fromBE, toBE, Bytes}
 use Rattle.bigendian.proofs.Laws.{be2-at}
-use Rattle.bigendian.proofs.Bytes.{bytes-left, bytes-right, part-bytes}
+use Rattle.bigendian.proofs.Bytes.{bytes-left, bytes-right, bytes-drop, part-bytes}
 use Rattle.bigendian.proofs.Parts.{drop-pred}
 use Rattle.memory.specs.Zeros.{allZero}
 use Rattle.format.proofs.Bool.{and-left, and-right}
-use Rattle.format.specs.WellFormed.{typeOf, sizeOf, isFree, splitBlocks, splitFrom}
-use Rattle.format.specs.OneWalk.{typeRule, freeRule, blockOk, blocksOk, ruleOf}
+use Rattle.format.specs.WellFormed.{typeOf, sizeOf, handleOf, secondWord, isFree, splitBlocks, splitFrom}
+use Rattle.format.specs.OneWalk.{typeRule, freeRule, fixedRule, blockOk, blocksOk, ruleOf}
 use Rattle.format.proofs.Walk.{is-good, size-free, size-used, size-take, blocks-cons, blocks-nil}
-use Rattle.structure.specs.Structure.{fixed, encodeBlock, decodeBlock, byType, join, cell}
+use Rattle.structure.specs.Structure.{fixed, fixedTag, encodeBlock, decodeBlock, byType, join, cell}
 use Rattle.kinds.specs.Kinds.{itemIn}
 use Rattle.kinds.proofs.KindLaws.{Read, read}
 use Rattle.bay.specs.Bay.{free, held}
@@ -78,11 +78,19 @@ used-back b k e w l y =
     let e₁ : suc k * typeUnit + length b / 2 ≡ fromBE (take 2 b) = omega (arith, size-used b k e, head-word b (suc k) e l y) in
     rw (e₁, part-bytes 2 b y l) (take-append-drop tagAt b)
 
-enc-fixed : (b : List ℕ) → typeOf b ≡ fixedCode → tagAt ≤ length b → sizeOf b ≡ length b → Bytes b → encodeBlock (fixed (drop fixedHeader b)) ≡ b
+-- a second word that is zero, then the data
+fixed-tag : (b : List ℕ) → fixedRule b ≡ true → smallestBlock ≤ length b → Bytes b → fixedTag ++ drop fixedHeader b ≡ drop tagAt b
+unfolding handleOf toBE
+fixed-tag b r l y =
+    let t = drop tagAt b in
+    let zs : take 2 t ≡ fixedTag = sym (part-bytes 2 t (bytes-drop tagAt b y) (omega (arith, length-drop tagAt b))) ∙ ap (toBE 2) (eqb-true (secondWord b) 0 r) in
+    ap₂ _++_ (sym zs) (sym (drop-drop (length fixedTag) tagAt b)) ∙ take-append-drop (length fixedTag) t
+
+enc-fixed : (b : List ℕ) → typeOf b ≡ fixedCode → fixedRule b ≡ true → smallestBlock ≤ length b → sizeOf b ≡ length b → Bytes b → encodeBlock (fixed (drop fixedHeader b)) ≡ b
 unfolding encodeBlock
-enc-fixed b e l w y =
+enc-fixed b e r l w y =
     let n : fixedHeader + length (drop fixedHeader b) ≡ length b = omega (arith, length-drop fixedHeader b) in
-    ap (λ (n : ℕ). toBE 2 (fixedCode * typeUnit + n / 2) ++ drop fixedHeader b) n ∙ used-back b 0 e w l y
+    ap₂ (λ (n : ℕ) (t : List ℕ). toBE 2 (fixedCode * typeUnit + n / 2) ++ t) n (fixed-tag b r l y) ∙ used-back b 0 e w (omega arith) y
 
 enc-item : (b : List ℕ) (k : ℕ) → typeOf b ≡ suc (suc k) → Read b (itemIn b) → tagAt ≤ length b → sizeOf b ≡ length b → Bytes b → encodeBlock (cell (held (itemIn b))) ≡ b
 unfolding encodeBlock
@@ -98,7 +106,7 @@ enc-dec z first prev at b g y =
     go : (k : ℕ) → typeOf b ≡ k → smallestBlock ≤ sizeOf b → sizeOf b ≡ length b → ruleOf k z first prev at b b ≡ true
         → encodeBlock (byType k (cell (free (sizeOf b))) (fixed (drop fixedHeader b)) (cell (held (itemIn b)))) ≡ b
     go zero e l w r = enc-free b e l w (and-right (not prev) _ r) y
-    go (suc zero) e l w r = enc-fixed b e (omega arith) w y
+    go (suc zero) e l w r = enc-fixed b e r (omega arith) w y
     go (suc (suc k)) e l w r = enc-item b k e (read z first prev at b k g e) (omega arith) w y
 
 -- ---- all blocks

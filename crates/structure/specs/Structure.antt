@@ -36,11 +36,11 @@ abbrev pub code : Block → ℕ
 code (cell c) = cellCode c
 code (fixed d) = fixedCode
 
--- what a fixed block's header has behind type and size: nothing
+-- what a fixed block's header has behind type and size: "the second word zero" (document 02, U6)
 abbrev pub fixedTag : List ℕ
-fixedTag = []
+fixedTag = 0 ∷ 0 ∷ []
 
--- "Fixed: 14-bit size in words, data from byte 2"
+-- "Fixed: 14-bit size in words", "data start at byte 4"
 unfoldable pub encodeBlock : Block → List ℕ
 encodeBlock (cell c) = encodeCell c
 encodeBlock (fixed d) = toBE 2 (fixedCode * typeUnit + (fixedHeader + length d) / 2) ++ (fixedTag ++ d)

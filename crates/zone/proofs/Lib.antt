@@ -32,12 +32,14 @@ pub mod Initial
 pub mod Rig
 pub mod GrowthSheet
 pub mod PageSheet
+pub mod FixedSheet
 pub mod Numbers
 pub mod Fits
 pub mod Matches
 pub mod Rosters
 pub mod Works
 pub mod MetBlocks
+pub mod Lines
 pub mod PagesMet
 pub mod PageTurn
 pub mod PageRelease

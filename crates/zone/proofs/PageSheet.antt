@@ -2,13 +2,13 @@
 use mathlib.Core.Path.{refl}
 use Rattle.bigendian.specs.BigEndian.{fromBE, toBE}
 use Rattle.memory.specs.Zeros.{allZero}
-use Rattle.format.specs.WellFormed.{wellFormed, headerOk, zoneRules, blockRules, every, typeOk, sizeOk, tileOk, zerosOk, neighboursOk, handlesOk, chainFrom, typeOf, sizeOf, handleOf, isFree, isReloc, splitFrom, isMaster, relocs, chain, offsets, pageSizeOk, statusOk, names, distinct, nameOf, statusOf, isPage}
+use Rattle.format.specs.WellFormed.{wellFormed, headerOk, zoneRules, blockRules, every, typeOk, sizeOk, tileOk, zerosOk, secondOk, neighboursOk, handlesOk, chainFrom, typeOf, sizeOf, handleOf, isFree, isFixed, isReloc, splitFrom, isMaster, relocs, chain, offsets, pageSizeOk, statusOk, names, distinct, nameOf, statusOf, isPage}
 use Rattle.format.specs.Occurs.{occurs}
 use Rattle.structure.specs.Structure.{encodeBlock, sizes, placeOf, nextOf, words, join, header, encode, decodeBlock, decodeZone, decode, handlesOf, namesIn}
 use Rattle.zone.specs.PageSheet.{PageSheet}
 
 pub page-sheet : PageSheet
-unfolding wellFormed headerOk zoneRules blockRules every typeOk sizeOk tileOk zerosOk pageSizeOk statusOk names distinct neighboursOk handlesOk chainFrom typeOf sizeOf handleOf nameOf statusOf isFree isReloc isPage splitFrom isMaster relocs chain allZero fromBE encode header toBE words join encodeBlock decodeBlock decode decodeZone placeOf nextOf sizes handlesOf namesIn occurs offsets
+unfolding wellFormed headerOk zoneRules blockRules every typeOk sizeOk tileOk zerosOk secondOk pageSizeOk statusOk names distinct neighboursOk handlesOk chainFrom typeOf sizeOf handleOf nameOf statusOf isFree isFixed isReloc isPage splitFrom isMaster relocs chain allZero fromBE encode header toBE words join encodeBlock decodeBlock decode decodeZone placeOf nextOf sizes handlesOf namesIn occurs offsets
 page-sheet = record {
   created = refl;
   stands = refl;

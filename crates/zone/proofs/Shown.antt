@@ -10,7 +10,7 @@ use borrow.Author.Tests.{ltb-true}
 use Rattle.format.proofs.Bool.{and-left, and-right}
 use Rattle.bigendian.specs.BigEndian.{Bytes, fromBE, toBE}
 use Rattle.memory.specs.Zeros.{allZero}
-use Rattle.format.specs.WellFormed.{wellFormed, headerOk, zoneRules, blockRules, every, typeOk, sizeOk, tileOk, zerosOk, neighboursOk, handlesOk, chainFrom, typeOf, sizeOf, handleOf, isFree, isReloc, splitFrom, isMaster, relocs, chain, offsets, masterAt, pageSizeOk, statusOk, names, distinct, nameOf, statusOf, isPage}
+use Rattle.format.specs.WellFormed.{wellFormed, headerOk, zoneRules, blockRules, every, typeOk, sizeOk, tileOk, zerosOk, secondOk, neighboursOk, handlesOk, chainFrom, typeOf, sizeOf, handleOf, isFree, isFixed, isReloc, splitFrom, isMaster, relocs, chain, offsets, masterAt, pageSizeOk, statusOk, names, distinct, nameOf, statusOf, isPage}
 use Rattle.format.specs.Occurs.{occurs}
 use Rattle.structure.specs.Structure.{encodeBlock, sizes, placeOf, nextOf, words, join, header, encode, decodeBlock, decodeZone, decode, handlesOf, namesIn}
 use Rattle.calls.specs.Calls.{Call, Answer, Beside, alone, lends, part, of-page, beside, Given}
@@ -91,5 +91,5 @@ roster-listed = refl
 
 -- in the bytes: the recipe's master before the profile grows, and after
 pub recipe-slides : (masterAt (bytesAfter (take 9 calls) fresh) 24 ≡ 56) × (masterAt (bytesAfter (take 10 calls) fresh) 24 ≡ 64)
-unfolding wellFormed headerOk zoneRules blockRules every typeOk sizeOk tileOk zerosOk pageSizeOk statusOk names distinct neighboursOk handlesOk chainFrom typeOf sizeOf handleOf nameOf statusOf isFree isReloc isPage splitFrom isMaster relocs chain allZero fromBE encode header toBE words join encodeBlock decodeBlock decode decodeZone placeOf nextOf sizes handlesOf namesIn occurs offsets
+unfolding wellFormed headerOk zoneRules blockRules every typeOk sizeOk tileOk zerosOk secondOk pageSizeOk statusOk names distinct neighboursOk handlesOk chainFrom typeOf sizeOf handleOf nameOf statusOf isFree isFixed isReloc isPage splitFrom isMaster relocs chain allZero fromBE encode header toBE words join encodeBlock decodeBlock decode decodeZone placeOf nextOf sizes handlesOf namesIn occurs offsets
 recipe-slides = (refl, refl)

@@ -70,6 +70,7 @@ use Rattle.zone.proofs.Fits.{same-sum, fresh-fits}
 use Rattle.zone.proofs.Matches.{Paired, Matches, matches, facts-same, handle-same, fixed-same, live-same, flat-perm}
 use Rattle.zone.proofs.Rosters.{zone-sorted, roster-same}
 use Rattle.zone.proofs.Works.{work-same}
+use Rattle.zone.proofs.Lines.{fixed-lines}
 use Rattle.zone.proofs.MetBlocks.{spotsS, sumsS, fixed-walk, free-walk, reloc-walk}
 
 -- ---- a point of the list: the buffer holds a zone, and the zone is one with the ledger
@@ -170,6 +171,7 @@ stands {bs} p = go (p .whole) (p .stored) (p .one)
       blocks = ap byHandle (reloc-walk bs z w s) ∙ sym (zone-sorted z w) ∙ roster-same w (matches m);
       still = λ q. where-of (rw (← fixed-same q m) (fixed-read bs z w s q));
       places = fixed-walk bs z w s ∙ spots-same m;
+      lines = fixed-lines bs (stored-well bs z w s);
       sums = free-walk bs z w s ∙ sums-same m;
       long = length-read bs z w s;
       buffer = s .buffer;

@@ -8,7 +8,7 @@ use Prim.Native.Nat.{ℕ, _+_, _-_, _%_}
 use lib.ListN.{length, drop}
 use lib.Dec.{eqb, leb}
 use Rattle.bigendian.specs.BigEndian.{Bytes, slice}
-use Rattle.block_type.specs.Limits.{freeCode, fixedCode, relocCode, relocHeader, pageCode, pageHeader, dirtyBit, lockBit, stampRange}
+use Rattle.block_type.specs.Limits.{freeCode, fixedCode, fixedHeader, relocCode, relocHeader, pageCode, pageHeader, dirtyBit, lockBit, stampRange}
 use Rattle.format.specs.WellFormed.{lengthField, firstField, clockField, typeOf, sizeOf, handleOf, nameOf, statusOf, splitBlocks, masterAt, zoneOf, wellFormed}
 use Rattle.calls.specs.Calls.{PageCall, create-page, use-page, mark-page, drop-page, Call, on-page, Answer, Beside, alone, lends, part, of-page, beside, Given}
 use Rattle.calls.specs.Roster.{Card}
@@ -156,6 +156,8 @@ pub record Stands (bs : List ℕ) (l : Ledger) : Type 0 where
   pub places : fixedIn bs ≡ fixedSpots (l .bays)
   -- and between them the free bytes that the ledger counts, bay by bay: what its sums say is there
   pub sums : freeIn bs ≡ baySums (l .bays)
+  -- "The new converter chip refuses pointers that aren't multiples of 4" (document 02, U6): the data of no fixed block begin elsewhere
+  pub lines : (x : Spot) → Has x (fixedIn bs) → (x .place + fixedHeader) % 4 ≡ 0
   pub long : lengthField bs ≡ l .len
   pub buffer : length bs ≡ l .buf
   pub well : wellFormed bs ≡ true

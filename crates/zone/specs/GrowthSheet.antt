@@ -57,7 +57,7 @@ loose = allocate-relocatable 44 ∷ allocate-relocatable 4 ∷ resize 16 4 ∷ a
 
 -- a fixed block between 56 bytes and 32: the block of 24 bytes, for which the first bay has no room after the 32, goes behind it
 abbrev pub beyond : List Call
-beyond = allocate-fixed 30 ∷ allocate-fixed 2 ∷ free-pointer 82 ∷ allocate-relocatable 0 ∷ allocate-relocatable 20 ∷ []
+beyond = allocate-fixed 28 ∷ allocate-fixed 0 ∷ free-pointer 84 ∷ allocate-relocatable 0 ∷ allocate-relocatable 20 ∷ []
 
 -- what the table is told of a zone with m masters, none of them free, and room enough
 abbrev pub crowded : ℕ → Facts
@@ -78,7 +78,7 @@ crowded m = record {
 }
 
 pub record GrowthSheet : Type 0 where
-  pub answers : map brief (answersOf calls (zone 112 2)) ≡ done 110 ∷ done 16 ∷ done 20 ∷ done 0 ∷ done 0 ∷ done 0 ∷ done 24 ∷ []
+  pub answers : map brief (answersOf calls (zone 112 2)) ≡ done 112 ∷ done 16 ∷ done 20 ∷ done 0 ∷ done 0 ∷ done 0 ∷ done 24 ∷ []
   pub stands : bytesAfter calls (zone 112 2) ≡ image
   pub closed : slice (bytesAfter loose (zone 128 2)) zoneHeader 12 ≡ word 60 ++ word 68 ++ word 76
   pub behind : slice (bytesAfter beyond (zone 112 1)) zoneHeader 8 ≡ word 56 ++ word 84

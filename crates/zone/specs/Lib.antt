@@ -15,6 +15,7 @@ pub mod PageSays
 pub mod RigSheet
 pub mod GrowthSheet
 pub mod PageSheet
+pub mod FixedSheet
 pub mod ReelB
 pub mod PickBays
 pub mod Search

@@ -53,7 +53,7 @@ round = create 3 20 ∷ create 2 20 ∷ create 1 20 ∷ create 4 20 ∷ use′ 3
 -- ---- the page 1 lies before a fixed block, where 28 bytes are all there is, and goes first all the same: 48 are needed
 
 abbrev pub sides : List Call
-sides = create 1 0 ∷ allocate-fixed 54 ∷ allocate-fixed 0 ∷ free-pointer 58 ∷ create 2 32 ∷ create 3 40 ∷ use′ 1 ∷ use′ 2 ∷ []
+sides = create 1 0 ∷ allocate-fixed 52 ∷ allocate-fixed 0 ∷ free-pointer 60 ∷ create 2 32 ∷ create 3 40 ∷ use′ 1 ∷ use′ 2 ∷ []
 
 -- ---- a dirty page 1 and a locked page 2, of 28 bytes each; 32 are free
 
@@ -103,7 +103,7 @@ pub record PageSheet : Type 0 where
   pub stamp-0 : slice (bytesAfter (create named 5 ∷ []) (withByte 14 255 vacant)) 30 2 ≡ 0 ∷ 0 ∷ []
   pub oldest : answers round (withByte 14 253 vacant) ≡ done 32 ∷ done 60 ∷ done 88 ∷ done 32 ∷ refused 13 ∷ done 60 ∷ done 88 ∷ []
   -- by age alone, "until one does"
-  pub no-help : answers sides vacant ≡ done 32 ∷ done 58 ∷ done 54 ∷ done 0 ∷ done 64 ∷ done 64 ∷ refused 13 ∷ refused 13 ∷ []
+  pub no-help : answers sides vacant ≡ done 32 ∷ done 60 ∷ done 56 ∷ done 0 ∷ done 64 ∷ done 64 ∷ refused 13 ∷ refused 13 ∷ []
   -- "smaller name among equals": the stamp of page 1 is made that of page 2, which lies before it
   pub equals : answers (create 3 28 ∷ use′ 1 ∷ use′ 2 ∷ []) (withByte 59 1 (bytesAfter (create 2 20 ∷ create 1 20 ∷ []) vacant)) ≡ done 60 ∷ refused 13 ∷ done 32 ∷ []
   -- 5 before 12: 60 bytes with the dirty page gone, 68 are needed; then 60; and 12's value is the name

@@ -8,13 +8,13 @@ use Rattle.calls.specs.Calls.{Call, by-handle, by-pointer, allocate-relocatable
 
 abbrev pub calls : List Call
 calls =
-    allocate-fixed 6  -- for the sampling hardware: pointer 90
+    allocate-fixed 4  -- for the sampling hardware: pointer 92
     ∷ allocate-relocatable 4  -- a splice mark: handle 16
     ∷ allocate-relocatable 8  -- the profile: handle 20
     ∷ allocate-relocatable 4  -- the recipe: handle 24, its data at 56
     ∷ allocate-relocatable 4  -- another splice mark: handle 28
     ∷ write (by-handle 24) 0 4 (1 ∷ 2 ∷ 3 ∷ 4 ∷ 5 ∷ [])  -- the basis weight
-    ∷ write (by-pointer 90) 2 2 (6 ∷ 7 ∷ [])
+    ∷ write (by-pointer 92) 2 2 (6 ∷ 7 ∷ [])
     ∷ free-handle 16
     ∷ free-handle 16  -- refused: 6
     ∷ resize 20 24  -- the profile grows, and the recipe slides: its data at 64
@@ -22,7 +22,7 @@ calls =
     ∷ view (by-handle 24) 1 2
     ∷ resize 20 60  -- refused: 5
     ∷ allocate-relocatable 20  -- refused: 5
-    ∷ allocate-fixed 0  -- pointer 86
+    ∷ allocate-fixed 0  -- pointer 88, where the next block begins
     ∷ allocate-relocatable 4  -- handle 16
     ∷ allocate-relocatable 0  -- refused: 4
     ∷ allocate-relocatable 40000  -- refused: 3, though the chain is empty
@@ -30,7 +30,7 @@ calls =
     ∷ free-pointer 50  -- refused: 7
     ∷ read (by-handle 24) 0 5 (replicate 4 9)  -- refused: 8, though the buffer is too short
     ∷ read (by-handle 24) 0 4 []  -- refused: 10
-    ∷ read (by-pointer 90) 0 6 (replicate 6 9)
+    ∷ read (by-pointer 92) 0 4 (replicate 6 9)
     ∷ size (by-handle 20)
     ∷ compact
     ∷ sums
@@ -39,7 +39,7 @@ calls =
     ∷ shrink 100  -- strips nothing: a fixed block stands at the end
     ∷ enlarge 3  -- refused: 9
     ∷ enlarge 4
-    ∷ free-pointer 86
+    ∷ free-pointer 88
     ∷ roster (replicate 31 9)  -- refused: 10
     ∷ roster (replicate 32 9)  -- just long enough
     ∷ roster (replicate 34 9)  -- handle 16 was given out last, and comes first

@@ -1,4 +1,4 @@
--- Document 01, 'Rig sheet': the starred rows R1 to R8 as one table. Each row starts from L = 64, m = 4, in a buffer of 70 bytes.
+-- Document 01, 'Rig sheet': the starred rows R1 to R8 as one table, with R5 and R6 reworked for document 02's U6. Each row starts from L = 64, m = 4, in a buffer of 70 bytes.
 use mathlib.Core.Path.{_≡_}
 use mathlib.Core.List.{List, [], _∷_, map}
 use Prim.Native.Nat.{ℕ}
@@ -100,20 +100,20 @@ r4 = record {
   pieces = master 24 44 ∷ piece 40 (128 ∷ 2 ∷ 0 ∷ 24 ∷ []) ∷ piece 64 (replicate 6 9) ∷ [];
 }
 
--- fixed 5: pointer 58, size 6, header 4004. Then relocatable 21: 5; relocatable 20: handle 16
+-- fixed 5: pointer 56, size 8, header 40060000. Then relocatable 17: 5; relocatable 16: handle 16
 abbrev pub r5 : Row
 r5 = record {
-  calls = allocate-fixed 5 ∷ size (by-pointer 58) ∷ allocate-relocatable 21 ∷ allocate-relocatable 20 ∷ [];
-  told = done 58 ∷ done 6 ∷ refused 5 ∷ done 16 ∷ [];
-  pieces = piece 56 (64 ∷ 4 ∷ 0 ∷ 0 ∷ 0 ∷ 0 ∷ 0 ∷ 0 ∷ []) ∷ master 16 36 ∷ [];
+  calls = allocate-fixed 5 ∷ size (by-pointer 56) ∷ allocate-relocatable 17 ∷ allocate-relocatable 16 ∷ [];
+  told = done 56 ∷ done 8 ∷ refused 5 ∷ done 16 ∷ [];
+  pieces = piece 52 (64 ∷ 6 ∷ 0 ∷ 0 ∷ 0 ∷ 0 ∷ 0 ∷ 0 ∷ 0 ∷ 0 ∷ 0 ∷ 0 ∷ []) ∷ master 16 36 ∷ [];
 }
 
--- fixed 0, 10, 0: pointers 62, 50, 46. Free 50. Relocatable 9: 5, though 24 bytes are free; relocatable 8 twice: data at 36 and 52
+-- fixed 0, 8, 0: pointers 64, 52, 48. Free 52. Relocatable 9: 5, though 24 bytes are free; relocatable 8 twice: data at 36 and 52
 abbrev pub r6 : Row
 r6 = record {
-  calls = allocate-fixed 0 ∷ allocate-fixed 10 ∷ allocate-fixed 0 ∷ free-pointer 50 ∷ sums ∷ allocate-relocatable 9 ∷ allocate-relocatable 8 ∷ allocate-relocatable 8 ∷ [];
-  told = done 62 ∷ done 50 ∷ done 46 ∷ done 0 ∷ (0 ∷ 24 ∷ 12 ∷ []) ∷ refused 5 ∷ done 16 ∷ done 20 ∷ [];
-  pieces = master 16 36 ∷ master 20 52 ∷ [];
+  calls = allocate-fixed 0 ∷ allocate-fixed 8 ∷ allocate-fixed 0 ∷ free-pointer 52 ∷ sums ∷ allocate-relocatable 9 ∷ allocate-relocatable 8 ∷ allocate-relocatable 8 ∷ [];
+  told = done 64 ∷ done 52 ∷ done 48 ∷ done 0 ∷ (0 ∷ 24 ∷ 12 ∷ []) ∷ refused 5 ∷ done 16 ∷ done 20 ∷ [];
+  pieces = master 16 36 ∷ master 20 52 ∷ piece 60 (64 ∷ 2 ∷ 0 ∷ 0 ∷ []) ∷ [];
 }
 
 -- shrink 10: 8

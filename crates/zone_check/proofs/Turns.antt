@@ -6,7 +6,7 @@ use Prim.Native.Nat.{ℕ, _+_, _%_, _<_, _≤_}
 use native.Mathlib.Nat.{zero-add}
 use native.Mathlib.Omega.{arith}
 use lib.Dec.{eqb, ltb}
-use borrow.Author.Tests.{eqb-true, eqb-false, ltb-true, lt-ltb, ltb-false}
+use borrow.Author.Tests.{eqb-true, eqb-false, ltb-true, ltb-false}
 use lib.ListN.{length, drop, replicate}
 use Rattle.block_type.specs.Limits.{longestZone, pageCode, pageHeader}
 use Rattle.format.specs.WellFormed.{typeOf, isFree, isReloc, isPage, nameOf, splitBlocks}

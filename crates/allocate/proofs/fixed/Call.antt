@@ -4,7 +4,7 @@ use mathlib.Core.List.{List, [], _∷_, _++_}
 use mathlib.Core.Bool.{Bool, true, false, cond, not}
 use Prim.Native.Nat.{ℕ, _+_, _-_, _<_, _≤_}
 use native.Mathlib.Omega.{arith}
-use borrow.Author.Tests.{le-leb, lt-leb}
+use borrow.Author.Tests.{le-leb, lt-leb, leb-true}
 use lib.Dec.{leb}
 use lib.ListN.{length, getD, take, drop}
 use mir.Val.{Fits}
@@ -41,8 +41,8 @@ number-of z c t u et eu buf = ap₂ (λ (a b : Bool). first order (cause 1 false
     go true false = refl
     go false u = refl
 
-pub in-3 : (z : List ℕ) (c number : ℕ) (R : Type 0) → number ≡ 3 → fixedLimit < c → PlannedIn (allocate-fixed c) z number R
-in-3 z c number R q l = refuses (record { some = λ x. omega arith; is = λ buf. number-of z c false _ (lt-leb c fixedLimit l) refl buf ∙ sym q })
+pub in-3 : (z : List ℕ) (c k number : ℕ) (R : Type 0) → number ≡ 3 → k < c → leb fixedLimit k ≡ true → PlannedIn (allocate-fixed c) z number R
+in-3 z c k number R q l h = refuses (record { some = λ x. omega arith; is = λ buf. number-of z c false _ (lt-leb c fixedLimit (omega (arith, leb-true fixedLimit k h))) refl buf ∙ sym q })
 
 -- ---- the bay
 
@@ -87,11 +87,12 @@ module _ (s : List ℕ) (c number l need a e sum tail : ℕ) (p : Planned (alloc
   pub call-sub : need ≤ e
   call-sub = ask-sub (take l s) need a e sum tail call-site
 
-  pub call-add : Fits w64 (e - need + fixedHeader)
-  call-add = record { fits = omega (arith, ask-end (take l s) need a e sum tail call-site) }
+  -- an offset in the block's header
+  pub call-add : (k : ℕ) → leb k fixedHeader ≡ true → Fits w64 (e - need + k)
+  call-add k h = record { fits = omega (arith, leb-true k fixedHeader h, ask-end (take l s) need a e sum tail call-site) }
 
-  pub call-word : Fits w32 (e - need + fixedHeader)
-  call-word = record { fits = omega (arith, ask-end (take l s) need a e sum tail call-site) }
+  pub call-word : (k : ℕ) → leb k fixedHeader ≡ true → Fits w32 (e - need + k)
+  call-word k h = record { fits = omega (arith, leb-true k fixedHeader h, ask-end (take l s) need a e sum tail call-site) }
 
   pub call-end : (y : List ℕ) → ((i : ℕ) → Fits w8 (getD s i 0)) → y ≡ encode (placed need (decodeZone (take l s))) → result (told 0 (e - need + fixedHeader)) (y ++ drop l s) ≡ call (allocate-fixed c) s
   call-end y g q = frame-done (allocate-fixed c) s number l _ p g z (does (take l s) (length s) c need a e sum tail r) tt refl y q

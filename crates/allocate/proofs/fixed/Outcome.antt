@@ -1,18 +1,19 @@
--- After an accepted allocation the pointer that it answers has a block of the need less its header, all zero.
+-- After an accepted allocation the pointer that it answers, a multiple of 4, has up4(c) bytes, and they are zero.
 use mathlib.Core.Path.{_≡_, refl, ap, _∙_}
 use mathlib.Core.Bool.{true}
 use mathlib.Core.Option.{Option, some}
 use mathlib.Core.List.{List, []}
-use Prim.Native.Nat.{ℕ, _-_, _≤_}
+use Prim.Native.Nat.{ℕ, _-_, _%_, _≤_}
 use native.Mathlib.Omega.{arith}
 use lib.ListN.{length, replicate, length-replicate}
 use lib.Dec.{leb, eqb}
 use borrow.Author.Tests.{eq-eqb, ne-eqb, leb-true}
 use Rattle.bigendian.specs.BigEndian.{Bytes}
-use Rattle.block_type.specs.Limits.{fixedHeader, fixedNeed, firstBlock}
+use Rattle.block_type.specs.Limits.{fixedHeader, fixedNeed, firstBlock, up4}
 use Rattle.calls.specs.Calls.{by-pointer, Answer, told, shows, Call, allocate-fixed, size, view}
 use Rattle.calls.specs.Bays.{Bays, last, more, over, findF}
 use Rattle.calls.specs.State.{Fixed, pointer, newFixed, withBays, content}
+use Rattle.calls.specs.Table.{isNone}
 use Rattle.calls.proofs.First.{or-left}
 use Rattle.bay.specs.Bay.{Cell, items, baySize, baySum, takeHigh}
 use Rattle.zone.specs.Search.{placeHigh}
@@ -24,7 +25,9 @@ use Rattle.bay.proofs.Laws.{bsize-split}
 use Rattle.zone.proofs.Places.{Tiled, tile-last, tile-more}
 use Rattle.zone.proofs.Found.{high-found}
 use Rattle.zone.proofs.Walk.{each-got}
-use Rattle.zone.proofs.Run.{well-whole}
+use Rattle.zone.proofs.Grouped.{work-whole}
+use Rattle.zone.proofs.Run.{well-whole, work-stored}
+use Rattle.zone.proofs.Lines.{pointer-line}
 use Rattle.call_laws.proofs.Outcome.{step}
 use Rattle.call_laws.proofs.Accepted.{Accepted, accepted, cleared, answered, after}
 use Rattle.call_laws.proofs.Named.{size-there, view-there}
@@ -65,8 +68,10 @@ abbrev asked : ℕ → List ℕ → (ℕ → Call) → Answer
 asked c s b = (call (b ((call (allocate-fixed c) s) .answer .value)) ((call (allocate-fixed c) s) .bytes)) .answer
 
 pub record Made (c : ℕ) (s : List ℕ) : Type 0 where
-  pub sized : asked c s (λ p. size (by-pointer p)) ≡ told 0 (fixedNeed c - fixedHeader)
-  pub zeros : asked c s (λ p. view (by-pointer p) 0 (fixedNeed c - fixedHeader)) ≡ shows 0 (replicate (fixedNeed c - fixedHeader) 0)
+  pub sized : asked c s (λ p. size (by-pointer p)) ≡ told 0 (up4 c)
+  pub zeros : asked c s (λ p. view (by-pointer p) 0 (up4 c)) ≡ shows 0 (replicate (up4 c) 0)
+  -- "The new converter chip refuses pointers that aren't multiples of 4" (document 02, U6)
+  pub line : (call (allocate-fixed c) s) .answer .value % 4 ≡ 0
 
 module _ (s : List ℕ) (c : ℕ) (y : Bytes s) (e : (call (allocate-fixed c) s) .answer .number ≡ 0) where
   a : Accepted (allocate-fixed c) s
@@ -83,22 +88,30 @@ module _ (s : List ℕ) (c : ℕ) (y : Bytes s) (e : (call (allocate-fixed c) s)
   r = Work.placeHigh need (z .len) (z .bays)
 
   abbrev zs : List ℕ
-  zs = replicate (need - fixedHeader) 0
+  zs = replicate (up4 c) 0
 
   stands : Stands need (firstBlock (well-whole s y (a .well) .m)) r
   stands = each-got {Q = Stands need _} (high-found baySum (takeHigh need) [] need (z .len) (z .bays)) (or-left _ _ (cleared a 5 refl)) (high-stands need (well-whole s y (a .well) .placed .tiled))
 
   held : content items (by-pointer (pointer (r .0))) (r .1) ≡ some zs
-  held = ap (over (λ (x : Fixed). x .bytes)) (stands .found) ∙ ap some (stands .zeros)
+  held =
+      let n : need - fixedHeader ≡ up4 c = omega arith in
+      ap (over (λ (x : Fixed). x .bytes)) (stands .found) ∙ ap some (stands .zeros ∙ ap (λ (k : ℕ). replicate {A = ℕ} k 0) n)
 
   tell : (b : ℕ → Call) → asked c s b ≡ (step (b (pointer (r .0))) (withBays (r .1) z)) .answer
   tell b = ap (λ (g : Answer). (call (b (g .value)) ((call (allocate-fixed c) s) .bytes)) .answer) (answered a y) ∙ after a y tt (b (pointer (r .0)))
 
-  long : length zs ≡ need - fixedHeader
-  long = length-replicate (need - fixedHeader) 0
+  long : length zs ≡ up4 c
+  long = length-replicate (up4 c) 0
+
+  on-line : pointer (r .0) % 4 ≡ 0
+  on-line =
+      pointer-line ((call (allocate-fixed c) s) .bytes) (withBays (r .1) z) (work-whole (allocate-fixed c) z tt (well-whole s y (a .well)) (a .passed)) (work-stored s y (a .well) (allocate-fixed c) tt (a .passed))
+      (pointer (r .0)) (ap (λ (o : Option (List ℕ)). isNone (over length o)) held)
 
   pub fixed-made : Made c s
   fixed-made = record {
     sized = tell (λ p. size (by-pointer p)) ∙ size-there (withBays (r .1) z) (by-pointer (pointer (r .0))) held ∙ ap (told 0) long;
-    zeros = tell (λ p. view (by-pointer p) 0 (need - fixedHeader)) ∙ view-there (withBays (r .1) z) (by-pointer (pointer (r .0))) zs (need - fixedHeader) (omega (arith, long)) held;
+    zeros = tell (λ p. view (by-pointer p) 0 (up4 c)) ∙ view-there (withBays (r .1) z) (by-pointer (pointer (r .0))) zs (up4 c) (omega (arith, long)) held;
+    line = ap (λ (g : Answer). g .value % 4) (answered a y) ∙ on-line;
   }

@@ -30,4 +30,6 @@ rule-ok-spec =
     returns-3
     (λ c κs. search needs)
     returns-4
+    (λ c. search needs)
+    (λ c κs. search needs)
     returns-5)
