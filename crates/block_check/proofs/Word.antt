@@ -8,7 +8,7 @@ use mir.Val.{Fits}
 use mir.Syntax.{w8}
 use lib.Dec.{eqb, leb, ltb}
 use borrow.Author.Tests.{eq-eqb, leb-true, ltb-true, eqb-true, le-leb}
-use lib.ListN.{length, getD, take, drop, length-drop}
+use lib.ListN.{length, getD, take, drop, length-drop, drop-of-length-le}
 use lib.Seq.{drop-drop}
 use Rattle.block_type.specs.Limits.{relocCode, relocHeader, typeUnit, handleRange, zoneHeader, masterSize, smallestBlock, tagAt}
 use Rattle.bigendian.specs.BigEndian.{fromBE, slice}
@@ -33,6 +33,11 @@ word-law z at w b l f g e =
     let i : at + tagAt + 1 ≡ at + 3 = omega arith in
     let q₂ = (rw i at (be2-at z (at + tagAt) (omega arith))) in
     record { is-type = sym (kind-law z at) ∙ omega arith; is-half = omega arith; is-handle = rw (drop-drop tagAt at z) (omega arith) }
+
+-- behind the end there is nothing
+pub word-end : (z : List ℕ) (at : ℕ) → length z ≤ at → _≡_ {A = ℕ} 0 (fromBE (slice z at 4))
+unfolding fromBE
+word-end z at l = rw (drop-of-length-le z l)
 
 pub word-size : (z : List ℕ) (at w : ℕ) → IsWord z at w → typeOf (drop at z) ≡ relocCode → w / handleRange % typeUnit * 2 ≡ sizeOf (drop at z)
 word-size z at w i k = size-used (drop at z) relocCode (w / handleRange) (sym k) (λ q. omega arith) (i .is-half)

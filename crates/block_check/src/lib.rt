@@ -5,6 +5,7 @@ ghost use mathlib.Core.Bool.{Bool, cond};
 ghost use Prim.Native.Nat.{_+_, _*_, _/_, _%_, _<_, _≤_};
 ghost use lib.ListN.{length, take, drop};
 ghost use Rattle.block_type.specs.Limits.{longestZone, relocCode, masterSize, typeUnit, handleRange, smallestBlock, argumentRange};
+ghost use Rattle.bigendian.specs.BigEndian.{fromBE, slice};
 ghost use Rattle.format.specs.WellFormed.{typeOf, sizeOf, handleOf, isFree, isReloc, isPage, isMaster};
 ghost use Rattle.format.specs.OneWalk.{freeRule, relocRule, pageRule, ruleOf};
 ghost use Rattle.format.specs.Steps.{GoodSize, Turn};
@@ -140,7 +141,7 @@ fn good_size(z: &[u8], first: usize, prev: bool, at: usize) -> usize
 // The number in the four bytes at `at`; 0 where the zone ends there.
 pub fn word_at(z: &[u8], at: usize) -> u32
     requires { ⌜ (at % 4 ≡ 0) × (length (now z) % 4 ≡ 0) ⌝ }
-    ensures { λ r. ⌜ (0 < r → IsWord (now (z .entry)) at r) ⌝ }
+    ensures { λ r. ⌜ (r ≡ fromBE (slice (now (z .entry)) at 4)) × (0 < r → IsWord (now (z .entry)) at r) ⌝ }
 {
     if at < z.len() {
         return bigendian::get4(z, at);

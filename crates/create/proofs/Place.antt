@@ -61,8 +61,12 @@ module _ {z : List ℕ} {need : ℕ} (x : RoomFor z need) where
     pub room-need : 0 < need
     room-need = omega (arith, x .header)
 
-    pub site-low : (f : Bool) (a e at n : ℕ) (t : Bool) → siteN f a e at n t ≡ lowSite need first (baysAt z first) → LowestRoom z need a e at n t
-    site-low f a e at n t q = low-room z (x .zone) first ef need f a e at n t q (sym (low-reach z (x .zone) first ef need f a e at n t q) ∙ le-leb need _ (x .enough))
+    module _ (f : Bool) (a e at n : ℕ) (t : Bool) (q : siteN f a e at n t ≡ lowSite need first (baysAt z first)) where
+      pub site-found : f ≡ true
+      site-found = sym (low-reach z (x .zone) first ef need f a e at n t q) ∙ le-leb need _ (x .enough)
+
+      pub site-low : LowestRoom z need a e at n t
+      site-low = low-room z (x .zone) first ef need f a e at n t q site-found
 
 -- ---- where it goes
 

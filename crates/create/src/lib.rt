@@ -6,6 +6,7 @@ use pages::status;
 use room::place;
 use turn::search;
 ghost use mathlib.Core.Path.{_≡_};
+ghost use mathlib.Core.Bool.{true};
 ghost use mathlib.Core.List.{[], _∷_};
 ghost use Prim.Native.Nat.{_-_, _<_, _≤_};
 ghost use lib.ListN.{length, take};
@@ -36,7 +37,7 @@ struct CreatePlan {
 
 // The plan of a call that is refused.
 fn no_plan(number: u32) -> CreatePlan
-    ensures { λ r. ⌜ (r .number ≡ number) × (r .value ≡ 0) ⌝ }
+    ensures { λ r. ⌜ (r .number ≡ number) × (r .value ≡ 0) × (r .len ≡ 0) × (r .limit ≡ 0) ⌝ }
 {
     CreatePlan {
         number,
@@ -139,7 +140,7 @@ fn place_in(z: &mut [u8], need: usize, name: u32, stamp: u8, r: place::Site)
 // The lowest bay that has room for it, and where.
 fn find_site(z: &[u8], need: usize) -> place::Site
     requires { ⌜ RoomFor (now z) need ⌝ }
-    ensures { λ r. ⌜ LowestRoom (now (z .entry)) need (r .start) (r .end) (r .at) (r .size) (r .tidy) ⌝ }
+    ensures { λ r. ⌜ LowestRoom (now (z .entry)) need (r .start) (r .end) (r .at) (r .size) (r .tidy) × (r .found ≡ true) ⌝ }
 {
     let first = bigendian::get4(z, block_type::FIRST_AT) as usize;
     place::find_room(z, first, need)

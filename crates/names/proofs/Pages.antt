@@ -80,6 +80,7 @@ module _ (z : List ℕ) (at : ℕ) (g : Pages z at) (l : at < length z) where
       let f : sizeOf r % 4 ≡ 0 = s .four in
       let d : drop (sizeOf r) r ≡ drop (at + n) z = drop-drop (sizeOf r) at z ∙ ap (λ (k : ℕ). drop (at + k) z) (sym e) in
       record {
+        is-size = e;
         low = omega (arith, s .low);
         next = record {
           within = omega (arith, s .fits, length-drop at z);

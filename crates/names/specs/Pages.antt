@@ -5,7 +5,7 @@ use mathlib.Core.Bool.{Bool, true, false, cond, _||_}
 use Prim.Native.Nat.{ℕ, _+_, _%_, _≤_}
 use lib.ListN.{length, drop}
 use Rattle.block_type.specs.Limits.{longestZone, smallestBlock}
-use Rattle.format.specs.WellFormed.{splitBlocks, every, sizeOk, tileOk}
+use Rattle.format.specs.WellFormed.{sizeOf, splitBlocks, every, sizeOk, tileOk}
 use Rattle.format.specs.WellFormed.{isPage, nameOf, names, pageSizeOk}
 
 -- blocks tile z from `at` on, and pages are long enough
@@ -29,6 +29,7 @@ some f (x ∷ xs) = f x || some f xs
 
 -- a step over a block of n bytes
 pub record Step (z : List ℕ) (at n : ℕ) : Type 0 where
+  pub is-size : n ≡ sizeOf (drop at z)
   pub low : smallestBlock ≤ n
   pub next : Pages z (at + n)
   pub heads : namesAt z at ≡ cond (isPage (drop at z)) (nameOf (drop at z) ∷ namesAt z (at + n)) (namesAt z (at + n))

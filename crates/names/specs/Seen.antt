@@ -44,7 +44,8 @@ pub record Past (table : List ℕ) (p q f : ℕ) : Type 0 where
   pub full : (i : ℕ) → p ≤ i → i < q → getD table i 0 ≡ 0 → ⊥
   pub other : (i : ℕ) → p ≤ i → i < q → getD table i 0 ≡ f → ⊥
 
--- x was put into the table, where it was not before; or `new` is false, and the table says nothing more
+-- x was put into the table, where it was not before; or `new` is false, and the table says nothing more. One-sided on purpose: `new` may be false of a name that is new,
+-- since another may have its fingerprint, or all slots that a search tries are full; the exact test decides then
 pub record Noted (before after : List ℕ) (x : ℕ) (new : Bool) : Type 0 where
   pub was-not : new ≡ true → met before x ≡ false
   pub is-met : new ≡ true → met after x ≡ true

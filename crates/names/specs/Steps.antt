@@ -3,7 +3,7 @@ use mathlib.Core.Path.{_≡_}
 use mathlib.Core.List.{List}
 use mathlib.Core.Bool.{true, false, cond}
 use Prim.Native.Nat.{ℕ, _+_, _<_, _≤_}
-use lib.ListN.{length, drop}
+use lib.ListN.{length, set, drop}
 use Rattle.format.specs.WellFormed.{isPage, nameOf, distinct}
 use Rattle.format.specs.Occurs.{occurs, one}
 use Rattle.names.specs.Pages.{Pages, namesAt}
@@ -16,6 +16,9 @@ held link key heads x = cond (has link key heads x) 1 0
 -- x was put into the trees, whose free node was `node`, and `next` is the free node now; or `next` is 0: nothing has changed, and
 -- where a search for x ends there is a node, or none is free
 pub record Put (link₀ key₀ link key : List ℕ) (heads node x next : ℕ) : Type 0 where
+  pub is-next : 0 < next → next ≡ node + 1
+  pub is-link : 0 < next → link ≡ set link₀ (endOf link₀ key₀ heads x) node
+  pub is-key : 0 < next → key ≡ set key₀ node x
   pub kept : 0 < next → Tree link key heads next
   pub more : 0 < next → (y : ℕ) → held link key heads y ≡ held link₀ key₀ heads y + one y x
   pub same-link : next ≡ 0 → link ≡ link₀
@@ -24,6 +27,9 @@ pub record Put (link₀ key₀ link key : List ℕ) (heads node x next : ℕ) : 
 
 -- the same of the name of the block at `at`; nothing is put where it is no page
 pub record Taken (z link₀ key₀ link key : List ℕ) (heads node at next : ℕ) : Type 0 where
+  pub is-next : 0 < next → next ≡ node + cond (isPage (drop at z)) 1 0
+  pub is-link : 0 < next → link ≡ cond (isPage (drop at z)) (set link₀ (endOf link₀ key₀ heads (nameOf (drop at z))) node) link₀
+  pub is-key : 0 < next → key ≡ cond (isPage (drop at z)) (set key₀ node (nameOf (drop at z))) key₀
   pub kept : 0 < next → Tree link key heads next
   pub more : 0 < next → (y : ℕ) → held link key heads y ≡ held link₀ key₀ heads y + cond (isPage (drop at z)) (one y (nameOf (drop at z))) 0
   pub same-link : next ≡ 0 → link ≡ link₀
@@ -38,7 +44,7 @@ pub record Holding (z link key : List ℕ) (heads from at free : ℕ) : Type 0 w
   pub far : 1 < free → from < at
   pub counts : (x : ℕ) → held link key heads x + occurs x (namesAt z at) ≡ occurs x (namesAt z from)
 
--- the same, as far as the trees could take them
+-- the same, up to a name that was not put. That a round goes as far as the trees can take names is measured, and not promised
 pub record Filled (z link key : List ℕ) (heads from at : ℕ) : Type 0 where
   pub links : Links link key heads
   pub next : Pages z at
@@ -46,7 +52,7 @@ pub record Filled (z link key : List ℕ) (heads from at : ℕ) : Type 0 where
   pub far : at < length z → from < at
   pub counts : (x : ℕ) → held link key heads x + occurs x (namesAt z at) ≡ occurs x (namesAt z from)
 
--- the names from `from` on are distinct where those from `next` on are; where `next` is `from`, they are not
+-- the names from `from` on are distinct where those from `next` on are; where `next` is `from`, they are not. That a round goes far is not promised, as in `Filled`
 pub record Round (z : List ℕ) (from next : ℕ) : Type 0 where
   pub pages : Pages z next
   pub far : from ≤ next

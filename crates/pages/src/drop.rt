@@ -22,7 +22,7 @@ pub struct DropPlan {
 
 // The plan of a call that is refused.
 fn no_plan(number: u32) -> DropPlan
-    ensures { λ r. ⌜ r .number ≡ number ⌝ }
+    ensures { λ r. ⌜ (r .number ≡ number) × (r .len ≡ 0) × (r .from ≡ 0) × (r .at ≡ 0) × (r .end ≡ 0) × (r .to ≡ 0) ⌝ }
 {
     DropPlan {
         number,

@@ -6,15 +6,19 @@ use Rattle.calls.specs.Bays.{Bays}
 use Rattle.calls.specs.State.{Fixed}
 use Rattle.calls.specs.Pages.{sumWithout}
 use Rattle.bay.specs.Bay.{Cell, items, baySum}
-use Rattle.turn.specs.Rank.{rankRange, goes}
+use Rattle.zone.specs.Group.{flatten}
+use Rattle.turn.specs.Rank.{rankRange, limitRange, goes}
+use Rattle.turn.specs.Walk.{unders, overs}
 
 -- the largest sum of a bay, were the unlocked pages of rank below the limit t gone
 abbrev pub sumBelow : ℕ → ℕ → Bays (List Cell) Fixed → ℕ
 sumBelow clock t s = sumWithout items baySum (goes clock t) s
 
--- what a walk with the limit t tells: that sum, a limit up to t with which the same pages go, and one above t below which no more pages go
+-- what a walk with the limit t tells: that sum, the least limit with which the same pages go, up to t, and the least with which more go, above t
 pub record Weighed (clock t : ℕ) (s : Bays (List Cell) Fixed) (sum under over : ℕ) : Type 0 where
   pub sum-is : sum ≡ sumBelow clock t s
+  pub under-is : under ≡ unders clock t 0 (flatten s)
+  pub over-is : over ≡ overs clock t limitRange (flatten s)
   pub same : sumBelow clock under s ≡ sumBelow clock t s
   pub to : under ≤ t
   pub next : (u : ℕ) → u < over → sumBelow clock u s ≤ sumBelow clock t s

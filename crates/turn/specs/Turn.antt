@@ -15,6 +15,7 @@ use Rattle.zone.specs.Work.{Zone, facts}
 use Rattle.zone.specs.Call.{inBays}
 use Rattle.bays.specs.Places.{baysOf}
 use Rattle.turn.specs.Rank.{goes}
+use Rattle.turn.specs.Limit.{Least}
 
 -- 5 where dropping every unlocked page would not do (`short`), 12 where the dropping would reach a dirty one
 abbrev pub numberBy : Bool → Option ℕ → ℕ
@@ -31,9 +32,11 @@ turnName number need f = cond (eqb number 12) (Option·getD (f .stop need) 0) 0
 abbrev pub bayed : List ℕ → Zone
 bayed z = inBays (length z) (decodeZone z)
 
+-- beside a refusal the limit says nothing
 pub record InTurn (z : List ℕ) (need number name limit : ℕ) : Type 0 where
   pub number-is : number ≡ turnNumber need (facts true (bayed z))
   pub name-is : name ≡ turnName number need (facts true (bayed z))
-  -- the pages that go are those of rank below the limit
+  -- the pages that go are those of rank below the limit, the least that is enough
+  pub least : number ≡ 0 → Least (decodeZone z .clock) need limit (baysOf (decodeZone z))
   pub gone : number ≡ 0
       → mapS (release (among (dropping items baySum need (bayed z)))) (baysOf (decodeZone z)) ≡ mapS (release (goes (decodeZone z .clock) limit)) (baysOf (decodeZone z))

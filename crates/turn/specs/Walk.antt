@@ -2,6 +2,7 @@
 -- the nearest limits at which other pages go.
 use mathlib.Core.Path.{_≡_}
 use mathlib.Core.Bool.{cond}
+use mathlib.Core.List.{List, [], _∷_}
 use Prim.Native.Nat.{ℕ, _+_, _≤_, min, max}
 use lib.Dec.{ltb}
 use Rattle.kinds.specs.Kinds.{itemSize}
@@ -33,6 +34,15 @@ abbrev pub overPast : ℕ → ℕ → Block → ℕ → ℕ
 overPast clock t (cell (free n)) over = over
 overPast clock t (cell (held e)) over = min over (cond (ltb (looseRank clock e) t) limitRange (looseRank clock e + 1))
 overPast clock t (fixed d) over = over
+
+-- both behind all blocks
+abbrev pub unders : ℕ → ℕ → ℕ → List Block → ℕ
+unders clock t under [] = under
+unders clock t under (b ∷ bs) = unders clock t (underPast clock t b under) bs
+
+abbrev pub overs : ℕ → ℕ → ℕ → List Block → ℕ
+overs clock t over [] = over
+overs clock t over (b ∷ bs) = overs clock t (overPast clock t b over) bs
 
 pub record Past (clock t : ℕ) (b : Block) (n best sum under over best′ sum′ under′ over′ : ℕ) : Type 0 where
   pub best-is : best′ ≡ bestPast b best sum

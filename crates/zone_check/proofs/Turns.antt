@@ -1,6 +1,6 @@
 -- The laws of the walk over the blocks: what a turn keeps, and what the names that are noted tell at the end.
 use mathlib.Core.Path.{_≡_, refl, sym, _∙_}
-use mathlib.Core.List.{List, _∷_}
+use mathlib.Core.List.{List, [], _∷_}
 use mathlib.Core.Bool.{Bool, true, false, cond, _&&_}
 use Prim.Native.Nat.{ℕ, _+_, _%_, _<_, _≤_}
 use native.Mathlib.Nat.{zero-add}
@@ -51,19 +51,23 @@ walk-bad x z first room at n count got prev free page one w b l e =
       bad = λ _. sym (tiles-stop z first at n prev (b .size) _ l e (w .is-ok));
       good = λ q. absurd (not-both q refl);
       stops = λ q. absurd (not-both q refl);
+      page-next = λ q. absurd (not-both q refl);
       is-distinct = λ q. absurd (not-both q refl);
+      none = λ q. absurd (not-both q refl);
       finds = λ q. absurd (not-both q refl);
     }
 
 -- a page, and no room for its name
-pub walk-stops : (x : ℕ) (z table : List ℕ) (first room at count page : ℕ) (prev : Bool) → Walked z first at prev count → at < length z → length table ≡ room
-    → (length table < tableSize → namesAt z at ≡ namesAt z first) → length table < tableSize → Found x z first at page → Gone x z first room true at prev count false page
-walk-stops x z table first room at count page prev w l s e h f =
+pub walk-stops : (x : ℕ) (z table : List ℕ) (first room at n count got : ℕ) (prev free page : Bool) (one : ℕ) → Walked z first at prev count → GoodBlock z first prev at n free one page → page ≡ true → at < length z → length table ≡ room
+    → (length table < tableSize → namesAt z at ≡ namesAt z first) → length table < tableSize → Found x z first at got → Gone x z first room true at prev count false got
+walk-stops x z table first room at n count got prev free page one w b y l s e h f =
     record {
       bad = λ q. absurd (not-both refl q);
       good = λ _. w;
       stops = λ _ _. (omega arith, e h);
+      page-next = λ _ _. sym (b .is-page) ∙ y;
       is-distinct = λ q. absurd (not-both q refl);
+      none = λ _ k. let q : ⊥ = omega arith in absurd q;
       finds = λ _. f;
     }
 
@@ -107,10 +111,14 @@ module _ (z : List ℕ) (first at n count : ℕ) (prev free page : Bool) (one : 
 
     pub seen-page : (certain new : Bool) (table after : List ℕ) (x : ℕ) → Seen z table first at certain → x ≡ nameOf (drop at z) → Noted table after x new → (new ≡ true → certain ≡ true) → Seen z after first (at + n) new
     unfolding occurs
-    seen-page certain new table after x s e t only = record { once = go }
+    seen-page certain new table after x s e t only = record { once = go; left = λ y. omega (arith, rw split at (s .left y)); none = λ k. absurd (some k) }
       where
         split : namesAt z at ≡ x ∷ namesAt z (at + n)
         split = rw e ((rw page-here at (b .size .good ne .named)))
+
+        -- there is a name
+        some : namesAt z first ≡ [] → ⊥
+        some k = omega (arith, one-same x x refl, rw (split, k) at (s .left x))
 
         go : new ≡ true → (y : ℕ) → occurs y (namesAt z first) ≤ occurs y (namesAt z (at + n)) + cond (met after y) 1 0
         go k y = on (eqb y x) refl (rw split at (s .once (only k) y))
@@ -140,7 +148,7 @@ module _ (z : List ℕ) (first at n count : ℕ) (prev free page : Bool) (one : 
     same-names = rw (← b .is-page, q) at (b .size .good ne .named)
 
     pub seen-other : (certain : Bool) (table : List ℕ) → Seen z table first at certain → Seen z table first (at + n) certain
-    seen-other certain table s = record { once = λ k x. rw same-names at (s .once k x) }
+    seen-other certain table s = record { once = λ k x. rw same-names at (s .once k x); left = λ x. rw same-names at (s .left x); none = s .none }
 
     pub found-other : (x got : ℕ) → Found x z first at got → Found x z first (at + n) got
     found-other x got f = found-past x z first prev at n (b .size .good ne) other-here got f
@@ -154,7 +162,7 @@ pub zeros-empty : (n : ℕ) → Empty (replicate n 0)
 zeros-empty n = record { none = none-met n }
 
 pub seen-none : (z table : List ℕ) (first at : ℕ) → Empty table → namesAt z at ≡ namesAt z first → Seen z table first at true
-seen-none z table first at t e = record { once = λ _ x. rw (t .none x, e) (omega arith) }
+seen-none z table first at t e = record { once = λ _ x. rw (t .none x, e) (omega arith); left = λ x. rw e (omega arith); none = λ _. refl }
 
 pub found-none : (x : ℕ) (z : List ℕ) (first page : ℕ) → page ≡ 0 → Found x z first first page
 found-none x z first page e = record { is-page = rw e }
@@ -167,7 +175,9 @@ walk-ends x z table first room at count page prev certain w l s f =
       bad = λ q. absurd (not-both refl q);
       good = λ _. w;
       stops = λ _ k. let q : ⊥ = omega arith in absurd q;
+      page-next = λ _ k. let q : ⊥ = omega arith in absurd q;
       is-distinct = λ e. once-distinct (namesAt z first) (λ y. le y (s .once e y));
+      none = λ _ _. s .none;
       finds = λ _. f;
     }
   where
@@ -184,6 +194,7 @@ module _ (x : ℕ) (z : List ℕ) (first room at count page : ℕ) (ok prev cert
         is-count = λ e. tiles-end-count z at count _ (l e) (g .good e .is-count);
         is-page = λ e. found-end x z first at page (l e) (g .finds e);
         is-distinct = g .is-distinct;
+        none = λ e. g .none e (l e);
       }
     where
       by : (t : Bool) → ok ≡ t → ok ≡ blocksOk z first false first (splitBlocks (drop first z))

@@ -25,6 +25,9 @@ module _ (z : List ℕ) (at : ℕ) (t : Bool) (is : t ≡ isPage (drop at z)) wh
       → Taken z link key link′ key′ heads node at next
   take-page link key link′ key′ heads node x next y e p =
       record {
+        is-next = λ l. rw (← is, y) (p .is-next l);
+        is-link = λ l. rw (← is, y, ← e) (p .is-link l);
+        is-key = λ l. rw (← is, y, ← e) (p .is-key l);
         kept = p .kept;
         more = λ l k. rw (← is, y, ← e) (p .more l k);
         same-link = p .same-link;
@@ -36,6 +39,9 @@ module _ (z : List ℕ) (at : ℕ) (t : Bool) (is : t ≡ isPage (drop at z)) wh
   pub take-other : (link key : List ℕ) (heads node : ℕ) → t ≡ false → Tree link key heads node → Taken z link key link key heads node at node
   take-other link key heads node y g =
       record {
+        is-next = λ l. rw (← is, y) (omega arith);
+        is-link = λ l. rw (← is, y);
+        is-key = λ l. rw (← is, y);
         kept = λ l. g;
         more = λ l k. rw (← is, y) (omega arith);
         same-link = λ e. refl;

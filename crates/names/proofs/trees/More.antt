@@ -177,6 +177,9 @@ module _ (link key : List ℕ) (heads node x : ℕ) (t : Tree link key heads nod
   nothing : (nodeAt link (endOf link key heads x) ≡ 0 → node ≡ length key) → Put link key link key heads node x 0
   nothing h =
       record {
+        is-next = λ l. let z : ⊥ = omega arith in absurd z;
+        is-link = λ l. let z : ⊥ = omega arith in absurd z;
+        is-key = λ l. let z : ⊥ = omega arith in absurd z;
         kept = λ l. let z : ⊥ = omega arith in absurd z;
         more = λ l. let z : ⊥ = omega arith in absurd z;
         same-link = λ e. refl;
@@ -196,6 +199,9 @@ module _ (link key : List ℕ) (heads node x : ℕ) (t : Tree link key heads nod
       let free : node < length key = omega (arith, t .room) in
       let none : getD link p 0 ≡ 0 = omega arith in
       record {
+        is-next = λ g. refl;
+        is-link = λ g. rw e;
+        is-key = λ g. refl;
         kept = λ g. tree-more link key heads node x p t free l none e;
         more = λ g. held-more link key heads node x p t free l none e;
         same-link = λ g. let z : ⊥ = omega arith in absurd z;

@@ -79,6 +79,7 @@ module _ (z : List ℕ) (need first ck : ℕ) (i : IsZone z) (ef : first ≡ fir
     number-is = sym (ap (λ (b : Bool). numberBy (not b) (firstDirty (dropping items baySum need (bayed z))))
         (lt-leb need (sumWithout items baySum unlocked bays) (omega (arith, w .sum-is, sum-is rankRange, emptied))));
     name-is = refl;
+    least = λ q. absurd (omega arith);
     gone = λ q. absurd (omega arith);
   }
 
@@ -101,12 +102,12 @@ module _ (z : List ℕ) (need first ck : ℕ) (i : IsZone z) (ef : first ≡ fir
     pub turn-twelve : (v : ℕ) → d < t → v ≡ d % argumentRange → InTurn z need 12 v 0
     turn-twelve v m ev =
         let e : firstDirty (dropping items baySum need (bayed z)) ≡ some (d % argumentRange) = stop-is ∙ ap (λ (b : Bool). cond b (some (d % argumentRange)) none) (lt-ltb d t m) in
-        record { number-is = sym (number-of (some (d % argumentRange)) e); name-is = ev ∙ sym (ap (λ (o : Option ℕ). Option·getD o 0) e); gone = λ q. absurd (omega arith) }
+        record { number-is = sym (number-of (some (d % argumentRange)) e); name-is = ev ∙ sym (ap (λ (o : Option ℕ). Option·getD o 0) e); least = λ q. absurd (omega arith); gone = λ q. absurd (omega arith) }
 
     pub turn-found : t ≤ d → InTurn z need 0 0 t
     turn-found m =
         let e : firstDirty (dropping items baySum need (bayed z)) ≡ none = stop-is ∙ ap (λ (b : Bool). cond b (some (d % argumentRange)) none) (le-ltb d t m) in
-        record { number-is = sym (number-of none e); name-is = refl; gone = λ q. dropping-released need t (bayed z) (zone-named z i) least }
+        record { number-is = sym (number-of none e); name-is = refl; least = λ q. least; gone = λ q. dropping-released need t (bayed z) (zone-named z i) least }
 
   -- no page has to go
   pub turn-free : (r under over : ℕ) → Weighed ck 0 (baysAt z first) r under over → need ≤ r → InTurn z need 0 0 0

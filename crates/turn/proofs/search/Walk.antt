@@ -16,12 +16,13 @@ use Rattle.calls.specs.State.{Fixed}
 use Rattle.calls.specs.Pages.{freed}
 use Rattle.bay.specs.Bay.{Cell, free, held, cellSize, items, baySum}
 use Rattle.structure.specs.Structure.{Block, cell, fixed, size, code}
-use Rattle.zone.specs.Group.{inFront, group}
+use Rattle.zone.specs.Group.{inFront, group, flatten}
+use Rattle.zone.proofs.GroupLaws.{flatten-group}
 use Rattle.access.specs.row.Row.{blocksOf, blockAt, Stepped}
 use Rattle.access.proofs.row.Laws.{row-end}
 use Rattle.bays.specs.Places.{baysAt}
 use Rattle.turn.specs.Rank.{rankRange, limitRange, rank, keyBelow, goes, keyLooseRank, looseRank, looseRankB, dirtyRankB, leastDirty}
-use Rattle.turn.specs.Walk.{part, bestPast, sumPast, underPast, overPast, Past}
+use Rattle.turn.specs.Walk.{part, bestPast, sumPast, underPast, overPast, unders, overs, Past}
 use Rattle.turn.specs.Limit.{sumBelow, Weighed}
 use Rattle.turn.proofs.Dirty.{least-most}
 use Rattle.turn.proofs.Law.{without-more}
@@ -70,14 +71,6 @@ module _ (ck t : ℕ) where
   all-is z first = omega (arith, ends-is 0 0 first (blocksOf (drop first z)), ahead-none (baysAt z first))
 
 -- ---- the limits next to t
-
-abbrev pub unders : ℕ → ℕ → ℕ → List Block → ℕ
-unders ck t under [] = under
-unders ck t under (b ∷ bs) = unders ck t (underPast ck t b under) bs
-
-abbrev pub overs : ℕ → ℕ → ℕ → List Block → ℕ
-overs ck t over [] = over
-overs ck t over (b ∷ bs) = overs ck t (overPast ck t b over) bs
 
 -- a page goes where its rank is below the limit
 goes-loose : (ck t : ℕ) → t ≤ rankRange → (e : Item) → goes ck t e ≡ ltb (looseRank ck e) t
@@ -178,13 +171,22 @@ module _ (ck t : ℕ) where
   pub walk-done : (z : List ℕ) (first at best sum under over r : ℕ) → t ≤ rankRange → length z ≤ at → r ≡ max best sum
       → Walked (blocksOf (drop first z)) (blocksOf (drop at z)) best sum under over → Weighed ck t (baysAt z first) r under over
   walk-done z first at best sum under over r m l er w =
-      record { sum-is = er ∙ ap (ends ck t best sum) (sym none) ∙ w .ends-are ∙ all-is ck t z first; same = at-limit under low (omega (arith, low-to, high-past)); to = low-to; next = below; past = high-past }
+      record { sum-is = er ∙ ap (ends ck t best sum) (sym none) ∙ w .ends-are ∙ all-is ck t z first; under-is = under-all; over-is = over-all; same = at-limit under low (omega (arith, low-to, high-past)); to = low-to; next = below; past = high-past }
     where
       bs : List Block
       bs = blocksOf (drop first z)
 
       none : blocksOf (drop at z) ≡ []
       none = row-end z at l
+
+      flat : flatten (baysAt z first) ≡ bs
+      flat = flatten-group first bs
+
+      under-all : under ≡ unders ck t 0 (flatten (baysAt z first))
+      under-all = ap (unders ck t under) (sym none) ∙ w .unders-are ∙ ap (unders ck t 0) (sym flat)
+
+      over-all : over ≡ overs ck t limitRange (flatten (baysAt z first))
+      over-all = ap (overs ck t over) (sym none) ∙ w .overs-are ∙ ap (overs ck t limitRange) (sym flat)
 
       low : unders ck t 0 bs ≤ under
       low = omega (arith, sym (w .unders-are) ∙ ap (unders ck t under) none)
