@@ -1,7 +1,7 @@
 /* Measures the stack that each function of nafelode.h uses: a random list of calls, each on a stack
  * that was painted before, of which the calls then have changed the upper part. Usage: stack; exit
  * status 0 if none used more than NAFELODE_STACK, every function was accepted at least once,
- * an allocation added masters, and a create dropped pages. */
+ * an allocation added masters, a create dropped pages, and a census went by lent limits. */
 #define _XOPEN_SOURCE 700
 #include <stdio.h>
 #include <string.h>
@@ -9,7 +9,7 @@
 #include "nafelode.h"
 
 enum { CALLS = 27, LIST = 40000, STACK = 32768, LENGTH = 2048 };
-static uint8_t zone[LENGTH], second[4096], stack[STACK];
+static uint8_t zone[LENGTH], second[4096], limits[76], stack[STACK];
 static uint32_t which, a, b, c, d, e, walker, number;
 static ucontext_t here, there;
 
@@ -51,7 +51,7 @@ static void call(void) {
         CASE(14, nafelode_enlarge(Z, c).number);
         CASE(15, nafelode_shrink(Z, c).number);
         CASE(16, nafelode_roster(Z, second, sizeof second).number);
-        CASE(17, nafelode_census(Z).number);
+        CASE(17, nafelode_census(Z, limits, d % 2 ? sizeof limits : 0).number);
         CASE(18, (walker = nafelode_walker_start(Z)) == 0);
         CASE(19, nafelode_walker_step(Z, &walker).number);
         CASE(20, nafelode_create_page(Z, e, c).number);
@@ -81,7 +81,8 @@ int main(void) {
         "resize", "size", "read", "write", "view", "compact", "sum", "check", "length", "enlarge", "shrink", "roster", "census",
         "walker_start", "walker_step", "create_page", "use_page", "set_dirty", "clear_dirty", "set_lock", "clear_lock", "drop_page"};
     size_t most[CALLS] = {0}, worst = 0;
-    unsigned accepted[CALLS] = {0}, grown = 0, dropped = 0;
+    unsigned accepted[CALLS] = {0}, grown = 0, dropped = 0, by_limits = 0;
+    for (unsigned i = 0; i < 19; i++) limits[4 * i + 3] = (uint8_t)(2 + 3 * i); /* in words */
     which = CALLS;
     size_t own = used();
     for (unsigned i = 0; i < LIST; i++) {
@@ -98,6 +99,7 @@ int main(void) {
         size_t n = used();
         dropped += which == 20 && number == 0 && pages() <= before;
         grown += which == 1 && number == 0 && zone[11] > masters;
+        by_limits += which == 17 && number == 0 && d % 2;
         n = n > own ? n - own : 0;
         if (n > most[which]) most[which] = n;
         if (number == 0) accepted[which]++;
@@ -108,7 +110,8 @@ int main(void) {
         if (most[i] > worst) worst = most[i];
         bad |= accepted[i] == 0;
     }
-    printf("allocations that added masters: %u; creates that dropped pages: %u\n", grown, dropped);
+    printf("allocations that added masters: %u; creates that dropped pages: %u; ", grown, dropped);
+    printf("censuses by lent limits: %u\n", by_limits);
     printf("at most %zu bytes of stack; the header says %u\n", worst, NAFELODE_STACK);
-    return bad || grown == 0 || dropped == 0 || worst == 0 || worst > NAFELODE_STACK;
+    return bad || grown == 0 || dropped == 0 || by_limits == 0 || worst == 0 || worst > NAFELODE_STACK;
 }

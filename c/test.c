@@ -8,6 +8,7 @@
 #include "nafelode.h"
 
 enum { PAGE = 4096, LENGTH = 85, SECOND = 29 }; /* odd: at the end of a page both start at an odd address */
+enum { STRATA = 19, LIMITS = 4 * STRATA };
 static uint8_t *zone_page, *second_page, *zone, *second;
 static uint8_t zone_kept[PAGE], second_kept[PAGE];
 static unsigned tests, wrong;
@@ -62,7 +63,7 @@ static void rig_sheet(void) {
     nafelode_sums sums = (keep(), nafelode_sum(Z));
     stayed(__LINE__, 0, 1, 1);
     IS(sums.number, 0), IS(sums.total, 20), IS(sums.largest, 20);
-    nafelode_census_counts census = (keep(), nafelode_census(Z)); /* 12 bytes are 6 words, 8 bytes are 4 */
+    nafelode_census_counts census = (keep(), nafelode_census(Z, NULL, 0)); /* 12 bytes are 6 words, 8 bytes are 4 */
     stayed(__LINE__, 0, 1, 1);
     IS(census.number, 0);
     for (int i = 0; i < 19; i++) IS(census.counts[i], i == 2 ? 2 : 0);
@@ -369,6 +370,68 @@ static void dropping(void) {
     IS(nafelode_check(Z).yes, 1);
 }
 
+/* A census by limits, which lie flush against the second buffer's page; `length` bytes of them, after 76 from the front again.
+ * `low` and `high` are the strata in which free blocks of 4 and of 6 words are counted. */
+static void census_by(int line, const uint32_t *steps, size_t length, uint32_t refusal, int low, int high) {
+    uint8_t *limits = second == second_page ? second_page : second_page + PAGE - length;
+    for (size_t i = 0; i < length; i++) limits[i] = (uint8_t)(steps[i / 4 % STRATA] >> (24 - 8 * (i % 4)));
+    nafelode_census_counts c = (keep(), nafelode_census(Z, limits, length));
+    stayed(line, c.number, 1, 1);
+    expect(line, "the census's .number", c.number, refusal);
+    for (int i = 0; i < STRATA; i++) expect(line, "a count of the census", c.counts[i], (uint32_t)(!refusal && i == low) + (!refusal && i == high));
+}
+#define CENSUS(steps, length, low, high) census_by(__LINE__, steps, length, 0, low, high)
+#define REFUSED_LIMITS(steps, length, number) census_by(__LINE__, steps, length, number, 0, 0)
+
+static const uint32_t mill[STRATA] = {2, 4, 5, 6, 7, 10, 20, 30, 40, 50, 60, 70, 80, 90, 100, 200, 300, 400, 524288};
+
+static void mills_limits(void) {
+    uint32_t steps[STRATA];
+    FRESH();
+    TOLD(nafelode_allocate_relocatable(Z, 6), 0, 16);
+    TOLD(nafelode_allocate_relocatable(Z, 8), 0, 20);
+    TOLD(nafelode_free_handle(Z, 16), 0, 0); /* blocks of 6 words and of 4 are free */
+    CENSUS(mill, 0, 2, 2);
+    for (uint32_t i = 0; i < STRATA; i++) steps[i] = 1u << i;
+    CENSUS(steps, LIMITS, 2, 2);
+    CENSUS(mill, LIMITS, 1, 3);
+    memcpy(steps, mill, sizeof mill), steps[1] = 3, steps[3] = 7, steps[4] = 8;
+    CENSUS(steps, LIMITS, 1, 2);
+    for (uint32_t i = 0; i < STRATA; i++) steps[i] = 1 + i;
+    CENSUS(steps, LIMITS, 3, 5);
+    for (uint32_t i = 1; i < STRATA; i++) steps[i] = 524288 - STRATA + 1 + i; /* above every free block */
+    CENSUS(steps, LIMITS, 0, 0);
+    static const size_t wrong_length[] = {1, 4, 72, 75, 77, 80, 152, PAGE};
+    for (size_t i = 0; i < sizeof wrong_length / sizeof *wrong_length; i++) REFUSED_LIMITS(mill, wrong_length[i], NAFELODE_BAD_LIMITS);
+    memcpy(steps, mill, sizeof mill);
+    steps[0] = 1, CENSUS(steps, LIMITS, 1, 3);
+    steps[0] = 0, REFUSED_LIMITS(steps, LIMITS, NAFELODE_BAD_LIMITS);
+    steps[0] = 3, REFUSED_LIMITS(steps, LIMITS, NAFELODE_BAD_LIMITS);
+    steps[0] = mill[0], steps[STRATA - 1] = 524289, REFUSED_LIMITS(steps, LIMITS, NAFELODE_BAD_LIMITS);
+    for (int i = 1; i < STRATA; i++) {
+        memcpy(steps, mill, sizeof mill);
+        steps[i] = mill[i - 1], REFUSED_LIMITS(steps, LIMITS, NAFELODE_BAD_LIMITS);
+        steps[i] = mill[i - 1] - 1, REFUSED_LIMITS(steps, LIMITS, NAFELODE_BAD_LIMITS);
+    }
+    zone[15] = 1; /* 1 comes before 14 */
+    REFUSED_LIMITS(mill, LIMITS, NAFELODE_NOT_WELL_FORMED);
+    REFUSED_LIMITS(steps, LIMITS, NAFELODE_NOT_WELL_FORMED);
+    REFUSED_LIMITS(mill, LIMITS - 1, NAFELODE_NOT_WELL_FORMED);
+}
+
+/* Limits that a mill keeps in a block of the zone: both buffers are only read. */
+static void limits_in_the_zone(void) {
+    static uint8_t own[256], kept[256];
+    IS(nafelode_initialize(own, sizeof own, sizeof own, 2).number, 0);
+    uint32_t place = at(own + nafelode_allocate_relocatable(own, sizeof own, LIMITS).value);
+    for (int i = 0; i < LIMITS; i++) own[place + i] = (uint8_t)(mill[i / 4] >> (24 - 8 * (i % 4)));
+    memcpy(kept, own, sizeof own);
+    nafelode_census_counts c = nafelode_census(own, sizeof own, own + place, LIMITS); /* one free block, of 76 words */
+    IS(c.number, 0);
+    for (int i = 0; i < STRATA; i++) IS(c.counts[i], i == 11);
+    IS(memcmp(own, kept, sizeof own) != 0, 0);
+}
+
 static void refused_1(void) {
     uint32_t walker = 32;
     FRESH();
@@ -395,7 +458,7 @@ static void refused_1(void) {
     TOLD(nafelode_shrink(Z, 4), 1, 0);
     TELLS(nafelode_roster(Z, second, SECOND), 1, 0);
     IS(nafelode_sum(Z).number, 1), IS(nafelode_sum(Z).total + nafelode_sum(Z).largest, 0);
-    IS(nafelode_census(Z).number, 1), IS(nafelode_census(Z).counts[3], 0);
+    IS(nafelode_census(Z, NULL, 0).number, 1), IS(nafelode_census(Z, NULL, 0).counts[3], 0);
     IS(nafelode_view(Z, NAFELODE_HANDLE, 16, 0, 0).offset, 0);
     IS(nafelode_check(Z).yes, 0), IS(nafelode_check(Z).count, 0);
     IS(nafelode_walker_start(Z), 0), IS(nafelode_walker_step(Z, &walker).number, 1), IS(walker, 32);
@@ -443,6 +506,7 @@ static void empty(void) {
     IS(nafelode_compact(NULL, 0).number, 1);
     IS(nafelode_create_page(NULL, 0, 7, 4).number, 1);
     IS(nafelode_drop_page(NULL, 0, 7).number, 1);
+    IS(nafelode_census(NULL, 0, NULL, 0).number, 1);
     IS(nafelode_check(NULL, 0).yes, 0);
     IS(nafelode_walker_step(NULL, 0, &walker).number, 1);
     FRESH();
@@ -501,9 +565,9 @@ int main(void) {
         zone = low ? zone_page : zone_page + PAGE - LENGTH;
         second = low ? second_page : second_page + PAGE - SECOND;
         rig_sheet(), bytes(), fixed_blocks(), roster_order(), tightest_hole(), more_masters(), page_by_name(), dropping();
-        refused_1(), refused_2_to_10(), refused_11_and_13(), empty();
+        refused_1(), refused_2_to_10(), refused_11_and_13(), mills_limits(), empty();
     }
-    largest(), most_masters(), many_pages();
+    largest(), most_masters(), many_pages(), limits_in_the_zone();
     printf("%u tests, %u wrong\n", tests, wrong);
     return wrong != 0;
 }

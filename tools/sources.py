@@ -4,7 +4,7 @@ import re
 from typing import NamedTuple
 
 # examples, and laws in their own terms: nobody has to believe them, but emptied they would show nothing
-EXAMPLES = ("RigSheet.antt", "ReelB.antt", "WhichBay.antt", "Choice.antt", "OneChoice.antt", "RosterSays.antt", "Growth.antt", "GrowthSheet.antt", "Formula.antt", "PageSays.antt", "PageSheet.antt", "FixedSheet.antt")
+EXAMPLES = ("RigSheet.antt", "ReelB.antt", "WhichBay.antt", "Choice.antt", "OneChoice.antt", "RosterSays.antt", "Growth.antt", "GrowthSheet.antt", "Formula.antt", "Strata.antt", "PageSays.antt", "PageSheet.antt", "FixedSheet.antt", "StrataSheet.antt")
 EXPORTED = ("nafelode", "nafelode_c", "records", "zone_run")
 
 ROW = re.compile(r"^\| \d+ \| (crates/\S+) \| (\d+) \|", re.M)

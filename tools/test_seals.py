@@ -48,7 +48,7 @@ class Seals(Trial):
         self.assertGreater(self.each(sources.believed(self.root), r"^pub", "  pub"), 2)
 
     def test_emptied_example(self):
-        self.assertEqual(self.each(sources.examples(self.root), r" ∷ \[\]$", " ∷ 0 ∷ []"), 7)
+        self.assertEqual(self.each(sources.examples(self.root), r" ∷ \[\]$", " ∷ 0 ∷ []"), 8)
         self.each(sources.examples(self.root), r"^table = .*$", "table = []")
 
     def test_missing_example(self):

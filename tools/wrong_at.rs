@@ -106,7 +106,8 @@ fn call(zone: &mut Vec<u8>, words: &[&str]) -> String {
             format!("{} {}", told(answer), hex(&out))
         }
         "census" => {
-            let census = nafelode::census(zone);
+            let limits = words.get(1).map_or(vec![], |word| unhex(word));
+            let census = nafelode::census(zone, &limits);
             counts(census.number, census.counts)
         }
         "walker_start" => nafelode::Walker::start(zone).at.to_string(),

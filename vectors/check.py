@@ -19,6 +19,7 @@ sys.path.insert(0, os.path.join(HERE, os.pardir, "python", "tests"))
 from builder import roster_bytes
 from library import Library, differences
 from nafelode import Zone, ZoneError, check
+from nafelode.rules import LIMITS
 from ways import REFUSALS, WAYS, refusal_names, ways
 
 READING = ("size", "read", "view", "sum", "check", "length", "roster", "census",
@@ -62,8 +63,15 @@ def package_answer(zone, call):
         found = next((b for b in zone.blocks if b.offset == at), None)
         step = [found.type, found.offset, found.size] if found else [0, 0, 0]
         return {"answer": [0, *step], "walker": [found.end if found else at]}
-    return {"answer": [0, *{"sum": zone.sum, "census": zone.census,
+    if name == "census":
+        return {"answer": [0, *zone.census(limits_of(call))]}
+    return {"answer": [0, *{"sum": zone.sum,
                             "length": lambda: (zone.length,)}[name]()]}
+
+
+def limits_of(call):
+    """The limits that a census is lent; a call without any has none."""
+    return unhex(call[1]) if call[1:] else b""
 
 
 def agrees(before, call, told):
@@ -75,8 +83,9 @@ def agrees(before, call, told):
     refused = number or told.get("view") == [0, 0] or told.get("walker") == [0]
     try:
         given = package_answer(Zone(before), call)
-    except ZoneError:
-        return bool(refused)
+    except ZoneError as error:
+        # 14 for the limits' rules alone: a broken zone is told before them
+        return bool(refused) and (number == 14) == (error.rule in LIMITS)
     # the package has no second buffer that could be too short
     return number == 10 or given == told
 

@@ -123,7 +123,8 @@ fn tell(buffer: &[u8], words: &[&str]) -> Vec<String> {
             vec![format!("answer 0 {} {count}", u32::from(yes))]
         }
         "census" => {
-            let (refusal, counts) = numbers(zone::census(buffer));
+            let limits = words.get(1).map_or(vec![], |word| unhex(word));
+            let (refusal, counts) = numbers(zone::census(buffer, &limits));
             let counts: String = counts.iter().map(|count| format!(" {count}")).collect();
             vec![format!("answer {refusal}{counts}")]
         }

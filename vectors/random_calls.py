@@ -14,6 +14,7 @@ import sys
 ROOT = os.path.dirname(os.path.dirname(os.path.abspath(__file__)))
 sys.path.insert(0, os.path.join(ROOT, "python", "tests"))
 
+from builder import broken_limits, random_limits
 from library import HANDLE, POINTER, Library
 
 # (L, masters, bytes beyond L, steps)
@@ -21,6 +22,8 @@ LISTS = ((64, 4, 0, 50), (64, 3, 8, 40), (96, 5, 16, 60), (128, 6, 0, 60),
          (160, 8, 12, 50), (256, 10, 0, 40), (384, 70, 0, 25), (508, 16, 4, 35),
          # few masters, so that the pool grows
          (300, 0, 4, 60), (240, 1, 0, 60), (400, 0, 8, 70))
+# the same, in which every third call is a census, by limits mostly (document 02, U7)
+LISTS_WITH_LIMITS = ((128, 4, 0, 40), (480, 20, 12, 60))
 WEIGHTS = {"allocate_relocatable": 26, "allocate_fixed": 9, "free_handle": 10,
            "free_pointer": 7, "resize": 22, "write": 12, "read": 3, "view": 2,
            "size": 1, "compact": 2, "sum": 1, "check": 1, "length": 1,
@@ -32,8 +35,9 @@ def some_hex(rng: random.Random, size: int) -> str:
 
 
 class Steered:
-    def __init__(self, rng: random.Random, library: Library) -> None:
-        self.rng, self.library = rng, library
+    def __init__(self, rng: random.Random, library: Library, limits: bool) -> None:
+        self.rng, self.library, self.limits = rng, library, limits
+        self.weights = {**WEIGHTS, "census": 50} if limits else WEIGHTS
 
     def live(self, kind: int) -> list:
         walk, zone = list(self.library.walk()), self.library.zone
@@ -83,17 +87,27 @@ class Steered:
             return stretch + [some_hex(rng, max(0, stretch[3] + rng.choice((0, 0, 0, 3, -1))))]
         if call in ("enlarge", "shrink"):
             return [rng.choice((4, 8, 12, 16, 3))]
+        if call == "census":
+            return self.lent()
         return [some_hex(rng, 8 * len(self.live(HANDLE)) + rng.choice((0, 0, 5)))] if call == "roster" else []
+
+    def lent(self) -> list:
+        """Limits about the free blocks' words, or such that break a rule, or none."""
+        pick = self.rng.random() if self.limits else 1.0
+        if pick < 0.6:
+            words = [size // 2 for kind, _, size in self.library.walk() if kind == 0]
+            return [random_limits(self.rng, words).hex().upper()]
+        return [broken_limits(self.rng).hex().upper()] if pick < 0.85 else []
 
     def step(self) -> str:
         """A call by weight; it is made here too, for the next one to see."""
-        call = self.rng.choices(list(WEIGHTS), list(WEIGHTS.values()))[0]
+        call = self.rng.choices(list(self.weights), list(self.weights.values()))[0]
         words = self.arguments(call)
         given = [{"handle": HANDLE, "pointer": POINTER}.get(word, word) for word in words]
         if call == "write":
             data = bytes.fromhex(given.pop().replace("-", ""))
             self.library.write(*given, data)
-        elif call not in ("read", "roster"):
+        elif call not in ("read", "roster", "census"):
             self.library.call(call, *given)
         return " ".join(map(str, ["call", call, *words]))
 
@@ -102,12 +116,12 @@ def main() -> None:
     rng, library = random.Random(int(sys.argv[2])), Library(sys.argv[1])
     print("nafelode-vectors 3")
     print(f"# Random lists, made by random_calls.py with seed {sys.argv[2]}.")
-    for number, (length, masters, beyond, steps) in enumerate(LISTS, 1):
+    for number, (length, masters, beyond, steps) in enumerate(LISTS + LISTS_WITH_LIMITS, 1):
         print(f"\nlist random_{number}\nbuffer {length + beyond} 165")
         print(f"call initialize {length} {masters}")
         library.lend(b"\xA5" * (length + beyond))
         library.call("initialize", length, masters)
-        steered = Steered(rng, library)
+        steered = Steered(rng, library, number > len(LISTS))
         for _ in range(steps):
             print(steered.step())
         print("call compact\ncall check")

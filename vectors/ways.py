@@ -63,6 +63,7 @@ REFUSALS = {
     11: ["create_page"],
     12: ["create_page"],
     13: [*BY_NAME, *STRETCH],
+    14: ["census"],
 }
 VIEW_TOO = (1, 6, 7, 8, 13)  # a view carries no number; it is refused for these
 

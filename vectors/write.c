@@ -107,6 +107,21 @@ static int page_call(void) {
     return 1;
 }
 
+/* A census goes by limits where the call has any. */
+static int census(void) {
+    if (!is("census", count > 2)) return 0;
+    size_t size = 0;
+    uint8_t *given = count > 2 ? bytes(2, &size) : NULL, *limits = count > 2 ? bytes(2, &size) : NULL;
+    nafelode_census_counts c = nafelode_census(zone, length, limits, size);
+    printf("answer %u", c.number);
+    for (int i = 0; i < 19; i++) printf(" %u", c.counts[i]);
+    putchar('\n');
+    if (size && memcmp(limits, given, size)) fail("a census has changed its limits");
+    free(given);
+    free(limits);
+    return 1;
+}
+
 static int telling_call(void) {
     if (is("size", 2)) told(nafelode_size(zone, length, kind(), number(3)));
     else if (is("length", 0)) told(nafelode_length(zone, length));
@@ -120,11 +135,6 @@ static int telling_call(void) {
     } else if (is("check", 0)) { /* never refused */
         nafelode_checked c = nafelode_check(zone, length);
         printf("answer 0 %u %u\n", c.yes, c.count);
-    } else if (is("census", 0)) {
-        nafelode_census_counts c = nafelode_census(zone, length);
-        printf("answer %u", c.number);
-        for (int i = 0; i < 19; i++) printf(" %u", c.counts[i]);
-        putchar('\n');
     } else if (is("walker_step", 1)) {
         uint32_t walker = number(2);
         nafelode_step s = nafelode_walker_step(zone, length, &walker);
@@ -160,7 +170,7 @@ static void do_line(void) {
         free(p);
     } else if (!strcmp(words[0], "call") && count > 1 && zone) {
         memcpy(before, zone, length);
-        if (!changing_call() && !page_call() && !telling_call() && !call_with_second()) fail("no call of this name");
+        if (!changing_call() && !page_call() && !telling_call() && !census() && !call_with_second()) fail("no call of this name");
         tell("zone", zone, length, !memcmp(zone, before, length));
     } else if (strcmp(words[0], "list") && *words[0] != '#') fail("not understood");
 }

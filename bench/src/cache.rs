@@ -4,7 +4,7 @@
 use crate::calls::Call;
 use crate::model::{Item, Page, Picture};
 use crate::random::Random;
-use crate::workloads::{Row, KIBIBYTE};
+use crate::workloads::{any_second, Row, KIBIBYTE};
 use crate::zone::{self, Stretch, Target};
 use std::borrow::Cow;
 
@@ -72,7 +72,7 @@ pub fn rows(pages: &Pages, count: usize, random: &mut Random) -> Vec<Row<'static
     let mut rows = Vec::new();
     let mut add = |name, call: &mut dyn FnMut(&mut Random) -> Call| {
         let calls = (0..count).map(|_| call(random)).collect::<Vec<_>>();
-        rows.push(Row { name, calls, zone: Cow::Owned(zone.clone()) });
+        rows.push(Row { name, calls, zone: Cow::Owned(zone.clone()), second: any_second() });
     };
     let stretch = |random: &mut Random| Stretch {
         block: Target::Name(random.pick(&names)),

@@ -26,7 +26,7 @@ mod zone;
 
 use random::Random;
 use timing::{time, time_plain_read, PlainRead, Times, Work};
-use workloads::{alone, mix, zone_of, Plan, Row, KIBIBYTE};
+use workloads::{alone, any_second, mix, zone_of, Plan, KIBIBYTE};
 
 /// Bytes of the buffer behind a zone that is shorter than the limit.
 const BEYOND: usize = 1_024;
@@ -119,9 +119,11 @@ fn table(workload: &Workload) {
     println!("\n### {}\n", workload.name);
     println!("| call | proved library, ns | Rust, ns | ratio |\n|---|---:|---:|---:|");
     let calls = mix(&zone, &workload.plan, MIXED_CALLS, workload.compact_every, &mut random);
-    row("realistic mix", &Work { zone: &zone, calls: &calls, each_on_a_copy: false });
-    for Row { name, calls, zone } in alone(&zone, &workload.plan, 24, &mut random) {
-        row(name, &Work { zone: &zone, calls: &calls, each_on_a_copy: true });
+    let second = any_second();
+    let work = Work { zone: &zone, calls: &calls, second: &second, each_on_a_copy: false };
+    row("realistic mix", &work);
+    for one in alone(&zone, &workload.plan, 24, &mut random) {
+        row(one.name, &Work::of(&one));
     }
     if workload.name == NEARLY_EMPTY {
         beside_a_plain_read(&zone);
@@ -143,8 +145,8 @@ fn beside_a_plain_read(zone: &[u8]) {
 fn table_of_pages(name: &str, pages: &cache::Pages) {
     println!("\n### {name}\n");
     println!("| call | proved library, ns | Rust, ns | ratio |\n|---|---:|---:|---:|");
-    for Row { name, calls, zone } in cache::rows(pages, 12, &mut Random::new(3)) {
-        row(name, &Work { zone: &zone, calls: &calls, each_on_a_copy: true });
+    for one in cache::rows(pages, 12, &mut Random::new(3)) {
+        row(one.name, &Work::of(&one));
     }
 }
 

@@ -7,7 +7,7 @@ use crate::timing::{time, time_plain_read, Times, Work};
 use crate::workloads::{alone, zone_of, Plan, KIBIBYTE};
 
 /// The calls shown: each way of going over the zone is among them.
-const SHOWN: [&str; 13] = [
+const SHOWN: [&str; 14] = [
     "check",
     "allocate relocatable",
     "allocate relocatable, growing",
@@ -20,6 +20,7 @@ const SHOWN: [&str; 13] = [
     "sum",
     "roster",
     "census",
+    "census by a mill's limits",
     "walker step",
 ];
 
@@ -36,9 +37,7 @@ fn column(plan: &Plan) -> Column {
     let calls = rows
         .into_iter()
         .filter(|row| SHOWN.contains(&row.name))
-        .map(|row| {
-            (row.name, time(&Work { zone: &row.zone, calls: &row.calls, each_on_a_copy: true }))
-        })
+        .map(|row| (row.name, time(&Work::of(&row))))
         .collect();
     Column { calls, plain_read: time_plain_read(&zone).plain }
 }

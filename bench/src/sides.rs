@@ -72,7 +72,7 @@ pub fn archive(zone: &mut [u8], call: &Call, second: &mut [u8]) -> u32 {
             Call::Shrink(k) => both(nafelode_shrink(z, n, k)),
             Call::Roster => both(nafelode_roster(z, n, s, k)),
             Call::Census => {
-                let census = nafelode_census(z, n);
+                let census = nafelode_census(z, n, s, k);
                 census.counts.iter().fold(census.number, |all, count| all.rotate_left(3) ^ count)
             }
             Call::WalkerStart => nafelode_walker_start(z, n),
@@ -121,7 +121,7 @@ pub fn rust(zone: &mut [u8], call: &Call, second: &mut [u8]) -> u32 {
         Call::Shrink(k) => value(zone::shrink(zone, k)),
         Call::Roster => value(zone::roster(zone, second)),
         Call::Census => {
-            let (number, counts) = numbers(zone::census(zone));
+            let (number, counts) = numbers(zone::census(zone, second));
             counts.iter().fold(number, |all, count| all.rotate_left(3) ^ count)
         }
         Call::WalkerStart => numbers(Walker::start(zone)).1.offset,

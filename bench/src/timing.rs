@@ -4,6 +4,7 @@
 
 use crate::calls::Call;
 use crate::sides::{archive, rust, Side};
+use crate::workloads::Row;
 use std::hint::black_box;
 use std::time::Instant;
 
@@ -13,7 +14,16 @@ const ROUNDS: usize = 9;
 pub struct Work<'a> {
     pub zone: &'a [u8],
     pub calls: &'a [Call],
+    /// what they are lent beside the zone
+    pub second: &'a [u8],
     pub each_on_a_copy: bool,
+}
+
+impl<'a> Work<'a> {
+    pub fn of(row: &'a Row) -> Work<'a> {
+        let Row { calls, zone, second, .. } = row;
+        Work { zone, calls, second, each_on_a_copy: true }
+    }
 }
 
 /// Nanoseconds per call of the two sides.
@@ -53,7 +63,7 @@ fn changes(call: &Call) -> bool {
 fn round(work: &Work, side: Side, buffer: &mut [u8], second: &mut [u8]) -> Round {
     buffer.copy_from_slice(work.zone);
     // reads fill it and writes take from it, so both sides start alike
-    second.fill(7);
+    second.copy_from_slice(work.second);
     let mut round = Round { times: Vec::with_capacity(work.calls.len()), answers: 0 };
     for call in work.calls {
         if work.each_on_a_copy && changes(call) {
@@ -83,7 +93,7 @@ fn settle(rounds: &[Round], clock: f64) -> f64 {
 /// further away than the other.
 pub fn time(work: &Work) -> Times {
     let (mut buffer, mut left) = (work.zone.to_vec(), work.zone.to_vec());
-    let mut second = vec![7; 8 * 8_188];
+    let mut second = work.second.to_vec();
     let mut second_left = second.clone();
     let mut rounds = [Vec::new(), Vec::new()];
     let sides: [Side; 2] = [archive, rust];

@@ -177,6 +177,23 @@ pub struct Row<'z> {
     pub name: &'static str,
     pub calls: Vec<Call>,
     pub zone: Cow<'z, [u8]>,
+    /// what the calls are lent beside it
+    pub second: Vec<u8>,
+}
+
+/// A second buffer that is long enough for every read, write and roster.
+pub fn any_second() -> Vec<u8> {
+    vec![7; 8 * 8_188]
+}
+
+/// A mill's limits of strata (document 02, U7): each the sum of the two before it,
+/// so that they are close together where blocks are small and far apart else.
+fn mills_limits() -> Vec<u8> {
+    let mut limits = vec![1u32, 2];
+    while limits.len() < zone::STRATA {
+        limits.push(limits.iter().rev().take(2).sum());
+    }
+    limits.iter().flat_map(|limit| limit.to_be_bytes()).collect()
 }
 
 /// The rows of a table: a call alone, `count` times, on blocks picked at random.
@@ -186,7 +203,7 @@ pub fn alone<'z>(zone: &'z [u8], plan: &Plan, count: usize, random: &mut Random)
     let mut rows = Vec::new();
     let mut add = |name, call: &mut dyn FnMut(&mut Random) -> Call| {
         let calls = (0..count).map(|_| call(random)).collect();
-        rows.push(Row { name, calls, zone: Cow::Borrowed(zone) });
+        rows.push(Row { name, calls, zone: Cow::Borrowed(zone), second: any_second() });
     };
     let handle = |random: &mut Random| random.pick(&known.handles);
     let stretch = |random: &mut Random| {
@@ -215,7 +232,6 @@ pub fn alone<'z>(zone: &'z [u8], plan: &Plan, count: usize, random: &mut Random)
     add("length", &mut |_| Call::Length);
     add("shrink 64", &mut |_| Call::Shrink(64));
     add("roster", &mut |_| Call::Roster);
-    add("census", &mut |_| Call::Census);
     add("walker start", &mut |_| Call::WalkerStart);
     add("walker step", &mut |random| Call::WalkerStep(random.pick(&known.starts)));
     if room > 0 {
@@ -235,6 +251,13 @@ pub fn alone<'z>(zone: &'z [u8], plan: &Plan, count: usize, random: &mut Random)
             Call::Read(Stretch { block: Target::Pointer(pointer(random)), offset: 0, count: 12 })
         });
     }
+    // right after the rosters: without limits, and by a mill's
+    let place = rows.iter().take_while(|row| row.name != "walker start").count();
+    for (name, second) in [("census by a mill's limits", mills_limits()), ("census", vec![])] {
+        assert!(zone::census(zone, &second).is_ok(), "limits within the rules");
+        let calls = vec![Call::Census; count];
+        rows.insert(place, Row { name, calls, zone: Cow::Borrowed(zone), second });
+    }
     // right after the allocations that find a free master
     let place = rows.iter().take_while(|row| row.name != "allocate fixed").count();
     rows.insert(place, growing(plan, count, zone.len(), random));
@@ -252,5 +275,6 @@ fn growing(plan: &Plan, count: usize, length: usize, random: &mut Random) -> Row
         crate::sides::rust(&mut copy, call, &mut []);
         assert_ne!(copy[8..12], zone[8..12], "masters are added");
     }
-    Row { name: "allocate relocatable, growing", calls, zone: Cow::Owned(zone) }
+    let name = "allocate relocatable, growing";
+    Row { name, calls, zone: Cow::Owned(zone), second: any_second() }
 }

@@ -2,6 +2,7 @@
 //! pointers, names of pages, sizes at the edges of the sums, and anything at all.
 
 use crate::calls::Call;
+use crate::limits;
 use crate::random::Random;
 use crate::zone::{self, Stretch, Target};
 
@@ -191,6 +192,10 @@ impl About {
             25 => Call::ClearLock(self.name(random)),
             _ => Call::DropPage(self.name(random)),
         };
+        if call == Call::Census {
+            let words: Vec<u32> = self.free.iter().map(|size| size / 2).collect();
+            return (call, limits::any(random, &words));
+        }
         let length = self.second(random, &call);
         (call, (0..length).map(|_| random.any() as u8).collect())
     }

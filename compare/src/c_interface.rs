@@ -60,7 +60,7 @@ extern "C" {
     pub fn nafelode_enlarge(zone: *mut u8, zone_length: usize, k: u32) -> Told;
     pub fn nafelode_shrink(zone: *mut u8, zone_length: usize, k: u32) -> Told;
     pub fn nafelode_roster(zone: *const u8, zone_length: usize, out: *mut u8, out_length: usize) -> Told;
-    pub fn nafelode_census(zone: *const u8, zone_length: usize) -> CensusCounts;
+    pub fn nafelode_census(zone: *const u8, zone_length: usize, limits: *const u8, limits_length: usize) -> CensusCounts;
     pub fn nafelode_walker_start(zone: *const u8, zone_length: usize) -> u32;
     pub fn nafelode_create_page(zone: *mut u8, zone_length: usize, name: u32, c: u32) -> Told;
     pub fn nafelode_use_page(zone: *mut u8, zone_length: usize, name: u32) -> Told;

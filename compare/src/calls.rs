@@ -22,6 +22,7 @@ pub enum Call {
     Enlarge(u32),
     Shrink(u32),
     Roster,
+    /// by the limits in the second buffer (document 02, U7)
     Census,
     WalkerStart,
     WalkerStep(u32),
@@ -109,7 +110,7 @@ pub fn ask_zone(buffer: &mut [u8], call: &Call, second: &mut [u8]) -> Reply {
         Call::Shrink(k) => one(zone::shrink(buffer, k)),
         Call::Roster => one(zone::roster(buffer, second)),
         Call::Census => {
-            let (refusal, counts) = zone::numbers(zone::census(buffer));
+            let (refusal, counts) = zone::numbers(zone::census(buffer, second));
             Reply::new(refusal, &counts)
         }
         Call::WalkerStart => {

@@ -5,6 +5,8 @@ use crate::calls::{ask_zone, Call, Reply};
 use crate::fixed_ways;
 use crate::foreign::{ask_archive, without_number};
 use crate::holes;
+use crate::limit_ways;
+use crate::limits;
 use crate::model::Picture;
 use crate::page_ways;
 use crate::pool;
@@ -17,7 +19,7 @@ use crate::zone::{self, Target};
 
 /// How many functions there are, and how many refusal numbers, 0 for none.
 const FUNCTIONS: usize = 27;
-pub const NUMBERS: usize = 14;
+pub const NUMBERS: usize = 15;
 
 /// Largest buffers that are lent.
 const MOST_ZONE: usize = 1_048_576 + 4_096;
@@ -121,12 +123,13 @@ pub struct Tally {
     pub holes: holes::Counts,
     pub pool: pool::Counts,
     pub pages: page_ways::Counts,
-    /// sizes of a free block by stratum
-    pub strata: strata::Counts,
+    pub limits: limit_ways::Counts,
+    /// sizes of a free block by stratum: by the formula, and by mills' limits
+    pub strata: [strata::Counts; 2],
 }
 
 impl Tally {
-    fn note(&mut self, zone: &[u8], call: &Call, refusal: u32, after: &[u8]) {
+    fn note(&mut self, zone: &[u8], call: &Call, second: &[u8], refusal: u32, after: &[u8]) {
         self.answers[which(call)][refusal as usize] += 1;
         // before an initialize there may be no zone
         if refusal != 1 && !matches!(call, Call::Initialize(..)) {
@@ -134,6 +137,10 @@ impl Tally {
         }
         if let (Call::Roster, 0) = (call, refusal) {
             self.rosters_apart += u64::from(!Picture::decode(zone).handles().is_sorted());
+        }
+        if let Call::Census = call {
+            let words = limits::free_words(zone);
+            ways::add(&mut self.limits, &limit_ways::of_census(&words, second, refusal));
         }
         if refusal == 1 {
             self.second_words += u64::from(rules::broken_rule(zone) == Some(rules::SECOND_WORD));
@@ -176,7 +183,10 @@ impl Tally {
         ways::add(&mut self.holes, &other.holes);
         ways::add(&mut self.pool, &other.pool);
         self.pages.add(&other.pages);
-        ways::add(&mut self.strata, &other.strata);
+        ways::add(&mut self.limits, &other.limits);
+        for (mine, theirs) in self.strata.iter_mut().zip(&other.strata) {
+            ways::add(mine, theirs);
+        }
     }
 }
 
@@ -231,7 +241,7 @@ impl Differ {
         let mut ours = second.to_vec();
         let refusal = number(buffer, call);
         let reply = ask_rust(buffer, call, &mut ours);
-        self.tally.note(&before, call, reply.refusal.unwrap_or(0).max(refusal), buffer);
+        self.tally.note(&before, call, second, reply.refusal.unwrap_or(0).max(refusal), buffer);
 
         let (place, other_place) = (self.a_place(), self.a_place());
         let kind = self.random.pick(&[1, 1, 3, 0xFFFF_FFFF]);

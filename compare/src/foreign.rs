@@ -66,7 +66,7 @@ pub unsafe fn ask_archive(zone: Lent, call: &Call, second: Lent, pointer_kind: u
         Call::Shrink(k) => one(nafelode_shrink(z, n, k)),
         Call::Roster => one(nafelode_roster(z, n, second.start, second.length)),
         Call::Census => {
-            let census = nafelode_census(z, n);
+            let census = nafelode_census(z, n, second.start, second.length);
             Reply::new(census.number, &census.counts)
         }
         Call::WalkerStart => without_number(&[nafelode_walker_start(z, n)]),

@@ -12,6 +12,8 @@ mod fixed_ways;
 mod foreign;
 mod holes;
 mod library_pages;
+mod limit_ways;
+mod limits;
 #[allow(dead_code)]
 mod model;
 mod page_ways;
@@ -37,6 +39,9 @@ use std::thread;
 use zone::{Stretch, Target};
 
 const FIXED_SEED: u64 = 1;
+
+/// Mills whose limits are held against sizes of free blocks.
+const MILLS: usize = 6;
 
 type Outcome = Result<(), String>;
 
@@ -232,15 +237,46 @@ fn noise(differ: &mut Differ, count: u32) -> Outcome {
     Ok(())
 }
 
-/// A half of the sizes that a free block can have.
-fn half_of_the_sizes(tally: &mut Tally, half: usize, trace: bool) -> Outcome {
+/// A half of the sizes that a free block can have, each by the formula and by the
+/// limits of one of some mills; the sizes about each limit by that mill's.
+fn half_of_the_sizes(differ: &mut Differ, half: usize, trace: bool) -> Outcome {
+    let mut mills = vec![limits::powers_of_two()];
+    mills.extend((1..MILLS).map(|_| limits::a_mill(&mut differ.random, &[])));
+    let counts = &mut differ.tally.strata;
     // only its first bytes are ever written
     let mut zone = vec![0; zone::LENGTH_LIMIT];
-    for length in strata::lengths(half) {
+    let mut note = |length, limits: Option<&limits::Limits>| {
         if trace {
-            eprintln!("sizes: census of one free block in a zone of {length} bytes");
+            eprintln!("sizes: census of one free block in a zone of {length} bytes by {limits:?}");
         }
-        tally.strata[strata::of_length(&mut zone, length)?] += 1;
+        let stratum = strata::of_length(&mut zone, length, limits)?;
+        counts[usize::from(limits.is_some())][stratum] += 1;
+        Ok::<(), String>(())
+    };
+    for (length, mill) in strata::lengths(half).zip(mills.iter().cycle()) {
+        note(length, None)?;
+        note(length, Some(mill))?;
+    }
+    for mill in &mills {
+        for length in strata::lengths_about(mill) {
+            note(length, Some(mill))?;
+        }
+    }
+    Ok(())
+}
+
+/// A census by limits of every kind, on zones as they are and with a rule broken.
+fn mills(differ: &mut Differ, count: u32) -> Outcome {
+    for _ in 0..count {
+        let zone = zones::a_zone(&mut differ.random, 30);
+        let mut broken = zone.clone();
+        zones::break_a_rule(&mut differ.random, &mut broken);
+        for mut zone in [zone, broken] {
+            let words = limits::free_words(&zone);
+            for lent in limits::each_kind(&mut differ.random, &words) {
+                differ.compare(&mut zone, &Call::Census, &lent)?;
+            }
+        }
     }
     Ok(())
 }
@@ -257,6 +293,7 @@ fn everything(differ: &mut Differ) -> Outcome {
     full_zones(differ, 15_000, zones::a_zone_without_free_master)?;
     full_zones(differ, 100, zones::a_zone_of_all_masters)?;
     walks(differ, 3_000)?;
+    mills(differ, 600)?;
     long_stretches(differ, 40)?;
     the_largest_fixed_block(differ)?;
     pointers_of_no_data(differ)?;
@@ -295,18 +332,24 @@ fn print(tally: &Tally) {
     for (way, count) in tally.pages.told() {
         println!("  {way}: {count}");
     }
-    let sizes: u64 = tally.strata.iter().sum();
-    let strata = tally.strata.iter().filter(|&&count| count > 0).count();
-    println!("  sizes of a free block, each by a census of its own: {sizes}, in {strata} strata");
+    for (way, count) in limit_ways::WAYS.iter().zip(tally.limits) {
+        println!("  {way}: {count}");
+    }
+    for (by, counts) in ["the formula", "a mill's limits"].iter().zip(&tally.strata) {
+        let sizes: u64 = counts.iter().sum();
+        let strata = counts.iter().filter(|&&count| count > 0).count();
+        println!("  sizes of a free block, each by its own census, by {by}: {sizes}, in {strata} strata");
+    }
 }
 
 /// Without them the roster's order, the choice between holes, the pool of
-/// masters that grows, a stratum's formula, pages, or where a fixed block's data
-/// start, would not have been compared.
+/// masters that grows, a stratum's formula, pages, where a fixed block's data
+/// start, or a mill's limits, would not have been compared.
 fn never_met(tally: &Tally) -> Vec<&'static str> {
     let mut never = ways::never_met(holes::WAYS, &tally.holes);
     never.extend(ways::never_met(pool::WAYS, &tally.pool));
     never.extend(tally.pages.never_met());
+    never.extend(ways::never_met(limit_ways::WAYS, &tally.limits));
     if tally.rosters_apart == 0 {
         never.push("rosters of blocks that do not stand by rising handle");
     }
@@ -317,8 +360,12 @@ fn never_met(tally: &Tally) -> Vec<&'static str> {
         never.push("one of the calls by a pointer of a fixed block without data");
     }
     // a free block has at least 2 words, so stratum 0 has none
-    if tally.strata[1..].contains(&0) {
+    let [by_formula, by_mills] = &tally.strata;
+    if by_formula[1..].contains(&0) {
         never.push("one of the strata 1 to 18");
+    }
+    if by_mills.contains(&0) {
+        never.push("one of the strata by a mill's limits");
     }
     never
 }
@@ -326,7 +373,7 @@ fn never_met(tally: &Tally) -> Vec<&'static str> {
 /// All of it from one seed, and half of the sizes, which need none.
 fn from_seed(seed: u64, half: usize, trace: bool) -> Result<Tally, String> {
     let mut differ = Differ::new(seed, trace);
-    half_of_the_sizes(&mut differ.tally, half, trace)?;
+    half_of_the_sizes(&mut differ, half, trace)?;
     everything(&mut differ)?;
     Ok(differ.tally)
 }

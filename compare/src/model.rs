@@ -4,42 +4,13 @@
 
 use crate::calls::{Call, Reply};
 use crate::rules;
+#[path = "model_census.rs"]
+pub mod census;
 #[path = "model_pages.rs"]
 mod pages;
 use crate::zone::{Stretch, Target};
 
 pub use pages::Page;
-
-/// "2^i to 2^(i+1) − 1 words, i from 0 to 18": of each stratum the least and the
-/// largest number of words, written out, so that the formula is held against
-/// another text.
-pub const LIMITS: [(usize, usize); 19] = [
-    (1, 1),
-    (2, 3),
-    (4, 7),
-    (8, 15),
-    (16, 31),
-    (32, 63),
-    (64, 127),
-    (128, 255),
-    (256, 511),
-    (512, 1_023),
-    (1_024, 2_047),
-    (2_048, 4_095),
-    (4_096, 8_191),
-    (8_192, 16_383),
-    (16_384, 32_767),
-    (32_768, 65_535),
-    (65_536, 131_071),
-    (131_072, 262_143),
-    (262_144, 524_287),
-];
-
-/// How many of these numbers of words each stratum has.
-pub fn census(words: &[usize]) -> Vec<u32> {
-    let within = |(least, most)| words.iter().filter(|&&one| least <= one && one <= most).count();
-    LIMITS.map(|stratum| within(stratum) as u32).to_vec()
-}
 
 #[derive(Clone, Debug, PartialEq, Eq)]
 pub enum Item {
@@ -492,8 +463,8 @@ impl Picture {
                 vec![live.len() as u32]
             }
             Call::Census => {
-                let words: Vec<usize> = self.items.iter().map(|item| item.free_size() / 2).collect();
-                census(&words)
+                let sizes = self.items.iter().map(Item::free_size).filter(|&size| size > 0);
+                census::census(&sizes.map(|size| size / 2).collect::<Vec<usize>>(), second)?
             }
             Call::WalkerStart => vec![16 + 4 * self.m as u32],
             Call::WalkerStep(offset) => {

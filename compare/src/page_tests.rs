@@ -11,7 +11,7 @@ use crate::page_zones::{a_zone_of_many_pages, a_zone_of_pages, break_a_page};
 use crate::random::Random;
 use crate::rules;
 use crate::zone::{self, Stretch, Target};
-use crate::{block, bytes, compare, master, paint, refusal, wall};
+use crate::{block, bytes, compare, master, paint, refusal, wall, NUMBERS};
 use std::collections::{BTreeMap, HashSet};
 
 // ------------------------------------------------------------------- bytes
@@ -363,7 +363,7 @@ fn pages_slide_where_a_block_grows() {
 /// Counts of accepted calls (0) and of each refusal, and of what calls show.
 #[derive(Default)]
 struct Tally {
-    answers: [u64; 14],
+    answers: [u64; NUMBERS],
     ways: page_ways::Counts,
 }
 
@@ -376,7 +376,7 @@ impl Tally {
 
     fn tell(&self, name: &str) {
         let ways: Vec<u64> = self.ways.told().map(|(_, count)| count).collect();
-        println!("{name}; done and refused 1 to 13: {:?}; ways of pages: {ways:?}", self.answers);
+        println!("{name}; done and refused 1 to 14: {:?}; ways of pages: {ways:?}", self.answers);
     }
 }
 

@@ -1,8 +1,10 @@
 //! Every size that a free block can have, each in a zone of that block alone:
-//! the stratum in which the archive's census counts it (document 02, U4).
+//! the stratum in which the archive's census counts it, by the formula (document
+//! 02, U4) and by a mill's limits (U7).
 
 use crate::c_interface::nafelode_census;
-use crate::model;
+use crate::limits::{bytes_of, Limits};
+use crate::model::census::{by_formula, by_limits};
 use crate::zone::{self, LENGTH_LIMIT, STRATA};
 
 /// How many sizes were counted in each stratum.
@@ -16,6 +18,14 @@ pub fn lengths(half: usize) -> impl Iterator<Item = usize> {
     (HEADER + LEAST..=LENGTH_LIMIT).step_by(4).skip(half).step_by(2)
 }
 
+/// The lengths of the zones whose one block has as many words as a limit, or up to
+/// two more or less.
+pub fn lengths_about(limits: &Limits) -> impl Iterator<Item = usize> + '_ {
+    let words = limits.iter().flat_map(|&limit| limit.saturating_sub(2)..=limit + 2);
+    let lengths = words.map(|words| HEADER + 2 * words as usize);
+    lengths.filter(|length| length % 4 == 0 && (HEADER + LEAST..=LENGTH_LIMIT).contains(length))
+}
+
 /// Makes zeros, or such a zone of another length, a zone of `length` bytes with
 /// no master, in which all is free.
 fn put(zone: &mut [u8], length: usize) {
@@ -25,22 +35,38 @@ fn put(zone: &mut [u8], length: usize) {
     }
 }
 
-/// The stratum of the one free block in a zone of `length` bytes: document 01's
-/// limits, the formula in Rust and the archive's census must agree on it.
-pub fn of_length(zone: &mut [u8], length: usize) -> Result<usize, String> {
+/// The counts and the stratum of one block, by limits or by the formula: the
+/// former by the text of `model`, the latter by the Rust implementation's.
+fn wanted(words: u32, limits: Option<&Limits>) -> (Vec<u32>, usize) {
+    match limits {
+        None => (by_formula(&[words as usize]), zone::stratum(words)),
+        Some(limits) => {
+            let counts = by_limits(&[words as usize], &limits.map(|limit| limit as usize));
+            (counts, zone::stratum_by(limits, words))
+        }
+    }
+}
+
+/// The stratum of the one free block in a zone of `length` bytes: the model's
+/// limits, the Rust implementation and the archive's census must agree on it.
+pub fn of_length(
+    zone: &mut [u8],
+    length: usize,
+    limits: Option<&Limits>,
+) -> Result<usize, String> {
     put(zone, length);
-    let lent = &zone[..length];
-    // SAFETY: lent whole for this call alone.
-    let census = unsafe { nafelode_census(lent.as_ptr(), lent.len()) };
-    let words = (length - HEADER) / 2;
-    let wanted = model::census(&[words]);
-    let stratum = zone::stratum(words as u32);
+    let (lent, second) = (&zone[..length], limits.map_or(vec![], bytes_of));
+    // SAFETY: both are lent whole for this call alone.
+    let census =
+        unsafe { nafelode_census(lent.as_ptr(), lent.len(), second.as_ptr(), second.len()) };
+    let words = (length - HEADER) as u32 / 2;
+    let (wanted, stratum) = wanted(words, limits);
     if census.number == 0 && census.counts[..] == wanted && wanted.get(stratum) == Some(&1) {
         return Ok(stratum);
     }
     Err(format!(
-        "census of a zone of {length} bytes with one free block, of {words} words\n\
-         document 01's limits {wanted:?}\nthe Rust implementation: stratum {stratum}\n\
+        "census of a zone of {length} bytes with one free block, of {words} words, by {limits:?}\n\
+         the limits written out {wanted:?}\nthe Rust implementation: stratum {stratum}\n\
          the archive {} {:?}",
         census.number, census.counts
     ))

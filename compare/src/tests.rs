@@ -1,17 +1,20 @@
 //! Tests of the zone: the rig sheet to the byte, zone-run's example, the choice
-//! between holes, the pool of masters that grows, the stratum of every size, fixed
-//! blocks without data and older ones, every state that small zones reach, long
-//! random lists, zones built at random and broken buffers. Two models answer
-//! beside it: the structured one (`model`) for every byte, and the ledger
-//! (`ledger`) for every answer of a list. Pages have their tests in `page_tests`.
+//! between holes, the pool of masters that grows, fixed blocks without data and
+//! older ones, every state that small zones reach, long random lists, zones built
+//! at random and broken buffers. Two models answer beside it: the structured one
+//! (`model`) for every byte, and the ledger (`ledger`) for every answer of a list.
+//! Pages have their tests in `page_tests`, the census in `census_tests`.
 
 #![allow(dead_code)]
 
 mod arguments;
 mod calls;
+mod census_tests;
 mod fixed_ways;
 mod holes;
 mod ledger;
+mod limit_ways;
+mod limits;
 mod lines;
 mod model;
 mod page_tests;
@@ -102,7 +105,7 @@ fn after_r3() -> Vec<u8> {
     write_all(&mut zone, Target::Handle(20), b"basisrec");
     assert_eq!(zone::free_handle(&mut zone, 16), Ok(()));
     assert_eq!(zone::sum(&zone), Ok((20, 20)));
-    let census = zone::census(&zone).unwrap();
+    let census = zone::census(&zone, &[]).unwrap();
     assert_eq!((census[2], census.iter().sum()), (2, 2u32), "pieces of 12 and 8 bytes");
     assert_eq!(zone::allocate_relocatable(&mut zone, 13), Ok(16));
     zone
@@ -293,7 +296,7 @@ fn largest_zone_and_largest_blocks() {
     assert_eq!(refusal(zone::initialize(&mut zone, 1_048_580, 0)), 2);
     assert_eq!(refusal(zone::initialize(&mut zone, 1_048_576, 8_189)), 2);
     assert_eq!(zone::initialize(&mut zone, 1_048_576, 0), Ok(()));
-    assert_eq!(zone::census(&zone).unwrap()[18], 1);
+    assert_eq!(zone::census(&zone, &[]).unwrap()[18], 1);
     assert_eq!(zone::initialize(&mut zone, 1_048_576, 8_188), Ok(()));
     assert_eq!(zone::allocate_relocatable(&mut zone, 32_760), Ok(16));
     assert_eq!(zone::size(&zone, Target::Handle(16)), Ok(32_760));
@@ -304,28 +307,6 @@ fn largest_zone_and_largest_blocks() {
     assert_eq!(zone::shrink(&mut zone, u32::MAX), Ok(0));
     assert_eq!(rules::broken_rule(&zone), None);
     assert_eq!(zone[1_048_576..], [0xEE; 4]);
-}
-
-/// "2^i to 2^(i+1) − 1 words, i from 0 to 18": the model's limits, by which the
-/// formula is judged, are written out.
-#[test]
-fn the_limits_of_the_strata() {
-    let mut power = 1;
-    for (least, most) in model::LIMITS {
-        assert_eq!((least, most), (power, 2 * power - 1));
-        power *= 2;
-    }
-    assert_eq!(power, 524_288, "2^19");
-}
-
-/// Every number of words that a free block can have, and the odd ones between.
-#[test]
-fn the_formula_keeps_the_limits() {
-    for words in 2..=(zone::LENGTH_LIMIT - 16) / 2 {
-        let stratum = zone::stratum(words as u32);
-        let (least, most) = model::LIMITS[stratum];
-        assert!(least <= words && words <= most, "{words} words are not of stratum {stratum}");
-    }
 }
 
 /// A fresh zone of any length and m, within the limits or not.
@@ -869,8 +850,11 @@ fn assert_refused_values(call: &Call, reply: &Reply) {
     }
 }
 
-/// Refusal numbers without those that pages bring, 0 for done.
-const NUMBERS: usize = 11;
+/// How many refusal numbers there are, 0 for done.
+const NUMBERS: usize = 15;
+
+/// Those that lists without pages must reach, initialize and broken zones apart.
+const WITHOUT_PAGES: [usize; 9] = [3, 4, 5, 6, 7, 8, 9, 10, 14];
 
 /// Counts of accepted calls (0) and of each refusal; of choices between holes; of
 /// allocations that find no free master; of frees by a pointer of no data.
@@ -903,7 +887,7 @@ impl Tally {
 
     fn tell(&self, name: &str) {
         let Tally { answers, holes, pool, frees } = self;
-        println!("{name}; done and refused 1 to 10: {answers:?}; choices between holes: {holes:?}; no free master: {pool:?}; frees by a pointer of no data: {frees:?}");
+        println!("{name}; done and refused 1 to 14: {answers:?}; choices between holes: {holes:?}; no free master: {pool:?}; frees by a pointer of no data: {frees:?}");
     }
 
     /// The ways of `pool` that were never met, but for the one of large zones.
@@ -948,7 +932,8 @@ fn many_lists(name: &str, seed: u64, lists: u32, steps: u32, words: impl Fn(&mut
     }
     tally.tell(&format!("{name}: {lists} lists of {steps} calls"));
     if lists > 100 {
-        assert!(tally.answers[3..].iter().all(|&times| times > 0), "a refusal was never reached");
+        let reached = |&number: &usize| tally.answers[number] > 0;
+        assert!(WITHOUT_PAGES.iter().all(reached), "a refusal was never reached");
         assert_eq!(tally.pool_not_met(), [""; 0], "never met");
         assert_eq!(ways::never_met(fixed_ways::WAYS, &tally.frees), [""; 0], "never met");
     }

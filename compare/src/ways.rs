@@ -1,5 +1,5 @@
-//! How often calls meet ways that a comparison must see: `holes`, `pool` and
-//! `fixed_ways` name theirs.
+//! How often calls meet ways that a comparison must see: `holes`, `pool`,
+//! `fixed_ways` and `limit_ways` name theirs.
 
 pub fn add<const N: usize>(all: &mut [u64; N], more: &[u64; N]) {
     all.iter_mut().zip(more).for_each(|(all, more)| *all += more);

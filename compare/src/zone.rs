@@ -1,5 +1,6 @@
 //! The zone of document 01: handles, fixed blocks and bays over one lent
-//! byte buffer. Its pages (document 02, U5) have calls of their own in `pages`.
+//! byte buffer. Its pages (document 02, U5) have calls of their own in `pages`;
+//! the census has its own file, too.
 //!
 //! Every call but `initialize` and `check` first checks the whole zone and is
 //! refused with 1 unless it is well-formed. After that check every offset read
@@ -14,10 +15,14 @@
 
 use std::ops::Range;
 
+#[path = "census.rs"]
+mod census;
 #[path = "pages.rs"]
 mod pages;
 
-// zone-run makes no page
+// zone-run makes no page and takes no census
+#[allow(unused_imports)]
+pub use census::{census, read_limits, stratum, stratum_by, STRATA};
 #[allow(unused_imports)]
 pub use pages::{clear_dirty, clear_lock, create_page, drop_page, set_dirty, set_lock, use_page};
 
@@ -40,6 +45,7 @@ pub enum Refusal {
     /// the dropping would reach this dirty page
     DirtyPage(u32),
     NameAbsent,
+    BadLimits,
 }
 
 impl Refusal {
@@ -58,6 +64,7 @@ impl Refusal {
             Refusal::NamePresent => 11,
             Refusal::DirtyPage(_) => 12,
             Refusal::NameAbsent => 13,
+            Refusal::BadLimits => 14,
         }
     }
 }
@@ -1070,26 +1077,7 @@ pub fn roster(zone: &[u8], second: &mut [u8]) -> Answer<u32> {
     Ok(layout.live as u32)
 }
 
-// ------------------------------------------------------ census and walker
-
-pub const STRATA: usize = 19;
-
-/// "The stratum is worked out from the size in words by its leading zeros"
-/// (document 02, U4): those of a number of 32 bits. No free block has 0 words.
-pub fn stratum(words: u32) -> usize {
-    (31 - words.leading_zeros()) as usize
-}
-
-/// "The census counts free blocks by stratum i, of 2^i to 2^(i+1) − 1 words, i
-/// from 0 to 18"; "it answers all nineteen counts together".
-pub fn census(zone: &[u8]) -> Answer<[u32; STRATA]> {
-    let layout = open(zone)?;
-    let mut counts = [0; STRATA];
-    for block in all_blocks(zone, &layout).filter(|block| block.kind == Kind::Free) {
-        counts[stratum((block.size / 2) as u32)] += 1;
-    }
-    Ok(counts)
-}
+// ------------------------------------------------------------------ walker
 
 /// "It holds an offset and starts at bkFst."
 #[derive(Clone, Copy, Debug, Default, PartialEq, Eq)]

@@ -11,7 +11,9 @@
 """
 
 from .bays import Bay, Scatter, Sum
+from .census import Stratum
 from .format import Block, BlockType, Page
+from .limits import decode_limits
 from .roster import Record, decode_roster
 from .rules import ZoneError
 from .zone import Zone, check, fault, read
@@ -23,10 +25,12 @@ __all__ = [
     "Page",
     "Record",
     "Scatter",
+    "Stratum",
     "Sum",
     "Zone",
     "ZoneError",
     "check",
+    "decode_limits",
     "decode_roster",
     "fault",
     "read",

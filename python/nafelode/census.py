@@ -1,20 +1,32 @@
 """The census: free blocks counted by stratum."""
 
 from bisect import bisect_right
-from typing import Iterable, Tuple
+from typing import Iterable, NamedTuple, Optional, Sequence, Tuple
 
 from .format import WORD, Block, BlockType
 
-STRATA = 19
 
-# Stratum i holds free blocks of 2^i to 2^(i+1) - 1 words.
-LOWER_LIMITS = tuple(1 << i for i in range(STRATA))
-
-
-def census_of(blocks: Iterable[Block]) -> Tuple[int, ...]:
-    """All nineteen counts together."""
-    counts = [0] * STRATA
+def census_of(blocks: Iterable[Block],
+              limits: Sequence[int]) -> Tuple[int, ...]:
+    """The count of each stratum; limits are in words, the first at most 2."""
+    counts = [0] * len(limits)
     for block in blocks:
         if block.type is BlockType.FREE:
-            counts[bisect_right(LOWER_LIMITS, block.size // WORD) - 1] += 1
+            counts[bisect_right(limits, block.size // WORD) - 1] += 1
     return tuple(counts)
+
+
+class Stratum(NamedTuple):
+    """Free blocks of `least` to `most` bytes; the last stratum has no most."""
+
+    least: int
+    most: Optional[int]
+    count: int
+
+
+def strata_of(blocks: Iterable[Block],
+              limits: Sequence[int]) -> Tuple[Stratum, ...]:
+    """The census with each stratum's range in bytes."""
+    ends = [WORD * limit - WORD for limit in limits[1:]]
+    return tuple(Stratum(WORD * limit, end, count) for limit, end, count
+                 in zip(limits, [*ends, None], census_of(blocks, limits)))

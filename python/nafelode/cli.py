@@ -5,7 +5,7 @@ import os
 import sys
 from typing import List, Optional
 
-from . import table
+from . import limits, table
 from .draw import draw
 from .format import LENGTH_LIMIT
 from .rules import ZoneError
@@ -51,10 +51,11 @@ def _run(argv: Optional[List[str]]) -> int:
     except ZoneError as error:
         raise Failure(f"{_name(arguments.file)}: not a well-formed zone: "
                       f"{error}") from None
+    lent = None if arguments.strata is None else _limits(arguments.strata)
     if arguments.map is not None:
         # Before the table, so that a reader who leaves early has the map.
-        _write_map(zone, arguments.file, arguments.map)
-    for line in table.lines(zone):
+        _write_map(zone, arguments, lent)
+    for line in table.lines(zone, lent):
         print(line)
     return DONE
 
@@ -63,7 +64,8 @@ def _parser() -> argparse.ArgumentParser:
     parser = argparse.ArgumentParser(
         prog="zone-print",
         description="Print the blocks and bays of a zone's image, its free "
-                    "bytes and their scatter.",
+                    "bytes and their scatter, and how many free blocks there "
+                    "are of which size.",
         epilog="Exit status: 0 if the image is a well-formed zone and was "
                "printed; 1 if not, with the broken rule and its offset on "
                "standard error; 2 for wrong arguments.")
@@ -72,30 +74,57 @@ def _parser() -> argparse.ArgumentParser:
                              "beyond the zone's length are left alone")
     parser.add_argument("--map", metavar="SVG",
                         help="also draw the zone into this file")
+    parser.add_argument("--strata", metavar="LIMITS",
+                        help="count free blocks by the limits in this file: 76 "
+                             "bytes, nineteen numbers of words, high byte "
+                             "first; all strata are shown, without it those "
+                             "of the formula that are not empty")
     return parser
 
 
 def _read(file: str) -> bytes:
     """As many bytes of the image as any rule can touch."""
+    if file != "-":
+        return _read_file(file, LENGTH_LIMIT)
+    if sys.stdin is None:
+        raise Failure("standard input is closed")
     try:
-        if file != "-":
-            with open(file, "rb") as stream:
-                return stream.read(LENGTH_LIMIT)
-        if sys.stdin is None:
-            raise Failure("standard input is closed")
         return sys.stdin.buffer.read(LENGTH_LIMIT) or b""
     except (OSError, ValueError) as error:
         raise Failure(f"{_name(file)}: {_reason(error)}") from None
 
 
-def _write_map(zone: Zone, file: str, target: str) -> None:
+def _read_file(file: str, most: int) -> bytes:
     try:
-        if file != "-" and os.path.exists(target) \
-                and os.path.samefile(file, target):
-            raise Failure(f"{target}: the map would overwrite the image")
+        with open(file, "rb") as stream:
+            return stream.read(most)
+    except (OSError, ValueError) as error:
+        raise Failure(f"{file}: {_reason(error)}") from None
+
+
+def _limits(file: str) -> bytes:
+    """A mill's limits as they are lent, within the rules."""
+    lent = _read_file(file, LENGTH_LIMIT)
+    try:
+        limits.decode_limits(lent)
+    except ZoneError as error:
+        raise Failure(f"{file}: not a mill's limits: {error}") from None
+    return lent
+
+
+def _write_map(zone: Zone, arguments: argparse.Namespace,
+               lent: Optional[bytes]) -> None:
+    file, target = arguments.file, arguments.map
+    read = {"image": None if file == "-" else file,
+            "limits": arguments.strata}
+    try:
+        for what, source in read.items():
+            if source is not None and os.path.exists(target) \
+                    and os.path.samefile(source, target):
+                raise Failure(f"{target}: the map would overwrite the {what}")
         name = "" if file == "-" else os.path.basename(file)
         with open(target, "w", encoding="utf-8", newline="\n") as stream:
-            stream.write(draw(zone, name))
+            stream.write(draw(zone, name, lent))
     except (OSError, ValueError) as error:
         raise Failure(f"{target}: {_reason(error)}") from None
 

@@ -1,12 +1,14 @@
 """The map of a zone: one SVG with the bar, a legend and the bays."""
 
-from typing import List
+from typing import List, Optional
 
 from . import palette
 from .bar import draw_bar
+from .check import Image
 from .format import BlockType
 from .panel import draw_panel
 from .rows import BAR_WIDTH, wrap
+from .strata import draw_strata
 from .svg import Drawing
 from .zone import Zone
 
@@ -15,8 +17,11 @@ RIGHT = 36
 WIDTH = LEFT + BAR_WIDTH + RIGHT
 
 
-def draw(zone: Zone, name: str = "") -> str:
-    """The whole SVG document; `name` says what image was read."""
+def draw(zone: Zone, name: str = "", limits: Optional[Image] = None) -> str:
+    """The whole SVG document; `name` says what image was read.
+
+    With a mill's own limits the census by them stands below the bays.
+    """
     drawing = Drawing(WIDTH)
     y = 34.0
     title = f"Zone of {zone.length:,} bytes"
@@ -29,6 +34,8 @@ def draw(zone: Zone, name: str = "") -> str:
     rows = wrap(zone.length, [block.size for block in zone.blocks])
     y = draw_bar(drawing, zone, rows, LEFT, y + 24)
     y = draw_panel(drawing, zone.bays, LEFT, y + 10, BAR_WIDTH)
+    if limits:
+        y = draw_strata(drawing, zone.strata(limits), LEFT, y + 10, BAR_WIDTH)
     patterns = palette.DEFS + (palette.DIRTY_DEFS if zone.pages else "")
     return drawing.finish(y + 10, patterns)
 

@@ -3,7 +3,7 @@
 The names quote document 01's 'Well-formed' sentence. Where that sentence
 says 'as above', the words it points to follow a colon. Rules of pages quote
 document 02 (U5), which calls a page a named block, and so does that of a fixed
-block's header (U6).
+block's header (U6). Those of a mill's limits are document 02's, too (U7).
 """
 
 BUFFER = "the buffer has at least 16 bytes"
@@ -63,6 +63,15 @@ PAST_DATA = "offset + count, unwrapped, above data size"
 # A roster's bytes; their order is document 02's (U1).
 ROSTER_RECORD = "8 bytes a live handle"
 ROSTER_ORDER = "records come by rising handle"
+
+# A mill's limits (document 02, U7): rules of what is lent, not of a zone.
+LIMITS_LENGTH = "a mill lends 76 bytes: nineteen 4-byte limits in words"
+LIMITS_FIRST = "the first limit is 1 or 2"
+LIMITS_RISE = "limits rise strictly"
+LIMITS_LAST = "the last limit is at most 524,288"
+
+# In the order in which a reading looks at them.
+LIMITS = (LIMITS_LENGTH, LIMITS_FIRST, LIMITS_RISE, LIMITS_LAST)
 
 
 class ZoneError(Exception):

@@ -1,20 +1,32 @@
-"""The zone as text: header, blocks, bays, free bytes and scatter."""
+"""The zone as text: header, blocks, bays, free bytes, scatter and census."""
 
-from typing import Callable, Iterable, Iterator, List, NamedTuple, Sequence
+from typing import (
+    Callable,
+    Iterable,
+    Iterator,
+    List,
+    NamedTuple,
+    Optional,
+    Sequence,
+)
 
-from .census import LOWER_LIMITS
-from .format import WORD, Block, BlockType
+from .check import Image
+from .format import Block, BlockType
 from .zone import Zone
 
 FIRST_BYTES = 16  # data bytes shown of each block
+LONGEST_BAR = 40  # of the census, in characters
 
 SCATTER_COUNT = (
     "scatter is counted as the free bytes outside the largest free block of\n"
     "their own bay: 0 when every bay's sum lies in one piece")
 
 
-def lines(zone: Zone) -> Iterator[str]:
-    """All lines of the print, without line ends."""
+def lines(zone: Zone, limits: Optional[Image] = None) -> Iterator[str]:
+    """All lines of the print, without line ends.
+
+    `limits` are a mill's own, which the census then goes by.
+    """
     yield from _header_lines(zone)
     yield ""
     yield from _block_lines(zone)
@@ -22,6 +34,8 @@ def lines(zone: Zone) -> Iterator[str]:
     yield from _bay_lines(zone)
     yield ""
     yield from _free_lines(zone)
+    yield ""
+    yield from _census_lines(zone, limits)
 
 
 def _header_lines(zone: Zone) -> Iterator[str]:
@@ -123,10 +137,28 @@ def _free_lines(zone: Zone) -> Iterator[str]:
     yield (f"scatter: {scatter.apart}; free blocks: {scatter.pieces}, the "
            f"largest of {scatter.largest} bytes")
     yield f"({SCATTER_COUNT})"
-    for low, count in zip(LOWER_LIMITS, zone.census()):
-        if count:
-            yield (f"census: {count} of {WORD * low} to "
-                   f"{2 * WORD * low - WORD} bytes")
+
+
+def _census_lines(zone: Zone, limits: Optional[Image]) -> Iterator[str]:
+    """A bar for each stratum; without limits for those that are not empty."""
+    strata = [stratum for stratum in zone.strata(limits or b"")
+              if stratum.count or limits is not None]
+    by = "the mill's limits" if limits else "the formula"
+    if not strata:
+        yield f"census by {by}: no free block"
+        return
+    blocks_a_mark = max(1, _up(max(s.count for s in strata), LONGEST_BAR))
+    mark = "each" if blocks_a_mark == 1 else f"up to {blocks_a_mark}"
+    yield f"census by {by}: free blocks by size in bytes, # for {mark}"
+    rows = ([str(s.least), "-" if s.most is None else str(s.most),
+             str(s.count), "#" * _up(s.count, blocks_a_mark)]
+            for s in strata)
+    yield from _table(["from", "to", "free blocks", ""], rows, left={3})
+
+
+def _up(number: int, parts: int) -> int:
+    """The quotient, rounded up."""
+    return -(-number // parts)
 
 
 def _table(heads: List[str], rows: Iterable[List[str]],

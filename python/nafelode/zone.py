@@ -2,9 +2,11 @@
 
 from typing import Dict, Optional, Tuple
 
-from . import bays, census, rules
+from . import bays, rules
+from .census import Stratum, census_of, strata_of
 from .check import Image, read_image
 from .format import Block, BlockType, Page
+from .limits import decode_limits
 from .roster import Record
 from .rules import ZoneError
 
@@ -76,9 +78,18 @@ class Zone:
         """How far the free bytes lie apart."""
         return bays.scatter_of(self.bays)
 
-    def census(self) -> Tuple[int, ...]:
-        """Free blocks counted by stratum: nineteen counts."""
-        return census.census_of(self.blocks)
+    def census(self, limits: Image = b"") -> Tuple[int, ...]:
+        """Free blocks counted by stratum: nineteen counts.
+
+        A block counts in the last stratum whose limit does not exceed its
+        words. `limits` are the 76 bytes that a mill lends (document 02, U7),
+        ZoneError if they break a rule; with none the formula holds.
+        """
+        return census_of(self.blocks, decode_limits(limits))
+
+    def strata(self, limits: Image = b"") -> Tuple[Stratum, ...]:
+        """The same counts, each with its stratum's range in bytes."""
+        return strata_of(self.blocks, decode_limits(limits))
 
     def roster(self) -> Tuple[Record, ...]:
         """Handle and data size of each live handle, by rising handle."""

@@ -5,7 +5,15 @@ tests compare what the package reads with what the plan says.
 """
 
 import random
-from typing import Dict, Iterable, List, NamedTuple, Optional, Tuple
+from typing import (
+    Dict,
+    Iterable,
+    List,
+    NamedTuple,
+    Optional,
+    Sequence,
+    Tuple,
+)
 
 FREE, FIXED, RELOCATABLE, PAGE = 0, 1, 2, 3
 DIRTY, LOCK = 0x8000, 0x4000
@@ -85,6 +93,47 @@ def roster_bytes(records: Iterable[Tuple[int, int]]) -> bytes:
     """The records as a roster has them: handle, data size, 4 bytes each."""
     return b"".join(number.to_bytes(4, "big")
                     for record in records for number in record)
+
+
+def limits_bytes(limits: Iterable[int]) -> bytes:
+    """A mill's limits as they are lent."""
+    return b"".join(limit.to_bytes(4, "big") for limit in limits)
+
+
+def _rising(rng: random.Random, first: int,
+            words: Sequence[int]) -> List[int]:
+    """Nineteen limits from `first` on, close together or far apart, some of
+    them about these numbers of words."""
+    reach = rng.choice((20, 100, 524_288))
+    later = {524_288} if rng.random() < 0.2 else set()
+    while len(later) < 18:
+        near = rng.choice(list(words) or [4]) + rng.randrange(4)
+        limit = rng.choice((near, first + rng.randint(1, reach)))
+        if first < limit <= 524_288:
+            later.add(limit)
+    return [first, *sorted(later)]
+
+
+def random_limits(rng: random.Random, words: Sequence[int] = ()) -> bytes:
+    """Limits within the rules (document 02, U7)."""
+    return limits_bytes(_rising(rng, rng.choice((1, 2)), words))
+
+
+def broken_limits(rng: random.Random) -> bytes:
+    """The same with one rule broken."""
+    limits, place = _rising(rng, rng.choice((1, 2)), ()), rng.randrange(1, 19)
+    pick = rng.randrange(4)
+    if pick == 0:
+        length = rng.choice((1, 4, 72, 75, 77, 152, rng.randrange(1, 76)))
+        return (2 * limits_bytes(limits))[:length]
+    if pick == 1:
+        limits = _rising(rng, rng.choice((0, 3, 100)), ())
+    elif pick == 2:
+        limits[place] = rng.choice((limits[place - 1],
+                                    rng.randrange(limits[place - 1])))
+    else:
+        limits[18] = rng.choice((524_289, 2**32 - 1))
+    return limits_bytes(limits)
 
 
 def free(size: int) -> Part:

@@ -8,7 +8,7 @@ import os
 import subprocess
 import tempfile
 from ctypes import c_size_t, c_uint32
-from typing import Iterator, List, Tuple
+from typing import Iterator, List, Sequence, Tuple
 
 import builder
 import support  # noqa: F401  finds the package
@@ -92,6 +92,14 @@ class Library:
         told = self.call("roster", second, c_size_t(len(lent)))
         return told.number, told.value, second.raw[:len(lent)]
 
+    def census(self, lent: bytes = b"") -> Tuple[int, ...]:
+        """Refusal number and counts; with no limits the pointer is null."""
+        limits = ctypes.create_string_buffer(lent, len(lent)) if lent else None
+        census = self.call("census", limits, c_size_t(len(lent)))
+        if limits is not None and limits.raw != lent:
+            raise ValueError("a census has changed its limits")
+        return census.number, *census.counts
+
     def walk(self) -> Iterator[Tuple[int, int, int]]:
         """Type, offset and size of each block."""
         walker = c_uint32(self.call("walker_start"))
@@ -102,8 +110,10 @@ class Library:
             yield step.kind, step.offset, step.size
 
 
-def differences(library: Library, image: bytes) -> List[str]:
-    """Where the package and the library answer differently on an image."""
+def differences(library: Library, image: bytes,
+                limits: Sequence[bytes] = ()) -> List[str]:
+    """Where the package and the library answer differently on an image; the
+    census by none and by each of these limits."""
     found: List[str] = []
 
     def same(what: str, package: object, proved: object) -> None:
@@ -121,8 +131,12 @@ def differences(library: Library, image: bytes) -> List[str]:
              list(library.walk()))
         _same_blocks(library, zone, same)
         _same_sums(library, zone, same)
+        for lent in (b"", *limits):
+            same_census(library, zone, lent, same)
     elif checked.yes == 0:
         same("refusal", 1, library.call("length").number)
+        for lent in (b"", *limits):
+            same("census of no zone", _refusal(1), library.census(lent))
     same("bytes", image, library.zone)
     return found
 
@@ -186,9 +200,20 @@ def _refused(call, *arguments) -> bool:
 def _same_sums(library, zone, same) -> None:
     sums = library.call("sum")
     same("sum", (0, *zone.sum()), (sums.number, sums.total, sums.largest))
-    census = library.call("census")
-    same("census", (0, *zone.census()), (census.number, *census.counts))
     same_roster(library, zone, same)
+
+
+def _refusal(number: int) -> Tuple[int, ...]:
+    return number, *(0,) * STRATA
+
+
+def same_census(library, zone, lent: bytes, same) -> None:
+    """Counts by these limits, or 14."""
+    try:
+        told = 0, *zone.census(lent)
+    except nafelode.ZoneError:
+        told = _refusal(14)
+    same(f"census by {lent.hex() or 'the formula'}", told, library.census(lent))
 
 
 def same_roster(library, zone, same) -> None:

@@ -1,5 +1,5 @@
 """Well-formedness once more, with document 02's pages and header of fixed blocks,
-as plainly as can be.
+as plainly as can be; and the rules of a mill's limits.
 
 It is slow and names no rule; the tests hold the package's answer against it.
 """
@@ -68,3 +68,14 @@ def well_formed(image: bytes) -> bool:
         head = _at(b, head, 4)
         steps += 1
     return sum(kind == 2 for _, kind, _ in blocks) + steps == m
+
+
+def are_limits(lent: bytes) -> bool:
+    """Whether a mill may lend these bytes (document 02, U7), length 0 apart."""
+    if len(lent) != 76:
+        return False
+    limits = [_at(lent, 4 * i, 4) for i in range(19)]
+    for lower, higher in zip(limits, limits[1:]):
+        if not lower < higher:
+            return False
+    return 1 <= limits[0] <= 2 and limits[18] <= 524288

@@ -82,6 +82,97 @@ class Command(unittest.TestCase):
                       "31323020 47534D2E".split(), rows)
         self.assertIn("108 fixed 8 pointer 112 - - 4 0A0B0C0D".split(), rows)
 
+    # Free blocks of 4, 12 and 12 bytes.
+    THREE = builder.Plan(0, (builder.free(4), builder.fixed(b""),
+                             builder.free(12), builder.fixed(b""),
+                             builder.free(12)), ()).image()
+    MILL = (1, 6, 7, *range(100, 1600, 100), 524_288)
+
+    def census(self, *arguments: str):
+        """The words of the census's lines, and the line above them."""
+        done = self.run_it(*arguments)
+        self.assertEqual((done.returncode, done.stderr), (0, b""))
+        title, _, *rows = (done.stdout.decode("ascii").partition("census")[2]
+                           .splitlines())
+        return title, [row.split() for row in rows]
+
+    def test_census_by_the_formula(self) -> None:
+        path = self.file("zone.bin", self.THREE)
+        title, rows = self.census(path)
+        self.assertIn("by the formula", title)
+        self.assertEqual(rows, [["4", "6", "1", "#"],
+                                ["8", "14", "2", "##"]])
+
+    def test_census_by_a_mills_limits(self) -> None:
+        path = self.file("zone.bin", self.THREE)
+        lent = self.file("mill", builder.limits_bytes(self.MILL))
+        title, rows = self.census(path, "--strata", lent)
+        self.assertIn("by the mill's limits", title)
+        self.assertEqual(len(rows), 19)
+        self.assertEqual(rows[:3], [["2", "10", "1", "#"],
+                                    ["12", "12", "2", "##"],
+                                    ["14", "198", "0"]])
+        self.assertEqual(rows[18], ["1048576", "-", "0"])
+
+    def test_census_of_no_limits(self) -> None:
+        path = self.file("zone.bin", self.THREE)
+        title, rows = self.census(path, "--strata", self.file("none", b""))
+        self.assertIn("by the formula", title)
+        self.assertEqual([row[0] for row in rows],
+                         [str(2 << i) for i in range(19)])
+        self.assertEqual([row[2] for row in rows], ["0", "1", "2"] + 16 * ["0"])
+
+    def test_census_of_no_free_block(self) -> None:
+        plan = builder.Plan(0, (builder.fixed(b"edge"),), ())
+        done = self.run_it(self.file("zone.bin", plan.image()))
+        self.assertIn(b"census by the formula: no free block\n", done.stdout)
+
+    def test_long_bars(self) -> None:
+        # 81 blocks of 4 bytes and one of 8: marks of three blocks each
+        parts = (builder.free(4), builder.fixed(b"")) * 81 + (builder.free(8),)
+        path = self.file("zone.bin", builder.Plan(0, parts, ()).image())
+        title, rows = self.census(path)
+        self.assertIn("# for up to 3", title)
+        self.assertEqual(rows, [["4", "6", "81", 27 * "#"],
+                                ["8", "14", "1", "#"]])
+
+    def test_limits_that_break_a_rule(self) -> None:
+        path = self.file("zone.bin", support.R1)
+        svg = os.path.join(self.place, "map.svg")
+        for lent, rule in ((bytes(76), "the first limit is 1 or 2"),
+                           (bytes(75), "76 bytes"), (bytes(5000), "76 bytes"),
+                           (builder.limits_bytes((2, 2) + self.MILL[2:]),
+                            "limits rise strictly"),
+                           (builder.limits_bytes(self.MILL[:18] + (524_289,)),
+                            "the last limit is at most 524,288")):
+            mill = self.file("mill", lent)
+            self.fails(self.run_it(path, "--strata", mill, "--map", svg),
+                       mill, "not a mill's limits", rule)
+            self.assertFalse(os.path.exists(svg))
+        self.fails(self.run_it(path, "--strata", svg), svg)
+        # the image is told first, as 1 comes before 14
+        bad = self.file("bad.bin", support.R1[:63])
+        self.fails(self.run_it(bad, "--strata", mill), bad,
+                   "not a well-formed zone")
+
+    def test_map_spares_the_limits(self) -> None:
+        lent = builder.limits_bytes(self.MILL)
+        mill = self.file("mill", lent)
+        path = self.file("zone.bin", support.R1)
+        self.fails(self.run_it(path, "--strata", mill, "--map", mill),
+                   "overwrite the limits")
+        with open(mill, "rb") as stream:
+            self.assertEqual(stream.read(), lent)
+
+    def test_map_with_a_mills_limits(self) -> None:
+        svg = os.path.join(self.place, "map.svg")
+        mill = self.file("mill", builder.limits_bytes(self.MILL))
+        done = self.run_it(self.file("zone.bin", self.THREE), "--strata", mill,
+                           "--map", svg)
+        self.assertEqual((done.returncode, done.stderr), (0, b""))
+        with open(svg, encoding="utf-8") as stream:
+            self.assertIn("12 to 12 bytes", stream.read())
+
     def test_standard_input(self) -> None:
         done = self.run_it("-", data=support.R1)
         self.assertEqual((done.returncode, done.stderr), (0, b""))

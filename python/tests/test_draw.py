@@ -55,6 +55,26 @@ class Map(unittest.TestCase):
                          "fixed block at 152, size 8, pointer 156"):
             self.assertIn(expected, tips)
 
+    def test_a_mills_limits(self) -> None:
+        zone = Zone(builder.Plan(0, (builder.free(12), builder.fixed(b""),
+                                     builder.free(4), builder.fixed(b""),
+                                     builder.free(12)), ()).image())
+        lent = builder.limits_bytes((1, 6, 7, *range(100, 1700, 100)))
+        root = tree.fromstring(draw(zone, "", lent))
+        words = [text.text for text in root.iter(SVG + "text")]
+        heading = "Free blocks by the mill's limits"
+        self.assertNotIn(heading, self.words(zone))
+        strata = words[words.index(heading) + 1:]
+        self.assertEqual(strata[:6], ["2 to 10 bytes", "1", "12 to 12 bytes",
+                                      "2", "14 to 198 bytes", "0"])
+        self.assertEqual(strata[-2:], ["3,200 and more bytes", "0"])
+        self.assertEqual(len(strata), 2 * 19)
+        # one bar is twice as long as the other
+        plain = tree.fromstring(draw(zone)).iter(SVG + "rect")
+        widths = [float(bar.get("width"))
+                  for bar in list(root.iter(SVG + "rect"))[len(list(plain)):]]
+        self.assertEqual(widths, [70.0, 140.0])
+
     def test_pages(self) -> None:
         zone = Zone(builder.cache_and_dropped()[0].image())
         words, tips = self.words(zone), self.tips(zone)

@@ -160,3 +160,17 @@ recordSize = 8
 
 abbrev pub amountAt : ℕ
 amountAt = 4
+
+-- ---- a census: "i from 0 to 18"; document 02, U7: "76 bytes: nineteen 4-byte limits in words", "the last is at most 524,288"
+
+abbrev pub strata : ℕ
+strata = 19
+
+abbrev pub limitSize : ℕ
+limitSize = 4
+
+abbrev pub limitsLength : ℕ
+limitsLength = limitSize * strata
+
+abbrev pub highestLimit : ℕ
+highestLimit = 524288

@@ -2,7 +2,7 @@
 // Each is tied to the definition's number by a function that returns it.
 ghost use mathlib.Core.Path.{_≡_};
 ghost use Rattle.block_type.specs.Limits.{freeCode, fixedCode, relocCode, pageCode, freeHeader, fixedHeader, relocHeader, pageHeader, tagAt, statusAt, dirtyBit, lockBit, stampRange, handleRange, typeByteUnit, typeUnit, smallestBlock, fixedLimit, relocLimit, pageLimit};
-ghost use Rattle.block_type.specs.Limits.{zoneHeader, masterSize, longestZone, argumentRange, mostMasters, addedMasters, addedBytes, lengthAt, firstAt, mastersAt, chainAt, clockAt, zeroAt, recordSize, amountAt};
+ghost use Rattle.block_type.specs.Limits.{zoneHeader, masterSize, longestZone, argumentRange, mostMasters, addedMasters, addedBytes, lengthAt, firstAt, mastersAt, chainAt, clockAt, zeroAt, recordSize, amountAt, strata, limitSize, limitsLength, highestLimit};
 
 pub enum BlockType {
     Free,
@@ -226,6 +226,15 @@ pub const RECORD_SIZE: usize = 8;
 
 pub const AMOUNT_AT: usize = 4;
 
+// a census: "i from 0 to 18"; document 02, U7: "76 bytes: nineteen 4-byte limits in words", "the last is at most 524,288"
+pub const STRATA: usize = 19;
+
+pub const LIMIT_SIZE: usize = 4;
+
+pub const LIMITS_LENGTH: usize = 76;
+
+pub const HIGHEST_LIMIT: u32 = 524288;
+
 pub fn zone_header() -> usize
     ensures { λ r. ⌜ r ≡ zoneHeader ⌝ }
 {
@@ -314,4 +323,28 @@ pub fn amount_at() -> usize
     ensures { λ r. ⌜ r ≡ amountAt ⌝ }
 {
     AMOUNT_AT
+}
+
+pub fn strata() -> usize
+    ensures { λ r. ⌜ r ≡ strata ⌝ }
+{
+    STRATA
+}
+
+pub fn limit_size() -> usize
+    ensures { λ r. ⌜ r ≡ limitSize ⌝ }
+{
+    LIMIT_SIZE
+}
+
+pub fn limits_length() -> usize
+    ensures { λ r. ⌜ r ≡ limitsLength ⌝ }
+{
+    LIMITS_LENGTH
+}
+
+pub fn highest_limit() -> u32
+    ensures { λ r. ⌜ r ≡ highestLimit ⌝ }
+{
+    HIGHEST_LIMIT
 }

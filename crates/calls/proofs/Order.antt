@@ -8,7 +8,8 @@ use lib.Dec.{leb}
 use borrow.Author.Tests.{le-leb, lt-leb}
 use Rattle.block_type.specs.Limits.{relocLimit, pageLimit, pageNeed, up4, relocNeed, mostMasters, addedMasters, addedBytes}
 use Rattle.calls.specs.Calls.{Target, by-handle, by-name, create-page, on-page, allocate-relocatable, resize, read, write, roster, refused}
-use Rattle.calls.specs.Table.{Facts, cause, isNone, first, order, noBayToResize, refusalOf}
+use Rattle.calls.specs.LentLimits.{lentOk}
+use Rattle.calls.specs.Table.{Facts, cause, isNone, first, order, noBayToResize, refusalOf, censusRefusal}
 
 -- a resize of a handle that is not live gives 6, whatever else is wrong with it
 pub six-first : (h c : ℕ) (f : Facts) → f .well ≡ true → f .size (by-handle h) ≡ none → refusalOf (resize h c) f ≡ 6
@@ -54,9 +55,19 @@ empty-number c f w g l =
     go true false v = refl
     go false u v = refl
 
+-- ---- the number of a census: by whether the zone is well-formed, and what is lent within the rules
+
+pub census-number : (f : Facts) (lent : List ℕ) → censusRefusal f lent ≡ cond (f .well) (cond (lentOk lent) 0 14) 1
+census-number f lent = go (f .well) (lentOk lent)
+  where
+    go : (w l : Bool) → first order (cause 1 (not w) ∷ cause 14 (not l) ∷ []) ≡ cond w (cond l 0 14) 1
+    go true true = refl
+    go true false = refl
+    go false l = refl
+
 -- ---- the order
 
-pub the-order : order ≡ 1 ∷ 2 ∷ 6 ∷ 13 ∷ 7 ∷ 11 ∷ 3 ∷ 4 ∷ 5 ∷ 12 ∷ 8 ∷ 9 ∷ 10 ∷ []
+pub the-order : order ≡ 1 ∷ 14 ∷ 2 ∷ 6 ∷ 13 ∷ 7 ∷ 11 ∷ 3 ∷ 4 ∷ 5 ∷ 12 ∷ 8 ∷ 9 ∷ 10 ∷ []
 the-order = refl
 
 -- ---- the number of a create: by whether the name is absent, c within the limit, all unlocked pages enough, and no dirty page met

@@ -10,6 +10,7 @@ use Rattle.block_type.specs.Limits.{relocHeader, relocLimit, fixedLimit, pageLi
 use Rattle.calls.specs.Bays.{over, maxS, maxLess, firstS}
 use Rattle.kinds.specs.Kinds.{Item}
 use Rattle.calls.specs.State.{State, content, ownSum, liveCount, masterCount}
+use Rattle.calls.specs.LentLimits.{lentOk}
 use Rattle.calls.specs.Pages.{unlocked, firstDirty, sumWithout, dropping}
 use Rattle.calls.specs.Calls.{Target, by-handle, by-pointer, by-name, PageCall, create-page, use-page, mark-page, drop-page, Call, allocate-relocatable, allocate-fixed, free-handle, free-pointer, resize, size, read, write, view, compact, sums, check, length-of, enlarge, shrink, roster, on-page, Beside, alone, lends, part, of-page, beside}
 
@@ -136,6 +137,10 @@ badEnlarge k f = cause 9 (not (eqb (k % 4) 0) || (below (f .buf) (f .len + k) ||
 abbrev pub tooShort : List ℕ → ℕ → Cause
 tooShort second n = cause 10 (below (length second) n)
 
+-- 14: "a length other than 0 or 76, or a rule broken" (document 02, U7)
+abbrev pub badLimits : List ℕ → Cause
+badLimits lent = cause 14 (not (lentOk lent))
+
 -- ---- the causes that a call can have, in any order
 
 abbrev pub pageCauses : ℕ → PageCall → Facts → List Cause
@@ -163,10 +168,10 @@ causes (shrink k) f = notWellFormed f ∷ []
 causes (roster second) f = notWellFormed f ∷ tooShort second (recordSize * f .live) ∷ []
 causes (on-page n p) f = notWellFormed f ∷ pageCauses n p f
 
--- ---- the order: what comes before "no bay as required", that, and what comes after: "11: .. after 7. 12: .. after 5 .. 13: .. right after 6"
+-- ---- the order: what comes before "no bay as required", that, and what comes after: "11: .. after 7. 12: .. after 5 .. 13: .. right after 6", "14: .. after 1"
 
 abbrev pub beforeNoBay : List ℕ
-beforeNoBay = 1 ∷ 2 ∷ 6 ∷ 13 ∷ 7 ∷ 11 ∷ 3 ∷ 4 ∷ []
+beforeNoBay = 1 ∷ 14 ∷ 2 ∷ 6 ∷ 13 ∷ 7 ∷ 11 ∷ 3 ∷ 4 ∷ []
 
 abbrev pub afterNoBay : List ℕ
 afterNoBay = 12 ∷ 8 ∷ 9 ∷ 10 ∷ []
@@ -187,6 +192,10 @@ first (n ∷ ns) cs = cond (holdsIn n cs) n (first ns cs)
 -- of initialize
 abbrev pub initRefusal : ℕ → ℕ → ℕ → ℕ
 initRefusal buf n m = first order (badInitialize buf n m ∷ [])
+
+-- of a census that is lent these bytes
+abbrev pub censusRefusal : Facts → List ℕ → ℕ
+censusRefusal f lent = first order (notWellFormed f ∷ badLimits lent ∷ [])
 
 -- what a refused call answers beside its number: "its value, alone among refusals, is that block's name" of a create refused with 12 (document 02,
 -- U5), and 0 of all others

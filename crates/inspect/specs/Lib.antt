@@ -1,2 +1,3 @@
 pub mod census
+pub mod strata
 pub mod walker

@@ -10,11 +10,12 @@ use borrow.Author.Tests.{ne-eqb}
 use Rattle.format.specs.WellFormed.{wellFormed, countOf}
 use Rattle.structure.specs.Structure.{encode, decode}
 use Rattle.bigendian.specs.BigEndian.{Bytes, slice}
+use Rattle.block_type.specs.Limits.{strata}
 use Rattle.calls.specs.Calls.{Target, Call, PageCall, create-page, use-page, mark-page, drop-page, check, view, Answer, told, toldTwo, Beside, alone, lends, part, of-page, beside, refused}
 use Rattle.calls.specs.Table.{Facts, first, order, badInitialize, pageValue, valueBeside, refusalValue, initRefusal}
 use Rattle.zone.specs.Work.{facts, work, fresh}
 use Rattle.zone.specs.Call.{result, outcome, inLine, zoneIn, numberOf, Result, callWith, initializeWith}
-use Rattle.zone.specs.Census.{strata, Counted, counted}
+use Rattle.zone.specs.Census.{Counted, counted, limitsOf, censusNumber, censusWith, census}
 use Rattle.zone.specs.View.{viewStart, viewLength}
 use Rattle.zone.specs.Promise.{Promise, InitPromise}
 use Rattle.zone.proofs.Numbers.{work-number}
@@ -53,6 +54,13 @@ init-refusal n m entry a exit k = go (badInitialize (length entry) n m .holds) k
     go true k = record { done = λ z. absurd (omega (arith, z)); refused = λ ne. (ap (λ (r : Result). r .answer) k, ap (λ (r : Result). r .bytes) k) }
     go false k = record { done = λ z. ap (λ (r : Result). r .answer .number) k; refused = λ ne. absurd (ne refl) }
 
+census-refusal : (zone lent : List ℕ) (n : ℕ) (cs : List ℕ) → counted n cs ≡ census zone lent → (n ≡ censusNumber zone lent) × ((n ≡ 0 → ⊥) → cs ≡ replicate strata 0)
+census-refusal zone lent n cs e = go (censusNumber zone lent) e
+  where
+    go : (k : ℕ) → counted n cs ≡ censusWith k (limitsOf lent) zone → (n ≡ k) × ((n ≡ 0 → ⊥) → cs ≡ replicate strata 0)
+    go zero e = let q = ap (λ (c : Counted). c .number) e in (q, λ ne. absurd (ne q))
+    go (suc k) e = let f = rw (eqb·suc-zero k) at e in (ap (λ (c : Counted). c .number) f, λ ne. ap (λ (c : Counted). c .counts) f)
+
 -- the value of a refusal is 0, but for 12
 value-0 : (n : ℕ) (c : Call) (f : Facts) → (n ≡ 12 → ⊥) → refusalValue n c f ≡ 0
 value-0 n c f ne = go (beside c)
@@ -74,7 +82,7 @@ demand-1 = record {
   of-calls = one-refusal;
   value = λ c entry a exit k ne nt. ap (λ (r : Answer). r .value) (one-refusal c entry a exit k .refused ne .0) ∙ value-0 (numberOf c entry) c _ nt;
   of-initialize = init-refusal;
-  of-census = λ zone n cs e w. let q : counted n cs ≡ counted 1 (replicate strata 0) = e ∙ rw w in (ap (λ (c : Counted). c .number) q, ap (λ (c : Counted). c .counts) q);
+  of-census = census-refusal;
   of-walker = λ zone at w e f. e ∙ rw f;
 }
 

@@ -8,13 +8,14 @@ use mathlib.Core.List.{List, _++_}
 use Prim.Native.Nat.{ℕ}
 use lib.ListN.{length, drop, replicate}
 use Rattle.bigendian.specs.BigEndian.{Bytes, slice}
+use Rattle.block_type.specs.Limits.{strata}
 use Rattle.format.specs.WellFormed.{wellFormed, countOf}
 use Rattle.structure.specs.Structure.{encode, decode}
 use Rattle.calls.specs.Calls.{Target, Call, check, view, Answer, told, toldTwo, beside, Given, refused}
 use Rattle.calls.specs.Table.{refusalValue, initRefusal}
 use Rattle.zone.specs.Work.{facts, work, fresh}
 use Rattle.zone.specs.Call.{inLine, zoneIn, numberOf, replacing}
-use Rattle.zone.specs.Census.{strata, counted, census}
+use Rattle.zone.specs.Census.{counted, censusNumber, census}
 use Rattle.zone.specs.Walker.{Walked, walked, walkStep}
 use Rattle.zone.specs.View.{viewStart, viewLength}
 use Rattle.zone.specs.Promise.{Promise, InitPromise}
@@ -34,7 +35,8 @@ pub record Demand1 : Type 0 where
   -- "with value 0", whatever the call, but for 12
   pub value : (c : Call) (entry : List ℕ) (a : Answer) (exit : List ℕ) → Promise c entry a exit → (numberOf c entry ≡ 0 → ⊥) → (numberOf c entry ≡ 12 → ⊥) → a .value ≡ 0
   pub of-initialize : (n m : ℕ) (entry : List ℕ) (a : Answer) (exit : List ℕ) → InitPromise n m entry a exit → OneRefusal (initRefusal (length entry) n m) (told 2 0) entry a exit
-  pub of-census : (zone : List ℕ) (n : ℕ) (cs : List ℕ) → counted n cs ≡ census zone → wellFormed zone ≡ false → (n ≡ 1) × (cs ≡ replicate strata 0)
+  -- (its zone and the limits that it is lent are read alone: it cannot write to them)
+  pub of-census : (zone lent : List ℕ) (n : ℕ) (cs : List ℕ) → counted n cs ≡ census zone lent → (n ≡ censusNumber zone lent) × ((n ≡ 0 → ⊥) → cs ≡ replicate strata 0)
   pub of-walker : (zone : List ℕ) (at : ℕ) (w : Walked) → w ≡ walkStep zone at → wellFormed zone ≡ false → w ≡ walked 1 0 0 0 at
 
 -- ---- "2. Every accepted call answers, and leaves the zone's bytes, exactly as document 01 lays them down from the UnitHz memo. The check

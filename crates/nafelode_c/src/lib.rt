@@ -55,8 +55,7 @@ pub struct Step {
     pub size: u32,
 }
 
-// The refusal number, and for each i from 0 to 18 the number of free blocks of 2^i to 2^(i+1) - 1 words of 2 bytes;
-// 0 for each when refused.
+// The refusal number, and for each i from 0 to 18 the number of free blocks of stratum i; 0 for each when refused.
 #[repr(C)]
 pub struct CensusCounts {
     pub number: u32,
@@ -471,13 +470,15 @@ pub extern "C" fn nafelode_roster(zone: &[u8], out: &mut [u8]) -> Told
     }
 }
 
-// Counts the free blocks by size.
-// Refused: 1 zone not well-formed.
+// Counts the free blocks by size. With limits of length 0 (the pointer may be NULL then) stratum i has the free blocks of 2^i to 2^(i+1) - 1 words of
+// 2 bytes. Else limits are nineteen numbers of 4 bytes, high byte first, in words: the first 1 or 2, each above the one before it, the last at most
+// 524288; and a free block is of the last stratum whose limit does not exceed its words.
+// Refused: 1 zone not well-formed, 14 limits of a length that is neither 0 nor 76, or against a rule.
 #[no_mangle]
-pub extern "C" fn nafelode_census(zone: &[u8]) -> CensusCounts
-    ensures { λ r. ⌜ counted (r .number) (r .counts) ≡ census (now (zone .entry)) ⌝ }
+pub extern "C" fn nafelode_census(zone: &[u8], limits: &[u8]) -> CensusCounts
+    ensures { λ r. ⌜ counted (r .number) (r .counts) ≡ census (now (zone .entry)) (now (limits .entry)) ⌝ }
 {
-    let c = nafelode::census(zone);
+    let c = nafelode::census(zone, limits);
     let counts = c.counts;
     CensusCounts {
         number: c.number,

@@ -107,11 +107,11 @@ module _ (s : List ℕ) (cs : Option (List ℕ) → List Cause) where
   number-1 : (t : Target) → wellFormed s ≡ false → tabled t ≡ 1
   number-1 t e = ap (λ (w : Bool). first order (cause 1 (not w) ∷ noBlock t known ∷ cs (contentIn t s))) e
 
-  number-absent : (t : Target) → holdsIn 1 (cs none) ≡ false → holdsIn 2 (cs none) ≡ false → holdsIn 6 (cs none) ≡ false → holdsIn 13 (cs none) ≡ false
+  number-absent : (t : Target) → holdsIn 1 (cs none) ≡ false → holdsIn 14 (cs none) ≡ false → holdsIn 2 (cs none) ≡ false → holdsIn 6 (cs none) ≡ false → holdsIn 13 (cs none) ≡ false
       → wellFormed s ≡ true → contentIn t s ≡ none → tabled t ≡ absentNumber t
-  number-absent (by-handle h) a b c d e o = ap₂ (by 6) e o ∙ (rw (a, b))
-  number-absent (by-pointer p) a b c d e o = ap₂ (by 7) e o ∙ (rw (a, b, c, d))
-  number-absent (by-name n) a b c d e o = ap₂ (by 13) e o ∙ (rw (a, b, c))
+  number-absent (by-handle h) a l b c d e o = ap₂ (by 6) e o ∙ (rw (a, l, b))
+  number-absent (by-pointer p) a l b c d e o = ap₂ (by 7) e o ∙ (rw (a, l, b, c, d))
+  number-absent (by-name n) a l b c d e o = ap₂ (by 13) e o ∙ (rw (a, l, b, c))
 
   number-found : (t : Target) {d : List ℕ} → wellFormed s ≡ true → contentIn t s ≡ some d → tabled t ≡ first order (cs (some d))
   number-found (by-handle h) e o = ap₂ (by 6) e o
@@ -131,7 +131,7 @@ module _ (t : Target) (i n : ℕ) (s : List ℕ) where
 
       go : Case t i n have s → tabled s cs t ≡ stretchNumber t i n have s
       go (ill e k) = number-1 s cs t e ∙ sym k
-      go (lost e o k) = number-absent s cs t refl refl refl refl e o ∙ sym k
+      go (lost e o k) = number-absent s cs t refl refl refl refl refl e o ∙ sym k
       go (past e o a k) = number-found s cs t e o ∙ (rw a) ∙ sym k
       go (short e o a b k) = number-found s cs t e o ∙ (rw (a, b)) ∙ sym k
       go (fits e l o a b k) = number-found s cs t e o ∙ (rw (a, b)) ∙ sym k
@@ -150,7 +150,7 @@ size-is t s = go (wellFormed s) refl (ℕ-discrete (targetPlace t (zoneOf s)) 0)
     go : (u : Bool) → wellFormed s ≡ u → Dec (targetPlace t (zoneOf s) ≡ 0) → (call (size t) s) .answer ≡ told (blockNumber t s) (cond (eqb (blockNumber t s) 0) (length (dataIn t s)) 0)
     go false e l = by-number (number-1 s (λ o. []) t e) ∙ sym (rw (block-1 t s e))
     go true e (yes l) =
-        by-number (number-absent s (λ o. []) t refl refl refl refl e (content-none t s l)) ∙ (rw (block-absent t s e l, ne-eqb (absentNumber t) 0 (absent-some t)))
+        by-number (number-absent s (λ o. []) t refl refl refl refl refl e (content-none t s l)) ∙ (rw (block-absent t s e l, ne-eqb (absentNumber t) 0 (absent-some t)))
     go true e (no l) =
         by-number (number-found s (λ o. []) t e (content-some t s l))
         ∙ (rw (block-0 t s e l, e) (ap (λ (o : Option (List ℕ)). told 0 (length (Option·getD o []))) (content-some t s l)))

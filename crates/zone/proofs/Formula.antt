@@ -1,8 +1,8 @@
 -- The stratum by the leading zeros of a size, for every size that a free block can have; that the census counts by it.
 use mathlib.Core.Path.{_≡_, refl, ap, ap₂, sym, _∙_}
-use mathlib.Core.Bool.{Bool, true, false, _&&_, and-true}
-use mathlib.Core.List.{List, [], _∷_, _++_}
-use Prim.Native.Nat.{ℕ, zero, suc, _+_, _-_, _*_, _^_, _≤_, _<_}
+use mathlib.Core.Bool.{Bool, true, false, cond, _&&_, and-true}
+use mathlib.Core.List.{List, [], _∷_, _++_, map}
+use Prim.Native.Nat.{ℕ, zero, suc, _+_, _-_, _*_, _/_, _^_, _≤_, _<_}
 use native.Mathlib.Omega.{arith}
 use native.Mathlib.Nat.{le-trans, lt-of-not-le, not-le-of-lt, lt-of-lt-of-le}
 use native.Mathlib.Decide.{ℕ-discrete}
@@ -11,18 +11,22 @@ use lib.Count.{leadingZeros, leading-top}
 use lib.Dec.{eqb, leb, ltb}
 use lib.ListN.{length, drop}
 use borrow.Author.Tests.{eq-eqb, ne-eqb, lt-ltb, leb-true, leb-false, ltb-true, ltb-false}
-use Rattle.bigendian.specs.BigEndian.{Bytes}
-use Rattle.block_type.specs.Limits.{longestZone, zoneHeader, firstBlock}
-use Rattle.format.specs.WellFormed.{wellFormed}
+use Rattle.bigendian.specs.BigEndian.{Bytes, fromBE}
+use Rattle.bigendian.proofs.Parts.{slice-take}
+use Rattle.block_type.specs.Limits.{freeCode, fixedHeader, firstAt, longestZone, zoneHeader, firstBlock, strata}
+use Rattle.format.specs.WellFormed.{typeOf, sizeOf, lengthField, firstField, zoneOf, splitBlocks, wellFormed}
+use Rattle.format.proofs.Bool.{and-left}
+use Rattle.format.proofs.Header.{header-facts}
 use Rattle.format.specs.Occurs.{occurs}
 use Rattle.format.proofs.Count.{All, all-at}
-use Rattle.structure.specs.Structure.{Block, Structure, fixed, cell, encode, decode, sizes}
+use Rattle.kinds.specs.Kinds.{Item, itemIn}
+use Rattle.structure.specs.Structure.{Block, Structure, fixed, cell, byType, decodeBlock, decodeZone, encode, decode, sizes}
 use Rattle.structure.specs.Valid.{Tiled}
 use Rattle.structure.proofs.Sound.{valid}
 use Rattle.bay.specs.Bay.{free, held, gap}
 use Rattle.bay.proofs.Laws.{gap-one}
-use Rattle.zone.specs.Census.{strata, limitsFrom, countIf, countsOf, freeWords, counted, census}
-use Rattle.zone.specs.Formula.{Stratum, FreeSize, bits, stratumOf, byFormula, censusByFormula, OneFree, FormulaSays}
+use Rattle.zone.specs.Census.{limitsFrom, countIf, countsOf, freeWords, counted, census}
+use Rattle.zone.specs.Formula.{Stratum, wordsMet, wordsIn, FreeSize, bits, stratumOf, byFormula, censusByFormula, OneFree, FormulaSays}
 use Rattle.zone.specs.Group.{flatBay}
 use Rattle.zone.specs.Work.{fresh}
 use Rattle.zone.specs.Call.{inLine, initialize}
@@ -129,11 +133,38 @@ all-free prev (cell (held it) ∷ bs) t u = all-free false bs (t .3) (omega arit
 zone-free : (bs : List ℕ) → Bytes bs → wellFormed bs ≡ true → All FreeSize (freeWords (decode bs .blocks))
 zone-free bs y h = let v = valid bs y h in all-free false (decode bs .blocks) (v .tiled) (omega (arith, v .short))
 
-same-answers : (bs : List ℕ) → Bytes bs → censusByFormula bs ≡ census bs
+-- ---- what a walk meets are a zone's free blocks
+
+by-code : (k n : ℕ) (d : List ℕ) (it : Item) (r : List Block) → freeWords (byType k (cell (free n)) (fixed d) (cell (held it)) ∷ r) ≡ cond (eqb k freeCode) (n / 2 ∷ freeWords r) (freeWords r)
+unfolding freeWords
+by-code zero n d it r = refl
+by-code (suc zero) n d it r = refl
+by-code (suc (suc k)) n d it r = rw (ne-eqb (suc (suc k)) freeCode (λ q. omega arith)) refl
+
+words-met : (l : List (List ℕ)) → freeWords (map decodeBlock l) ≡ wordsMet l
+unfolding freeWords wordsMet decodeBlock
+words-met [] = refl
+words-met (b ∷ l) =
+    by-code (typeOf b) (sizeOf b) (drop fixedHeader b) (itemIn b) (map decodeBlock l)
+    ∙ ap (λ (r : List ℕ). cond (eqb (typeOf b) freeCode) (sizeOf b / 2 ∷ r) r) (words-met l)
+
+-- bkFst is read alike with and without the bytes beyond the zone
+first-same : (bs : List ℕ) → wellFormed bs ≡ true → firstField (zoneOf bs) ≡ firstField bs
+unfolding wellFormed
+first-same bs h = let f = header-facts bs (and-left _ _ h) in ap fromBE (slice-take bs (lengthField bs) firstAt 4 (omega arith))
+
+pub words-are : (bs : List ℕ) → wellFormed bs ≡ true → freeWords (decode bs .blocks) ≡ wordsIn bs
+unfolding decode decodeZone
+words-are bs h = words-met (splitBlocks (drop (firstField (zoneOf bs)) (zoneOf bs))) ∙ ap (λ (n : ℕ). wordsMet (splitBlocks (drop n (zoneOf bs)))) (first-same bs h)
+
+pub all-met : (bs : List ℕ) → Bytes bs → wellFormed bs ≡ true → All FreeSize (wordsIn bs)
+all-met bs y h = rw (words-are bs h) at (zone-free bs y h)
+
+same-answers : (bs : List ℕ) → Bytes bs → censusByFormula bs ≡ census bs []
 same-answers bs y = go (wellFormed bs) refl
   where
-    go : (x : Bool) → wellFormed bs ≡ x → censusByFormula bs ≡ census bs
-    go true h = rw h (ap (counted 0) (sym (by-formula strata 0 (freeWords (decode bs .blocks)) refl (zone-free bs y h))))
+    go : (x : Bool) → wellFormed bs ≡ x → censusByFormula bs ≡ census bs []
+    go true h = rw (h, words-are bs h) (ap (counted 0) (sym (by-formula strata 0 (wordsIn bs) refl (all-met bs y h))))
     go false h = rw h refl
 
 one-free : (k n : ℕ) → k ≡ n → 0 < n → flatBay (gap k []) [] ≡ cell (free n) ∷ []
@@ -161,7 +192,7 @@ pub formula-says : FormulaSays
 formula-says = record {
   right = free-stratum;
   alone = only-stratum;
-  sizes = λ bs y h w o. let ws = freeWords (decode bs .blocks) in all-at FreeSize w ws (zone-free bs y h) (rw (occurs-is w ws) at o);
+  sizes = λ bs y h w o. all-at FreeSize w (wordsIn bs) (all-met bs y h) (rw (occurs-is w (wordsIn bs)) at o);
   reached = all-reached;
   answers = same-answers;
 }

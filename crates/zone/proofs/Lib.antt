@@ -33,6 +33,7 @@ pub mod Rig
 pub mod GrowthSheet
 pub mod PageSheet
 pub mod FixedSheet
+pub mod StrataSheet
 pub mod Numbers
 pub mod Fits
 pub mod Matches
@@ -69,3 +70,5 @@ pub mod GrowthNumber
 pub mod Grew
 pub mod Growth
 pub mod Formula
+pub mod Counts
+pub mod Strata

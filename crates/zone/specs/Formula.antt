@@ -7,18 +7,27 @@ use lib.Dec.{eqb}
 use lib.ListN.{length, replicate}
 use lib.Count.{leadingZeros}
 use Rattle.bigendian.specs.BigEndian.{Bytes}
-use Rattle.block_type.specs.Limits.{smallestBlock, longestZone, zoneHeader}
-use Rattle.format.specs.WellFormed.{wellFormed}
+use Rattle.block_type.specs.Limits.{freeCode, smallestBlock, longestZone, zoneHeader, strata}
+use Rattle.format.specs.WellFormed.{typeOf, sizeOf, wellFormed}
 use Rattle.structure.specs.Structure.{cell, decode}
 use Rattle.bay.specs.Bay.{free}
 use Rattle.zone.specs.Call.{initialize}
-use Rattle.zone.specs.Census.{strata, countIf, freeWords, Counted, counted, census}
+use Rattle.zone.specs.Claim.{blocksIn}
+use Rattle.zone.specs.Census.{countIf, Counted, counted, census}
 
 -- document 01: w words are of "stratum i, of 2^i to 2^(i+1) − 1 words, i from 0 to 18"
 pub record Stratum (i w : ℕ) : Type 0 where
   pub within : i < strata
   pub low : 2 ^ i ≤ w
   pub high : w < 2 ^ suc i
+
+-- the sizes, in words, of the free blocks that a walk through the bytes meets
+unfoldable pub wordsMet : List (List ℕ) → List ℕ
+wordsMet [] = []
+wordsMet (b ∷ bs) = cond (eqb (typeOf b) freeCode) (sizeOf b / 2 ∷ wordsMet bs) (wordsMet bs)
+
+abbrev pub wordsIn : List ℕ → List ℕ
+wordsIn bs = wordsMet (blocksIn bs)
 
 -- a size in words is a number of 32 bits in the code
 abbrev pub bits : ℕ
@@ -33,9 +42,9 @@ abbrev pub byFormula : ℕ → ℕ → List ℕ → List ℕ
 byFormula i zero ws = []
 byFormula i (suc n) ws = countIf (λ w. eqb (stratumOf w) i) ws ∷ byFormula (suc i) n ws
 
--- the census with the formula in the place of the limits
+-- a census of what a walk meets, with the formula in the place of the limits
 abbrev pub censusByFormula : List ℕ → Counted
-censusByFormula bs = cond (wellFormed bs) (counted 0 (byFormula 0 strata (freeWords (decode bs .blocks)))) (counted 1 (replicate strata 0))
+censusByFormula bs = cond (wellFormed bs) (counted 0 (byFormula 0 strata (wordsIn bs))) (counted 1 (replicate strata 0))
 
 -- the sizes in words that a free block can have: of a multiple of 4 bytes, from the smallest block to the longest zone less its header
 pub record FreeSize (w : ℕ) : Type 0 where
@@ -52,7 +61,7 @@ pub record FormulaSays : Type 0 where
   pub right : (w : ℕ) → FreeSize w → Stratum (stratumOf w) w
   pub alone : (i w : ℕ) → Stratum i w → i ≡ stratumOf w
   -- no free block of a zone has another size, and each of these sizes is that of the only block of a zone, which initialize leaves
-  pub sizes : (bs : List ℕ) → Bytes bs → wellFormed bs ≡ true → (w : ℕ) → 0 < countIf (eqb w) (freeWords (decode bs .blocks)) → FreeSize w
+  pub sizes : (bs : List ℕ) → Bytes bs → wellFormed bs ≡ true → (w : ℕ) → 0 < countIf (eqb w) (wordsIn bs) → FreeSize w
   pub reached : (w : ℕ) → FreeSize w → (bs : List ℕ) → zoneHeader + w * 2 ≤ length bs → OneFree (w * 2) (initialize (zoneHeader + w * 2) 0 bs .bytes)
-  -- "All census answers are those of today", of any bytes
-  pub answers : (bs : List ℕ) → Bytes bs → censusByFormula bs ≡ census bs
+  -- "All census answers are those of today", of any bytes; "With length 0 the formula holds" (U7)
+  pub answers : (bs : List ℕ) → Bytes bs → censusByFormula bs ≡ census bs []

@@ -5,27 +5,22 @@ use borrow.Author.Needs.{needs}
 use lib.ListN.{length, drop}
 use Rattle.block_type.specs.Limits.{zoneHeader}
 use Rattle.access.specs.row.Row.{Row}
-use Rattle.inspect.proofs.census.Laws.{free-size, stratum-in, Tally, tally-start, tally-free, tally-used, tally-end}
+use Rattle.zone.specs.Census.{limitsOf}
+use Rattle.inspect.proofs.census.Laws.{free-size, Tally, tally-start, tally-free, tally-used, tally-end}
 use Rattle.inspect.proofs.census.count_all.Statement.{statement}
 use Rattle.inspect.proofs.census.count_all.Tie as tie
 
 abbrev Inv-loop : tie.InvT-loop
-Inv-loop z first counts₀ p₀ counts p = (zoneHeader ≤ p) × (p ≤ length z) × Row (drop p z) × Tally z first p counts₀ counts
+Inv-loop z limits first counts₀ p₀ counts p = (zoneHeader ≤ p) × (p ≤ length z) × Row (drop p z) × Tally (limitsOf limits) z first p counts₀ counts
 
 abbrev μ-loop : tie.MeasureT-loop
-μ-loop z first counts₀ p₀ counts p = length z - p
+μ-loop z limits first counts₀ p₀ counts p = length z - p
 
 loop-holds : tie.Need-loop-holds Inv-loop μ-loop
 loop-holds c = (search needs, omega arith, search needs, search tally-start)
 
 stratum-requires : tie.Need-stratum-requires Inv-loop μ-loop
-stratum-requires c κs = search free-size
-
-array-read-counts : tie.Need-array-read-counts Inv-loop μ-loop
-array-read-counts c = search stratum-in
-
-array-write-counts : tie.Need-array-write-counts Inv-loop μ-loop
-array-write-counts c = search stratum-in
+stratum-requires c κs = (search needs, search free-size)
 
 add-counts : tie.Need-add-counts Inv-loop μ-loop
 add-counts c = omega (arith, c .before .before .before .before .before .loop .inv .3 .few (c .stratum .result))
@@ -48,10 +43,10 @@ count-all-spec =
     (λ c. search needs)
     stratum-requires
     (λ c. search needs)
-    array-read-counts
+    (λ c. search needs)
     add-counts
     (λ c. search needs)
-    array-write-counts
+    (λ c. search needs)
     (λ c. search needs)
     (λ c. search needs)
     loop-again

@@ -1,5 +1,4 @@
-use mathlib.Core.Path.{refl}
-use Rattle.zone.specs.Census.{strata}
+use Rattle.block_type.specs.Limits.{strata}
 use Rattle.inspect.proofs.census.Laws.{in-law, zeros-low}
 use Rattle.access.proofs.Checked.{zone-8}
 use Rattle.access.proofs.row.Zone.{zone-row, zone-first, zone-start, zone-short}
@@ -11,7 +10,7 @@ get4-requires : tie.Need-get4-requires
 get4-requires c κs = search zone-8
 
 count-all-requires : tie.Need-count-all-requires
-count-all-requires c κs = (search zone-row, search zone-first, search zone-start, search zone-short, refl, λ k. zeros-low strata k _)
+count-all-requires c κs = (search zone-row, search zone-first, search zone-start, search zone-short, search needs, λ k. zeros-low strata k _)
 
 returns : tie.Need-returns
 returns c = search in-law
