@@ -9,7 +9,7 @@
 #include "nafelode.h"
 
 enum { CALLS = 27, LIST = 40000, STACK = 32768, LENGTH = 2048 };
-static uint8_t zone[LENGTH], second[4096], limits[76], stack[STACK];
+static uint8_t zone[LENGTH], second[4096], limits[NAFELODE_LIMITS_LENGTH], stack[STACK];
 static uint32_t which, a, b, c, d, e, walker, number;
 static ucontext_t here, there;
 
@@ -26,7 +26,7 @@ static uint32_t block(void) { return d % 3 == 0 ? a : d % 3 == 1 ? b : e; }
 static unsigned pages(void) {
     unsigned n = 0;
     uint32_t at = nafelode_walker_start(zone, LENGTH);
-    for (nafelode_step s; at && (s = nafelode_walker_step(zone, LENGTH, &at)).size;) n += s.kind == 3;
+    for (nafelode_step s; at && (s = nafelode_walker_step(zone, LENGTH, &at)).size;) n += s.block_type == NAFELODE_TYPE_PAGE;
     return n;
 }
 
@@ -82,7 +82,7 @@ int main(void) {
         "walker_start", "walker_step", "create_page", "use_page", "set_dirty", "clear_dirty", "set_lock", "clear_lock", "drop_page"};
     size_t most[CALLS] = {0}, worst = 0;
     unsigned accepted[CALLS] = {0}, grown = 0, dropped = 0, by_limits = 0;
-    for (unsigned i = 0; i < 19; i++) limits[4 * i + 3] = (uint8_t)(2 + 3 * i); /* in words */
+    for (unsigned i = 0; i < NAFELODE_STRATA; i++) limits[4 * i + 3] = (uint8_t)(2 + 3 * i); /* in words */
     which = CALLS;
     size_t own = used();
     for (unsigned i = 0; i < LIST; i++) {
@@ -92,7 +92,7 @@ int main(void) {
         uint32_t at = nafelode_walker_start(Z), stop = random_below(30); /* b: the pointer of some fixed block */
         for (uint32_t k = 0; at && k < 60; k++) {
             nafelode_step s = nafelode_walker_step(Z, &at);
-            if (s.kind == 1) b = s.offset + 4;
+            if (s.block_type == NAFELODE_TYPE_FIXED) b = s.offset + NAFELODE_FIXED_HEADER;
             if (k >= stop && b) break;
         }
         unsigned masters = zone[11], before = pages();

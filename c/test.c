@@ -8,7 +8,7 @@
 #include "nafelode.h"
 
 enum { PAGE = 4096, LENGTH = 85, SECOND = 29 }; /* odd: at the end of a page both start at an odd address */
-enum { STRATA = 19, LIMITS = 4 * STRATA };
+enum { STRATA = NAFELODE_STRATA, LIMITS = NAFELODE_LIMITS_LENGTH };
 static uint8_t *zone_page, *second_page, *zone, *second;
 static uint8_t zone_kept[PAGE], second_kept[PAGE];
 static unsigned tests, wrong;
@@ -66,7 +66,7 @@ static void rig_sheet(void) {
     nafelode_census_counts census = (keep(), nafelode_census(Z, NULL, 0)); /* 12 bytes are 6 words, 8 bytes are 4 */
     stayed(__LINE__, 0, 1, 1);
     IS(census.number, 0);
-    for (int i = 0; i < 19; i++) IS(census.counts[i], i == 2 ? 2 : 0);
+    for (int i = 0; i < STRATA; i++) IS(census.counts[i], i == 2 ? 2 : 0);
     TOLD(nafelode_allocate_relocatable(Z, 13), 0, 16);
     IS(at(zone + 20), 36), IS(at(zone + 16), 48);
     TELLS(nafelode_size(Z, NAFELODE_HANDLE, 16), 0, 16);
@@ -127,14 +127,14 @@ static void bytes(void) {
     uint32_t walker = nafelode_walker_start(Z), blocks = 0;
     IS(walker, 32);
     for (; walker < 64 && blocks < 9; blocks++) {
-        static const uint32_t kind[3] = {2, 0, 1}, size[3] = {12, 8, 12};
+        static const uint32_t type[3] = {NAFELODE_TYPE_RELOCATABLE, NAFELODE_TYPE_FREE, NAFELODE_TYPE_FIXED}, size[3] = {12, 8, 12};
         uint32_t old = walker;
         nafelode_step step = nafelode_walker_step(Z, &walker);
         IS(step.number, 0), IS(step.offset, old), IS(walker, old + step.size);
-        if (blocks < 3) IS(step.kind, kind[blocks]), IS(step.size, size[blocks]);
+        if (blocks < 3) IS(step.block_type, type[blocks]), IS(step.size, size[blocks]);
     }
     nafelode_step end = nafelode_walker_step(Z, &walker);
-    IS(blocks, 3), IS(walker, 64), IS(end.number + end.kind + end.offset + end.size, 0);
+    IS(blocks, 3), IS(walker, 64), IS(end.number + end.block_type + end.offset + end.size, 0);
 }
 
 /* A fixed block's data lie on a four-byte line; without data its pointer is its end: L, or where the next block begins. */
@@ -287,11 +287,11 @@ static void page_by_name(void) {
     IS(at(zone + 36), 0x00090002);
     IS(nafelode_check(Z).yes, 1), IS(nafelode_check(Z).count, 0), IS(nafelode_sum(Z).total, 28);
     TELLS(nafelode_roster(Z, second, SECOND), 0, 0);
-    static const uint32_t kind[3] = {3, 3, 0}, size[3] = {16, 20, 28};
+    static const uint32_t type[3] = {NAFELODE_TYPE_PAGE, NAFELODE_TYPE_PAGE, NAFELODE_TYPE_FREE}, size[3] = {16, 20, 28};
     uint32_t walker = nafelode_walker_start(Z);
     for (int i = 0; i < 3; i++) {
         nafelode_step step = nafelode_walker_step(Z, &walker);
-        IS(step.kind, kind[i]), IS(step.size, size[i]);
+        IS(step.block_type, type[i]), IS(step.size, size[i]);
     }
     TOLD(nafelode_drop_page(Z, 7), 0, 0);
     IS(at(zone + 16), 8), IS(at(zone + 20), 0); /* free, and zero */
@@ -321,7 +321,7 @@ static void refused_11_and_13(void) {
     WRITES(nafelode_write(Z, NAFELODE_NAME, 7, 4, 4, second, 3), 10);
     TELLS(nafelode_size(Z, NAFELODE_HANDLE, 7), 6, 0);
     TELLS(nafelode_size(Z, NAFELODE_POINTER, 24), 7, 0); /* a page's data are no fixed block's, */
-    TELLS(nafelode_size(Z, 3, 24), 7, 0); /* and any other kind is a pointer */
+    TELLS(nafelode_size(Z, NAFELODE_TYPE_PAGE, 24), 7, 0); /* and by any other number, a type too, a block is named by its pointer */
     TOLD(nafelode_free_pointer(Z, 24), 7, 0);
     TOLD(nafelode_create_page(Z, 0, 0), 0, 40); /* 0 is a name, */
     TOLD(nafelode_create_page(Z, 0xFFFFFFFF, 0), 0, 48); /* and so is every other number */
@@ -383,7 +383,7 @@ static void census_by(int line, const uint32_t *steps, size_t length, uint32_t r
 #define CENSUS(steps, length, low, high) census_by(__LINE__, steps, length, 0, low, high)
 #define REFUSED_LIMITS(steps, length, number) census_by(__LINE__, steps, length, number, 0, 0)
 
-static const uint32_t mill[STRATA] = {2, 4, 5, 6, 7, 10, 20, 30, 40, 50, 60, 70, 80, 90, 100, 200, 300, 400, 524288};
+static const uint32_t mill[STRATA] = {2, 4, 5, 6, 7, 10, 20, 30, 40, 50, 60, 70, 80, 90, 100, 200, 300, 400, NAFELODE_HIGHEST_LIMIT};
 
 static void mills_limits(void) {
     uint32_t steps[STRATA];
@@ -399,7 +399,7 @@ static void mills_limits(void) {
     CENSUS(steps, LIMITS, 1, 2);
     for (uint32_t i = 0; i < STRATA; i++) steps[i] = 1 + i;
     CENSUS(steps, LIMITS, 3, 5);
-    for (uint32_t i = 1; i < STRATA; i++) steps[i] = 524288 - STRATA + 1 + i; /* above every free block */
+    for (uint32_t i = 1; i < STRATA; i++) steps[i] = NAFELODE_HIGHEST_LIMIT - STRATA + 1 + i; /* above every free block */
     CENSUS(steps, LIMITS, 0, 0);
     static const size_t wrong_length[] = {1, 4, 72, 75, 77, 80, 152, PAGE};
     for (size_t i = 0; i < sizeof wrong_length / sizeof *wrong_length; i++) REFUSED_LIMITS(mill, wrong_length[i], NAFELODE_BAD_LIMITS);
@@ -407,7 +407,7 @@ static void mills_limits(void) {
     steps[0] = 1, CENSUS(steps, LIMITS, 1, 3);
     steps[0] = 0, REFUSED_LIMITS(steps, LIMITS, NAFELODE_BAD_LIMITS);
     steps[0] = 3, REFUSED_LIMITS(steps, LIMITS, NAFELODE_BAD_LIMITS);
-    steps[0] = mill[0], steps[STRATA - 1] = 524289, REFUSED_LIMITS(steps, LIMITS, NAFELODE_BAD_LIMITS);
+    steps[0] = mill[0], steps[STRATA - 1] = NAFELODE_HIGHEST_LIMIT + 1, REFUSED_LIMITS(steps, LIMITS, NAFELODE_BAD_LIMITS);
     for (int i = 1; i < STRATA; i++) {
         memcpy(steps, mill, sizeof mill);
         steps[i] = mill[i - 1], REFUSED_LIMITS(steps, LIMITS, NAFELODE_BAD_LIMITS);
@@ -516,9 +516,55 @@ static void empty(void) {
     TELLS(nafelode_roster(Z, NULL, 0), 10, 0);
 }
 
+static uint8_t big[NAFELODE_LONGEST_ZONE + 8];
+
+/* The header's constants are the library's numbers: each is accepted, and one beyond it refused; each length and place is met in the bytes. */
+static void constants(void) {
+    const size_t n = sizeof big;
+    const uint32_t first = NAFELODE_ZONE_HEADER + NAFELODE_MASTER_SIZE * NAFELODE_MOST_MASTERS;
+    uint32_t free_bytes, walker = first;
+    IS(nafelode_initialize(big, n, NAFELODE_LONGEST_ZONE + 4, 0).number, NAFELODE_BAD_INITIALIZE);
+    IS(nafelode_initialize(big, n, NAFELODE_LONGEST_ZONE, NAFELODE_MOST_MASTERS + 1).number, NAFELODE_BAD_INITIALIZE);
+    IS(nafelode_initialize(big, n, first - 4, NAFELODE_MOST_MASTERS).number, NAFELODE_BAD_INITIALIZE);
+    IS(nafelode_initialize(big, n, NAFELODE_LONGEST_ZONE, NAFELODE_MOST_MASTERS).number, 0);
+    IS(at(big + NAFELODE_LENGTH_AT), NAFELODE_LONGEST_ZONE), IS(at(big + NAFELODE_FIRST_AT), first);
+    IS(at(big + NAFELODE_MASTERS_AT), NAFELODE_MOST_MASTERS);
+    IS(nafelode_enlarge(big, n, 4).number, NAFELODE_BAD_ENLARGE);
+    IS(nafelode_allocate_relocatable(big, n, NAFELODE_LARGEST_RELOCATABLE + 1).number, NAFELODE_TOO_LARGE);
+    IS(nafelode_allocate_relocatable(big, n, NAFELODE_LARGEST_RELOCATABLE).number, 0);
+    IS(nafelode_allocate_fixed(big, n, NAFELODE_LARGEST_FIXED + 1).number, NAFELODE_TOO_LARGE);
+    IS(nafelode_allocate_fixed(big, n, NAFELODE_LARGEST_FIXED).number, 0);
+    IS(nafelode_create_page(big, n, 7, NAFELODE_LARGEST_PAGE + 1).number, NAFELODE_TOO_LARGE);
+    IS(nafelode_create_page(big, n, 7, NAFELODE_LARGEST_PAGE).number, 0);
+    for (uint32_t type = NAFELODE_TYPE_RELOCATABLE; type <= NAFELODE_TYPE_PAGE; type++) {
+        nafelode_step step = nafelode_walker_step(big, n, &walker);
+        int page = type == NAFELODE_TYPE_PAGE;
+        IS(step.block_type, type);
+        IS(step.size, page ? NAFELODE_PAGE_HEADER + NAFELODE_LARGEST_PAGE : NAFELODE_RELOCATABLE_HEADER + NAFELODE_LARGEST_RELOCATABLE);
+        IS(at(big + step.offset + NAFELODE_TAG_AT) >> (page ? 0 : 16), page ? 7 : NAFELODE_ZONE_HEADER);
+    }
+    IS(nafelode_initialize(big, n, NAFELODE_ZONE_HEADER - 4, 0).number, NAFELODE_BAD_INITIALIZE);
+    IS(nafelode_initialize(big, n, NAFELODE_ZONE_HEADER, 0).number, 0);
+    for (uint32_t k = 1; k < NAFELODE_SMALLEST_BLOCK; k++) IS(nafelode_enlarge(big, n, k).number, NAFELODE_BAD_ENLARGE);
+    IS(nafelode_enlarge(big, n, NAFELODE_SMALLEST_BLOCK).number, 0);
+    IS(nafelode_sum(big, n).total, NAFELODE_SMALLEST_BLOCK);
+    IS(nafelode_enlarge(big, n, 252).number, 0);
+    IS(at(big + NAFELODE_ZONE_HEADER + NAFELODE_FREE_HEADER - 4), 128); /* the free block's size in words, and behind it zeros */
+    big[NAFELODE_ZONE_HEADER + NAFELODE_FREE_HEADER] = 1, IS(nafelode_check(big, n).yes, 0);
+    big[NAFELODE_ZONE_HEADER + NAFELODE_FREE_HEADER] = 0, IS(nafelode_check(big, n).yes, 1);
+    free_bytes = nafelode_sum(big, n).total;
+    IS(nafelode_allocate_fixed(big, n, 0).number, 0), IS(nafelode_sum(big, n).total, free_bytes -= NAFELODE_FIXED_HEADER);
+    IS(nafelode_create_page(big, n, 0, 0).number, 0), IS(nafelode_sum(big, n).total, free_bytes -= NAFELODE_PAGE_HEADER);
+    IS(nafelode_allocate_relocatable(big, n, 0).number, 0); /* adds masters */
+    IS(nafelode_sum(big, n).total, free_bytes -= NAFELODE_ADDED_BYTES + NAFELODE_RELOCATABLE_HEADER);
+    IS(at(big + NAFELODE_MASTERS_AT), NAFELODE_ADDED_MASTERS), IS(at(big + NAFELODE_FIRST_AT), NAFELODE_ZONE_HEADER + NAFELODE_ADDED_BYTES);
+    IS(nafelode_roster(big, n, second, NAFELODE_ROSTER_RECORD - 1).number, NAFELODE_SHORT_BUFFER);
+    IS(nafelode_roster(big, n, second, NAFELODE_ROSTER_RECORD).number, 0);
+    IS(sizeof ((nafelode_census_counts *)0)->counts, NAFELODE_STRATA * sizeof(uint32_t));
+}
+
 /* The largest zone. */
 static void largest(void) {
-    static uint8_t big[1048584];
     IS(nafelode_initialize(big, sizeof big, 1048580, 0).number, 2);
     IS(nafelode_initialize(big, sizeof big, 1048576, 8188).number, 0);
     IS(nafelode_enlarge(big, sizeof big, 4).number, 9);
@@ -530,11 +576,11 @@ static void largest(void) {
 
 /* The most masters: eight are added to 8180 in use, none to 8181, though the first bay has the bytes. */
 static void most_masters(void) {
-    static uint8_t big[65536];
+    enum { SHORT = 65536 };
     for (uint32_t m = 8180; m <= 8181; m++) {
-        IS(nafelode_initialize(big, sizeof big, sizeof big, m).number, 0);
+        IS(nafelode_initialize(big, sizeof big, SHORT, m).number, 0);
         for (uint32_t i = 0; i < m; i++) IS(nafelode_allocate_relocatable(big, sizeof big, 0).value, 16 + 4 * i);
-        IS(nafelode_sum(big, sizeof big).total, 65536 - 16 - 8 * m);
+        IS(nafelode_sum(big, sizeof big).total, SHORT - 16 - 8 * m);
         IS(nafelode_allocate_relocatable(big, sizeof big, 0).number, m == 8180 ? 0 : 4);
         IS(at(big + 8), m == 8180 ? 8188 : 8181);
     }
@@ -542,8 +588,7 @@ static void most_masters(void) {
 
 /* The largest page, and as many as there is room for. */
 static void many_pages(void) {
-    static uint8_t big[1048576];
-    IS(nafelode_initialize(big, sizeof big, sizeof big, 0).number, 0);
+    IS(nafelode_initialize(big, sizeof big, NAFELODE_LONGEST_ZONE, 0).number, 0);
     for (uint32_t i = 0; i < 32; i++) IS(nafelode_create_page(big, sizeof big, i, 32756).value, 24 + 32764 * i);
     IS(nafelode_create_page(big, sizeof big, 32, 32756).value, 24); /* the oldest goes */
     IS(nafelode_use_page(big, sizeof big, 0).number, 13);
@@ -567,7 +612,7 @@ int main(void) {
         rig_sheet(), bytes(), fixed_blocks(), roster_order(), tightest_hole(), more_masters(), page_by_name(), dropping();
         refused_1(), refused_2_to_10(), refused_11_and_13(), mills_limits(), empty();
     }
-    largest(), most_masters(), many_pages(), limits_in_the_zone();
+    constants(), largest(), most_masters(), many_pages(), limits_in_the_zone();
     printf("%u tests, %u wrong\n", tests, wrong);
     return wrong != 0;
 }

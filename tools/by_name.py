@@ -136,7 +136,7 @@ ALLOWED = [
     ("crates/records/proofs/Example.antt", r"^example = .*", "document 01's example of zone-run"),
     # a walker that is lent
     ("crates/create/", r"(?:\bnumber|≡|\bcond s 0|\(not s\)) (12)\b", "a refusal number"),
-    ("crates/nafelode_c/", r"\bkind (?:== |≡ )?(2)\b", "the kind of a block that is named by its name"),
+    ("crates/nafelode_c/", r"\bby (?:== |≡ )?(2)\b", "how C says that a number is a page's name"),
     ("crates/walker_run/src/main.rt", r"\bturns = (16384)usize\b", "more steps than a zone of 65,536 bytes has blocks"),
     ("crates/walker_run/proofs/walk/Proof.antt", r"\bturns ≤ 16384\b", "the same"),
     ("crates/inspect/proofs/walker/Walker/advance/Proof.antt", r"! \d+\b|! \([\d ∷]+\[\]\)", WALKED),

@@ -123,7 +123,7 @@ fn call(zone: &mut Vec<u8>, words: &[&str]) -> String {
         "nafelode_walker_step" => {
             let mut walker = n(1);
             let step = nafelode_c::nafelode_walker_step(zone, &mut walker);
-            format!("{} {} {} {}, walker {walker}", step.number, step.kind, step.offset, step.size)
+            format!("{} {} {} {}, walker {walker}", step.number, step.block_type, step.offset, step.size)
         }
         "record" => lines(zone, &record(&(1..words.len()).map(n).collect::<Vec<u32>>())),
         "raw" => lines(zone, &unhex(words[1])),

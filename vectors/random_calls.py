@@ -39,16 +39,16 @@ class Steered:
         self.rng, self.library, self.limits = rng, library, limits
         self.weights = {**WEIGHTS, "census": 50} if limits else WEIGHTS
 
-    def live(self, kind: int) -> list:
+    def live(self, by: int) -> list:
         walk, zone = list(self.library.walk()), self.library.zone
-        if kind == POINTER:
-            return [at + 4 for kind, at, _ in walk if kind == 1]
+        if by == POINTER:
+            return [at + 4 for block_type, at, _ in walk if block_type == 1]
         return [int.from_bytes(zone[at + 2:at + 4], "big")
-                for kind, at, _ in walk if kind == 2]
+                for block_type, at, _ in walk if block_type == 2]
 
-    def name(self, kind: int) -> int:
+    def name(self, by: int) -> int:
         """Nearly always a live block's."""
-        names = self.live(kind)
+        names = self.live(by)
         if names and self.rng.random() < 0.95:
             return self.rng.choice(names)
         return self.rng.randrange(14, 80, 2)
@@ -61,12 +61,12 @@ class Steered:
         return self.rng.randint(0, max(4, largest // 4))
 
     def stretch(self) -> list:
-        kind = self.rng.choices((HANDLE, POINTER), (3, 1))[0]
-        name = self.name(kind)
-        size = self.library.call("size", kind, name).value
+        by = self.rng.choices((HANDLE, POINTER), (3, 1))[0]
+        name = self.name(by)
+        size = self.library.call("size", by, name).value
         offset = self.rng.randint(0, size)
         count = self.rng.randint(0, size - offset) if self.rng.random() < 0.9 else size + 1
-        return ["handle" if kind == HANDLE else "pointer", name, offset, min(count, 40)]
+        return ["handle" if by == HANDLE else "pointer", name, offset, min(count, 40)]
 
     def arguments(self, call: str) -> list:
         rng = self.rng
@@ -95,7 +95,7 @@ class Steered:
         """Limits about the free blocks' words, or such that break a rule, or none."""
         pick = self.rng.random() if self.limits else 1.0
         if pick < 0.6:
-            words = [size // 2 for kind, _, size in self.library.walk() if kind == 0]
+            words = [size // 2 for block_type, _, size in self.library.walk() if block_type == 0]
             return [random_limits(self.rng, words).hex().upper()]
         return [broken_limits(self.rng).hex().upper()] if pick < 0.85 else []
 

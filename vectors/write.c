@@ -1,20 +1,31 @@
 /* Makes the calls of a .calls file (standard input) and writes them with each answer and the zone's bytes
  * (standard output), as FORMAT.md says. It calls nafelode.h's functions alone: linked with another zone's
- * functions of these names, it writes what that zone answers. */
+ * functions of these names, it writes what that zone answers.
+ *
+ * It takes no memory from a heap. A small machine sets what there is when this is compiled, as in -DBUFFER=512 -DLINE=320;
+ * FORMAT.md says which files that does for. */
+#include <inttypes.h>
 #include <stdio.h>
 #include <stdlib.h>
 #include <string.h>
 #include "nafelode.h"
 
-enum { BUFFER = 1 << 21, LINE = 4096, WORDS = 16, RUN = 32 };
-static uint8_t *zone, before[BUFFER]; /* what is lent is as long as it says, so that a sanitizer sees any step outside */
+#ifndef BUFFER
+#define BUFFER 2097152 /* bytes of the longest buffer that a file lends; there are four such buffers */
+#endif
+#ifndef LINE
+#define LINE 4096 /* characters of a file's longest line */
+#endif
+enum { WORDS = 16, RUN = 32 };
+static uint8_t zone_room[BUFFER], before[BUFFER], given_room[BUFFER], second_room[BUFFER];
+static uint8_t *zone;
 static size_t length;
-static unsigned line_number;
-static char *words[WORDS];
+static unsigned long line_number;
+static char line[LINE + 2], *words[WORDS]; /* with the line's end, and that of the string */
 static unsigned count;
 
 static void fail(const char *what) {
-    fprintf(stderr, "write: line %u: %s\n", line_number, what);
+    fprintf(stderr, "write: line %lu: %s\n", line_number, what);
     exit(1);
 }
 
@@ -25,10 +36,10 @@ static uint32_t number(unsigned i) {
     return (uint32_t)n;
 }
 
-static uint8_t *lend(size_t size) { /* never a null pointer, for 0 bytes either */
-    uint8_t *p = malloc(size ? size : 1);
-    if (!p) fail("no memory");
-    return p;
+static void too_long(void) { fail("more bytes than BUFFER, which is set when this is compiled"); }
+
+static uint8_t *lend(uint8_t *room, size_t size) { /* at the room's end, so that a sanitizer sees a step behind what is lent */
+    return room + (BUFFER - size);
 }
 
 /* The bytes that a word spells, laid down at `out` if that is not null; answers how many. */
@@ -40,7 +51,8 @@ static size_t spell(const char *word, uint8_t *out) {
         char *end = (char *)word + 2;
         if (strspn(word, digits) < 2) fail("bytes are wanted");
         uint8_t byte = (uint8_t)((strchr(digits, word[0]) - digits) * 16 + (strchr(digits, word[1]) - digits));
-        if (*end == '*' && ((times = strtoul(end + 1, &end, 10)) > BUFFER || *end++ != '.')) fail("a run is 'HH*COUNT.'");
+        if (*end == '*' && (times = strtoul(end + 1, &end, 10), *end++ != '.')) fail("a run is 'HH*COUNT.'");
+        if (times > BUFFER - size) too_long();
         if (out) memset(out + size, byte, times);
         size += times;
         word = end;
@@ -48,10 +60,10 @@ static size_t spell(const char *word, uint8_t *out) {
     return size;
 }
 
-static uint8_t *bytes(unsigned i, size_t *size) {
+static uint8_t *bytes(uint8_t *room, unsigned i, size_t *size) {
     if (i >= count) fail("bytes are wanted");
     *size = spell(words[i], NULL);
-    uint8_t *p = lend(*size);
+    uint8_t *p = lend(room, *size);
     spell(words[i], p);
     return p;
 }
@@ -72,14 +84,20 @@ static int is(const char *name, unsigned arguments) {
     return 1;
 }
 
-static uint32_t kind(void) { /* the two words that say which block */
+static uint32_t by(void) { /* the two words that say which block */
     if (!strcmp(words[2], "handle")) return NAFELODE_HANDLE;
     if (!strcmp(words[2], "name")) return NAFELODE_NAME;
     if (strcmp(words[2], "pointer")) fail("'handle', 'pointer' or 'name' is wanted");
     return NAFELODE_POINTER;
 }
 
-static void told(nafelode_told t) { printf("answer %u %u\n", t.number, t.value); }
+static void numbers(const char *word, unsigned how_many, const uint32_t *p) {
+    fputs(word, stdout);
+    for (unsigned i = 0; i < how_many; i++) printf(" %" PRIu32, p[i]);
+    putchar('\n');
+}
+
+static void told(nafelode_told t) { numbers("answer", 2, (uint32_t[]){t.number, t.value}); }
 
 static int changing_call(void) {
     if (is("initialize", 2)) told(nafelode_initialize(zone, length, number(2), number(3)));
@@ -111,34 +129,32 @@ static int page_call(void) {
 static int census(void) {
     if (!is("census", count > 2)) return 0;
     size_t size = 0;
-    uint8_t *given = count > 2 ? bytes(2, &size) : NULL, *limits = count > 2 ? bytes(2, &size) : NULL;
+    uint8_t *given = count > 2 ? bytes(given_room, 2, &size) : NULL, *limits = count > 2 ? bytes(second_room, 2, &size) : NULL;
     nafelode_census_counts c = nafelode_census(zone, length, limits, size);
-    printf("answer %u", c.number);
-    for (int i = 0; i < 19; i++) printf(" %u", c.counts[i]);
-    putchar('\n');
+    printf("answer %" PRIu32, c.number);
+    numbers("", 19, c.counts);
     if (size && memcmp(limits, given, size)) fail("a census has changed its limits");
-    free(given);
-    free(limits);
     return 1;
 }
 
 static int telling_call(void) {
-    if (is("size", 2)) told(nafelode_size(zone, length, kind(), number(3)));
+    if (is("size", 2)) told(nafelode_size(zone, length, by(), number(3)));
     else if (is("length", 0)) told(nafelode_length(zone, length));
-    else if (is("walker_start", 0)) printf("walker %u\n", nafelode_walker_start(zone, length));
+    else if (is("walker_start", 0)) printf("walker %" PRIu32 "\n", nafelode_walker_start(zone, length));
     else if (is("view", 4)) {
-        nafelode_part p = nafelode_view(zone, length, kind(), number(3), number(4), number(5));
-        printf("view %u %u\n", p.offset, p.length);
+        nafelode_part p = nafelode_view(zone, length, by(), number(3), number(4), number(5));
+        numbers("view", 2, (uint32_t[]){p.offset, p.length});
     } else if (is("sum", 0)) {
         nafelode_sums s = nafelode_sum(zone, length);
-        printf("answer %u %u %u\n", s.number, s.total, s.largest);
+        numbers("answer", 3, (uint32_t[]){s.number, s.total, s.largest});
     } else if (is("check", 0)) { /* never refused */
         nafelode_checked c = nafelode_check(zone, length);
-        printf("answer 0 %u %u\n", c.yes, c.count);
+        numbers("answer 0", 2, (uint32_t[]){c.yes, c.count});
     } else if (is("walker_step", 1)) {
         uint32_t walker = number(2);
         nafelode_step s = nafelode_walker_step(zone, length, &walker);
-        printf("answer %u %u %u %u\nwalker %u\n", s.number, s.kind, s.offset, s.size, walker);
+        numbers("answer", 4, (uint32_t[]){s.number, s.block_type, s.offset, s.size});
+        numbers("walker", 1, &walker);
     } else return 0;
     return 1;
 }
@@ -146,28 +162,25 @@ static int telling_call(void) {
 static int call_with_second(void) {
     if (!is("read", 5) && !is("write", 5) && !is("roster", 1)) return 0;
     size_t size;
-    uint8_t *given = bytes(count - 1, &size), *second = bytes(count - 1, &size);
-    if (is("read", 5)) printf("answer %u\n", nafelode_read(zone, length, kind(), number(3), number(4), number(5), second, size));
-    else if (is("write", 5)) printf("answer %u\n", nafelode_write(zone, length, kind(), number(3), number(4), number(5), second, size));
+    uint8_t *given = bytes(given_room, count - 1, &size), *second = bytes(second_room, count - 1, &size);
+    if (is("read", 5)) printf("answer %" PRIu32 "\n", nafelode_read(zone, length, by(), number(3), number(4), number(5), second, size));
+    else if (is("write", 5)) printf("answer %" PRIu32 "\n", nafelode_write(zone, length, by(), number(3), number(4), number(5), second, size));
     else told(nafelode_roster(zone, length, second, size));
     tell("second", second, size, !memcmp(second, given, size));
-    free(given);
-    free(second);
     return 1;
 }
 
 static void do_line(void) {
-    if (!strcmp(words[0], "buffer") && count == 3 && number(1) <= BUFFER) {
-        free(zone);
-        length = number(1);
-        zone = lend(length);
+    if (!strcmp(words[0], "buffer") && count == 3) {
+        if (number(1) > BUFFER) too_long();
+        length = (size_t)number(1);
+        zone = lend(zone_room, length);
         memset(zone, (int)number(2), length);
     } else if (!strcmp(words[0], "set") && count == 3) {
         size_t size;
-        uint8_t *p = bytes(2, &size);
-        if (!zone || size + number(1) > length) fail("outside the buffer");
+        uint8_t *p = bytes(given_room, 2, &size);
+        if (!zone || size > length || number(1) > length - size) fail("outside the buffer");
         memcpy(zone + number(1), p, size);
-        free(p);
     } else if (!strcmp(words[0], "call") && count > 1 && zone) {
         memcpy(before, zone, length);
         if (!changing_call() && !page_call() && !telling_call() && !census() && !call_with_second()) fail("no call of this name");
@@ -176,17 +189,15 @@ static void do_line(void) {
 }
 
 int main(void) {
-    char line[LINE], copy[LINE];
     while (fgets(line, sizeof line, stdin)) {
-        if (!strchr(line, '\n')) fail("too long, or no line end");
+        if (!strchr(line, '\n')) fail("longer than LINE, or no line end");
         if (line_number++ == 0 && strcmp(line, "nafelode-vectors 3\n")) fail("'nafelode-vectors 3' is wanted");
         fputs(line, stdout);
-        strcpy(copy, line);
+        if (line_number == 1) puts("# written by Nafelode " NAFELODE_VERSION);
         count = 0;
-        for (char *w = strtok(copy, " \n"); w && count < WORDS; w = strtok(NULL, " \n")) words[count++] = w;
+        for (char *w = strtok(line, " \n"); w && count < WORDS; w = strtok(NULL, " \n")) words[count++] = w;
         if (line_number > 1 && count > 0) do_line();
     }
-    free(zone);
     if (line_number == 0) fail("nothing to read");
     return ferror(stdin) || fflush(stdout) != 0;
 }

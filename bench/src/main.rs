@@ -1,5 +1,7 @@
-//! Times of the static library's calls beside those of the Rust
-//! implementation, as Markdown tables.
+//! The static library's calls beside those of the Rust implementation and what
+//! else a user might do: `bench times` prints one run's nanoseconds, a line for
+//! each (table, row, column, number), `bench counts` makes the same calls for
+//! callgrind to count. `tables.py` makes tables of either.
 
 #[path = "../../compare/src/c_interface.rs"]
 mod c_interface;
@@ -7,9 +9,11 @@ mod cache;
 #[allow(dead_code)]
 #[path = "../../compare/src/calls.rs"]
 mod calls;
+mod counting;
 #[allow(dead_code)]
 #[path = "../../compare/src/model.rs"]
 mod model;
+mod peers;
 #[allow(dead_code)]
 #[path = "../../compare/src/random.rs"]
 mod random;
@@ -24,14 +28,14 @@ mod workloads;
 #[path = "../../compare/src/zone.rs"]
 mod zone;
 
+use peers::Peer;
 use random::Random;
-use timing::{time, time_plain_read, PlainRead, Times, Work};
+use timing::{time, Times, Work};
 use workloads::{alone, any_second, mix, zone_of, Plan, KIBIBYTE};
 
 /// Bytes of the buffer behind a zone that is shorter than the limit.
 const BEYOND: usize = 1_024;
 const MIXED_CALLS: usize = 200;
-const NEARLY_EMPTY: &str = "1 MiB nearly empty";
 
 struct Workload {
     name: &'static str,
@@ -65,7 +69,7 @@ const WORKLOADS: [Workload; 4] = [
         compact_every: 100,
     },
     Workload {
-        name: NEARLY_EMPTY,
+        name: "1 MiB nearly empty",
         plan: Plan {
             length: 1_024 * KIBIBYTE,
             masters: 16,
@@ -90,78 +94,62 @@ const WORKLOADS: [Workload; 4] = [
     },
 ];
 
-/// Nanoseconds with a comma at each thousand.
-pub fn nanoseconds(time: f64) -> String {
-    let digits = format!("{:.0}", time.max(0.0));
-    let mut text = String::new();
-    for (i, digit) in digits.chars().enumerate() {
-        if i > 0 && (digits.len() - i) % 3 == 0 {
-            text.push(',');
-        }
-        text.push(digit);
-    }
-    text
+/// What is done with a row of a zone's table.
+type Measure = fn(&str, &str, &Work);
+
+/// One number of a table, as a line.
+pub fn print(table: &str, row: &str, column: &str, nanoseconds: f64) {
+    println!("{table}\t{row}\t{column}\t{nanoseconds:.1}");
 }
 
-fn row(name: &str, work: &Work) {
+fn print_times(zone: &str, row: &str, work: &Work) {
     let Times { archive, rust } = time(work);
-    let ratio = archive / rust;
-    println!("| {name} | {} | {} | {ratio:.2} |", nanoseconds(archive), nanoseconds(rust));
+    print(zone, row, "proved", archive);
+    print(zone, row, "Rust", rust);
 }
 
-/// The table of one workload: a mix, then each call alone.
-fn table(workload: &Workload) {
+/// One workload: a mix, then each call alone. Answers the zone.
+fn rows_of(workload: &Workload, measure: Measure) -> Vec<u8> {
     let mut random = Random::new(1);
     let mut zone = zone_of(&workload.plan, &mut random);
     if zone.len() < 1_024 * KIBIBYTE {
         zone.resize(zone.len() + BEYOND, 0);
     }
-    println!("\n### {}\n", workload.name);
-    println!("| call | proved library, ns | Rust, ns | ratio |\n|---|---:|---:|---:|");
     let calls = mix(&zone, &workload.plan, MIXED_CALLS, workload.compact_every, &mut random);
     let second = any_second();
     let work = Work { zone: &zone, calls: &calls, second: &second, each_on_a_copy: false };
-    row("realistic mix", &work);
+    measure(workload.name, "realistic mix", &work);
     for one in alone(&zone, &workload.plan, 24, &mut random) {
-        row(one.name, &Work::of(&one));
+        measure(workload.name, one.name, &Work::of(&one));
     }
-    if workload.name == NEARLY_EMPTY {
-        beside_a_plain_read(&zone);
-    }
+    zone
 }
 
-fn beside_a_plain_read(zone: &[u8]) {
-    let PlainRead { plain, check } = time_plain_read(zone);
-    println!(
-        "\nOne plain read of the zone's bytes (their sum, by a loop that compiles to vectors): {} ns. \
-         The proved library's check, in turn with it: {} ns, {:.2} times as long.",
-        nanoseconds(plain),
-        nanoseconds(check),
-        check / plain
-    );
-}
-
-/// The table of a zone full of pages.
-fn table_of_pages(name: &str, pages: &cache::Pages) {
-    println!("\n### {name}\n");
-    println!("| call | proved library, ns | Rust, ns | ratio |\n|---|---:|---:|---:|");
+fn rows_of_pages(name: &str, pages: &cache::Pages, measure: Measure) {
     for one in cache::rows(pages, 12, &mut Random::new(3)) {
-        row(one.name, &Work::of(&one));
+        measure(name, one.name, &Work::of(&one));
     }
 }
 
 fn main() {
-    // 'pages': their tables alone
-    if std::env::args().nth(1).as_deref() != Some("pages") {
-        for workload in &WORKLOADS {
-            table(workload);
+    let times = match std::env::args().nth(1).as_deref() {
+        Some("times") => true,
+        Some("counts") => false,
+        _ => panic!("times or counts"),
+    };
+    let measure: Measure = if times { print_times } else { counting::count };
+    for workload in &WORKLOADS {
+        let zone = rows_of(workload, measure);
+        if times {
+            for Peer { call, name, nanoseconds } in peers::times(&zone, &mut Random::new(4)) {
+                print(workload.name, call, name, nanoseconds);
+            }
         }
     }
     for (name, pages) in &cache::ZONES {
-        table_of_pages(name, pages);
+        rows_of_pages(name, pages, measure);
     }
-    if std::env::args().nth(1).as_deref() == Some("pages") {
-        return;
+    if times {
+        scaling::rows();
     }
-    scaling::tables();
 }

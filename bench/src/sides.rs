@@ -8,7 +8,7 @@ use crate::zone::{self, numbers, Stretch, Target, Walker};
 
 pub type Side = fn(&mut [u8], &Call, &mut [u8]) -> u32;
 
-fn kind_of(target: Target) -> (u32, u32) {
+fn named(target: Target) -> (u32, u32) {
     match target {
         Target::Handle(handle) => (0, handle),
         Target::Pointer(pointer) => (1, pointer),
@@ -42,20 +42,20 @@ pub fn archive(zone: &mut [u8], call: &Call, second: &mut [u8]) -> u32 {
             Call::FreePointer(pointer) => both(nafelode_free_pointer(z, n, pointer)),
             Call::Resize(handle, c) => both(nafelode_resize(z, n, handle, c)),
             Call::Size(target) => {
-                let (kind, block) = kind_of(target);
-                both(nafelode_size(z, n, kind, block))
+                let (by, block) = named(target);
+                both(nafelode_size(z, n, by, block))
             }
             Call::Read(Stretch { block, offset, count }) => {
-                let (kind, block) = kind_of(block);
-                nafelode_read(z, n, kind, block, offset, count, s, k)
+                let (by, block) = named(block);
+                nafelode_read(z, n, by, block, offset, count, s, k)
             }
             Call::Write(Stretch { block, offset, count }) => {
-                let (kind, block) = kind_of(block);
-                nafelode_write(z, n, kind, block, offset, count, s, k)
+                let (by, block) = named(block);
+                nafelode_write(z, n, by, block, offset, count, s, k)
             }
             Call::View(Stretch { block, offset, count }) => {
-                let (kind, block) = kind_of(block);
-                let part = nafelode_view(z, n, kind, block, offset, count);
+                let (by, block) = named(block);
+                let part = nafelode_view(z, n, by, block, offset, count);
                 part.offset ^ part.length
             }
             Call::Compact => both(nafelode_compact(z, n)),
@@ -79,7 +79,7 @@ pub fn archive(zone: &mut [u8], call: &Call, second: &mut [u8]) -> u32 {
             Call::WalkerStep(offset) => {
                 let mut walker = offset;
                 let block = nafelode_walker_step(z, n, &mut walker);
-                block.number ^ block.kind ^ block.offset ^ block.size ^ walker
+                block.number ^ block.block_type ^ block.offset ^ block.size ^ walker
             }
             Call::CreatePage(name, c) => both(nafelode_create_page(z, n, name, c)),
             Call::UsePage(name) => both(nafelode_use_page(z, n, name)),

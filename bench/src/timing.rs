@@ -40,17 +40,17 @@ struct Round {
 }
 
 /// What a pair of looks at the clock costs.
-fn clock_nanoseconds() -> f64 {
+pub fn clock_nanoseconds() -> f64 {
     middle(&mut (0..201).map(|_| Instant::now().elapsed().as_nanos() as f64).collect::<Vec<f64>>())
 }
 
-fn middle(times: &mut [f64]) -> f64 {
+pub fn middle(times: &mut [f64]) -> f64 {
     times.sort_by(f64::total_cmp);
     times[times.len() / 2]
 }
 
 /// Whether a call may change the zone, so that the next needs a new copy.
-fn changes(call: &Call) -> bool {
+pub fn changes(call: &Call) -> bool {
     use Call::*;
     let only_looks = match call {
         Size(_) | Read(_) | View(_) | Sum | Check | Length | Roster | Census => true,
@@ -108,27 +108,4 @@ pub fn time(work: &Work) -> Times {
     }
     let clock = clock_nanoseconds();
     Times { archive: settle(&rounds[0], clock), rust: settle(&rounds[1], clock) }
-}
-
-/// One plain read of the bytes: their sum modulo 256, which compiles to
-/// vectors. Beside it, in turn, the proved library's check.
-pub fn time_plain_read(zone: &[u8]) -> PlainRead {
-    let mut buffer = zone.to_vec();
-    let (mut plain, mut check) = (Vec::new(), Vec::new());
-    for _ in 0..61 {
-        let start = Instant::now();
-        black_box(black_box(&buffer).iter().fold(0u8, |sum, &byte| sum.wrapping_add(byte)));
-        plain.push(start.elapsed().as_nanos() as f64);
-        let start = Instant::now();
-        archive(black_box(&mut buffer), &Call::Check, &mut []);
-        check.push(start.elapsed().as_nanos() as f64);
-    }
-    let clock = clock_nanoseconds();
-    PlainRead { plain: middle(&mut plain) - clock, check: middle(&mut check) - clock }
-}
-
-/// Nanoseconds of a plain read, and of a check beside it.
-pub struct PlainRead {
-    pub plain: f64,
-    pub check: f64,
 }

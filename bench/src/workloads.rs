@@ -258,10 +258,30 @@ pub fn alone<'z>(zone: &'z [u8], plan: &Plan, count: usize, random: &mut Random)
         let calls = vec![Call::Census; count];
         rows.insert(place, Row { name, calls, zone: Cow::Borrowed(zone), second });
     }
+    let place = rows.iter().take_while(|row| row.name != "sum").count();
+    if let Some(zone) = hole_before_the_most_free_bytes(zone) {
+        let (name, calls) = ("compact, a hole before most free bytes", vec![Call::Compact; count]);
+        rows.insert(place, Row { name, calls, zone: Cow::Owned(zone), second: any_second() });
+    }
     // right after the allocations that find a free master
     let place = rows.iter().take_while(|row| row.name != "allocate fixed").count();
     rows.insert(place, growing(plan, count, zone.len(), random));
     rows
+}
+
+/// The zone with two blocks more in the bay that has most room, of which the lower one was freed: so
+/// that bay has to be compacted. None where the blocks do not go there.
+fn hole_before_the_most_free_bytes(zone: &[u8]) -> Option<Vec<u8>> {
+    let mut zone = zone.to_vec();
+    let c = (zone::sum(&zone).ok()?.1 / 3).min(32_760);
+    let lower = zone::allocate_relocatable(&mut zone, c).ok()?;
+    zone::allocate_relocatable(&mut zone, c).ok()?;
+    zone::free_handle(&mut zone, lower).ok()?;
+    let items = Picture::decode(&zone).items;
+    let bays = items.split(|item| matches!(item, Item::Fixed(_)));
+    let most = bays.max_by_key(|bay| free_bytes(bay))?;
+    let holes = most.iter().filter(|item| matches!(item, Item::Free(_))).count();
+    (holes > 1).then_some(zone)
 }
 
 /// Allocations each of which adds masters.

@@ -30,7 +30,7 @@ pub struct Part {
 #[repr(C)]
 pub struct Step {
     pub number: u32,
-    pub kind: u32,
+    pub block_type: u32,
     pub offset: u32,
     pub size: u32,
 }
@@ -49,10 +49,10 @@ extern "C" {
     pub fn nafelode_free_handle(zone: *mut u8, zone_length: usize, handle: u32) -> Told;
     pub fn nafelode_free_pointer(zone: *mut u8, zone_length: usize, pointer: u32) -> Told;
     pub fn nafelode_resize(zone: *mut u8, zone_length: usize, handle: u32, c: u32) -> Told;
-    pub fn nafelode_size(zone: *const u8, zone_length: usize, kind: u32, block: u32) -> Told;
-    pub fn nafelode_read(zone: *const u8, zone_length: usize, kind: u32, block: u32, offset: u32, count: u32, out: *mut u8, out_length: usize) -> u32;
-    pub fn nafelode_write(zone: *mut u8, zone_length: usize, kind: u32, block: u32, offset: u32, count: u32, src: *const u8, src_length: usize) -> u32;
-    pub fn nafelode_view(zone: *const u8, zone_length: usize, kind: u32, block: u32, offset: u32, count: u32) -> Part;
+    pub fn nafelode_size(zone: *const u8, zone_length: usize, by: u32, block: u32) -> Told;
+    pub fn nafelode_read(zone: *const u8, zone_length: usize, by: u32, block: u32, offset: u32, count: u32, out: *mut u8, out_length: usize) -> u32;
+    pub fn nafelode_write(zone: *mut u8, zone_length: usize, by: u32, block: u32, offset: u32, count: u32, src: *const u8, src_length: usize) -> u32;
+    pub fn nafelode_view(zone: *const u8, zone_length: usize, by: u32, block: u32, offset: u32, count: u32) -> Part;
     pub fn nafelode_compact(zone: *mut u8, zone_length: usize) -> Told;
     pub fn nafelode_sum(zone: *const u8, zone_length: usize) -> Sums;
     pub fn nafelode_check(zone: *const u8, zone_length: usize) -> Checked;

@@ -244,11 +244,11 @@ impl Differ {
         self.tally.note(&before, call, second, reply.refusal.unwrap_or(0).max(refusal), buffer);
 
         let (place, other_place) = (self.a_place(), self.a_place());
-        let kind = self.random.pick(&[1, 1, 3, 0xFFFF_FFFF]);
+        let by_pointer = self.random.pick(&[1, 1, 3, 0xFFFF_FFFF]);
         let zone = self.zones.lend(&before, place);
         let lent = self.seconds.lend(second, other_place);
         // SAFETY: both parts are lent from arenas that nothing else uses now.
-        let theirs = unsafe { ask_archive(zone, call, lent, kind) };
+        let theirs = unsafe { ask_archive(zone, call, lent, by_pointer) };
         let wrong = self.judge(&Left { reply: &reply, zone: buffer, second: &ours }, &theirs);
         match wrong {
             None => Ok(()),

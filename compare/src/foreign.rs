@@ -11,12 +11,12 @@ pub struct Lent {
     pub length: usize,
 }
 
-/// Kind and number of a target; any kind but 0 and 2 counts as pointer, so
-/// `other` stands for one of them.
-fn kind_of(target: Target, other: u32) -> (u32, u32) {
+/// How C names a target: by what, and the number. Any `by` but 0 and 2
+/// means a pointer, so `by_pointer` stands for one of them.
+fn named(target: Target, by_pointer: u32) -> (u32, u32) {
     match target {
         Target::Handle(handle) => (0, handle),
-        Target::Pointer(pointer) => (other, pointer),
+        Target::Pointer(pointer) => (by_pointer, pointer),
         Target::Name(name) => (2, name),
     }
 }
@@ -36,7 +36,7 @@ fn one(told: Told) -> Reply {
 ///
 /// # Safety
 /// Both parts are lent for this call alone, each readable and writable.
-pub unsafe fn ask_archive(zone: Lent, call: &Call, second: Lent, pointer_kind: u32) -> Reply {
+pub unsafe fn ask_archive(zone: Lent, call: &Call, second: Lent, by_pointer: u32) -> Reply {
     let (z, n) = (zone.start, zone.length);
     match *call {
         Call::Initialize(length, m) => none(nafelode_initialize(z, n, length, m)),
@@ -46,11 +46,11 @@ pub unsafe fn ask_archive(zone: Lent, call: &Call, second: Lent, pointer_kind: u
         Call::FreePointer(pointer) => none(nafelode_free_pointer(z, n, pointer)),
         Call::Resize(handle, c) => none(nafelode_resize(z, n, handle, c)),
         Call::Size(target) => {
-            let (kind, block) = kind_of(target, pointer_kind);
-            one(nafelode_size(z, n, kind, block))
+            let (by, block) = named(target, by_pointer);
+            one(nafelode_size(z, n, by, block))
         }
         Call::Read(stretch) | Call::Write(stretch) | Call::View(stretch) => {
-            ask_stretch(zone, call, stretch, second, pointer_kind)
+            ask_stretch(zone, call, stretch, second, by_pointer)
         }
         Call::Compact => one(nafelode_compact(z, n)),
         Call::Sum => {
@@ -73,7 +73,7 @@ pub unsafe fn ask_archive(zone: Lent, call: &Call, second: Lent, pointer_kind: u
         Call::WalkerStep(offset) => {
             let mut walker = offset;
             let block = nafelode_walker_step(z, n, &mut walker);
-            Reply::new(block.number, &[block.kind, block.offset, block.size, walker])
+            Reply::new(block.number, &[block.block_type, block.offset, block.size, walker])
         }
         Call::CreatePage(name, c) => one(nafelode_create_page(z, n, name, c)),
         Call::UsePage(name) => one(nafelode_use_page(z, n, name)),
@@ -90,16 +90,16 @@ unsafe fn ask_stretch(
     call: &Call,
     stretch: Stretch,
     second: Lent,
-    pointer_kind: u32,
+    by_pointer: u32,
 ) -> Reply {
-    let (kind, block) = kind_of(stretch.block, pointer_kind);
+    let (by, block) = named(stretch.block, by_pointer);
     let (z, n, s, k) = (zone.start, zone.length, second.start, second.length);
     let Stretch { offset, count, .. } = stretch;
     match call {
-        Call::Read(_) => Reply::new(nafelode_read(z, n, kind, block, offset, count, s, k), &[]),
-        Call::Write(_) => Reply::new(nafelode_write(z, n, kind, block, offset, count, s, k), &[]),
+        Call::Read(_) => Reply::new(nafelode_read(z, n, by, block, offset, count, s, k), &[]),
+        Call::Write(_) => Reply::new(nafelode_write(z, n, by, block, offset, count, s, k), &[]),
         _ => {
-            let part = nafelode_view(z, n, kind, block, offset, count);
+            let part = nafelode_view(z, n, by, block, offset, count);
             without_number(&[part.offset, part.length])
         }
     }

@@ -522,7 +522,33 @@ fn one_call_on_zones_with_pages() {
     assert_eq!(never, [""; 0], "never met");
 }
 
-/// So many pages that their names are sorted byte by byte.
+/// Names that all want the first place of the table by which names are seen to be
+/// distinct: so they are sorted. Those that are not distinct are found, too.
+#[test]
+fn names_against_the_table() {
+    // what undoes the factor: each turn makes twice as many bits right
+    let mut undo = zone::SCATTER;
+    for _ in 0..5 {
+        undo = undo.wrapping_mul(2u32.wrapping_sub(zone::SCATTER.wrapping_mul(undo)));
+    }
+    assert_eq!(undo.wrapping_mul(zone::SCATTER), 1);
+    for count in [2, 100, 255, 256, 257, 700] {
+        for twice in [None, Some(0), Some(count - 1)] {
+            let numbers = (1..=count).chain(twice.map(|one| one + 1));
+            let page = |number: u32| {
+                let name = number.wrapping_mul(undo);
+                Item::Page(Page { name, dirty: false, lock: false, stamp: 0, data: Vec::new() })
+            };
+            let items: Vec<Item> = numbers.map(page).collect();
+            let length = 16 + items.iter().map(Item::size).sum::<usize>();
+            let zone = Picture { length, m: 0, chain: Vec::new(), clock: 0, items }.encode();
+            assert_eq!(zone::check(&zone), rules::check(&zone));
+            assert_eq!(zone::check(&zone).0, twice.is_none());
+        }
+    }
+}
+
+/// So many pages that a create that drops sorts their names byte by byte.
 #[test]
 fn many_pages() {
     let mut random = Random::new(24);

@@ -4,8 +4,8 @@
 //! Text in quotation marks is document 02's; its "named block" is a page here.
 
 use super::{
-    all_blocks, bays, get16, get32, give_up, lowest_room, open, put16, put32, put_free, take_low,
-    up4, Answer, Block, Found, Kind, Layout, Refusal, AT_CLOCK,
+    all_blocks, bays, get16, get32, give_up_block, inspect_showing, lowest_room, put16, put32,
+    put_free, take_low, up4, Answer, Block, Kind, Layout, Refusal, AT_CLOCK,
 };
 
 // ------------------------------------------------------------------ layout
@@ -27,7 +27,7 @@ const AGES: usize = 256;
 /// A page as its header tells it.
 #[derive(Clone, Copy)]
 pub(super) struct Page {
-    block: Block,
+    pub(super) block: Block,
     pub(super) name: u32,
     status: u32,
 }
@@ -74,23 +74,62 @@ fn step_clock(zone: &mut [u8]) -> u8 {
 
 // ------------------------------------------------------------------- names
 
-/// The page of this name.
-pub(super) fn find_page(zone: &[u8], layout: &Layout, name: u32) -> Answer<Found> {
-    let mut free_left = None;
-    for block in all_blocks(zone, layout) {
-        if block.kind == Kind::Page && Page::read(zone, block).name == name {
-            return Ok(Found { block, free_from: free_left.unwrap_or(block.at) });
+/// Checks the zone, and looks for the page of this name in the same walk.
+fn open_for(zone: &[u8], name: u32) -> Answer<(Layout, Option<Page>)> {
+    let mut found = None;
+    let meet = |page: &Page| {
+        if page.name == name {
+            found = Some(*page);
         }
-        free_left = (block.kind == Kind::Free).then_some(block.at);
-    }
-    Err(Refusal::NameAbsent)
+    };
+    let layout = inspect_showing(zone, meet).ok_or(Refusal::NotWellFormed)?;
+    Ok((layout, found))
 }
 
-/// Whether no name comes twice.
-pub(super) fn distinct(names: Vec<u32>) -> bool {
-    let sorted = sorted_by_name(names, |&name| name);
-    sorted.windows(2).all(|pair| pair[0] != pair[1])
+/// The page of this name in a zone that is well-formed.
+pub(super) fn open_page(zone: &[u8], name: u32) -> Answer<Page> {
+    open_for(zone, name)?.1.ok_or(Refusal::NameAbsent)
 }
+
+/// Whether no name comes twice: by a table in which a name has its place by its
+/// bits, or else the next empty one. Where that takes many steps, which names can
+/// be chosen for, they are sorted.
+pub(super) fn distinct(names: Vec<u32>) -> bool {
+    if names.len() < 2 {
+        return true;
+    }
+    let bits = (2 * names.len()).next_power_of_two().trailing_zeros();
+    // 0 is an empty place, so the name 0 has none
+    let mut table = vec![0u32; 1 << bits];
+    let mut zeros = 0;
+    let mut steps = STEPS * names.len();
+    for &name in &names {
+        if name == 0 {
+            zeros += 1;
+            continue;
+        }
+        let mut place = (name.wrapping_mul(SCATTER) >> (32 - bits)) as usize;
+        while table[place] != 0 {
+            if table[place] == name {
+                return false;
+            }
+            if steps == 0 {
+                let sorted = sorted_by_name(names, |&name| name);
+                return sorted.windows(2).all(|pair| pair[0] != pair[1]);
+            }
+            steps -= 1;
+            place = (place + 1) & (table.len() - 1);
+        }
+        table[place] = name;
+    }
+    zeros < 2
+}
+
+/// An odd factor that spreads names over a number's high bits.
+pub const SCATTER: u32 = 0x85EB_CA6B;
+
+/// So many steps past places that are taken are made for each name, at most.
+const STEPS: usize = 4;
 
 /// So few items are sorted by comparing them.
 const FEW: usize = 256;
@@ -128,8 +167,8 @@ fn sorted_by_name<T: Copy>(mut items: Vec<T>, name: impl Fn(&T) -> u32) -> Vec<T
 /// "Create needs up4(8 + c), with c at most 32,756, and is placed as a
 /// relocatable block is." Answers the data offset. Data are zero.
 pub fn create_page(zone: &mut [u8], name: u32, c: u32) -> Answer<u32> {
-    let layout = open(zone)?;
-    if find_page(zone, &layout, name).is_ok() {
+    let (layout, present) = open_for(zone, name)?;
+    if present.is_some() {
         return Err(Refusal::NamePresent);
     }
     if c > Block::PAGE_DATA_LIMIT {
@@ -249,11 +288,6 @@ pub fn use_page(zone: &mut [u8], name: u32) -> Answer<u32> {
     Ok(page.block.data() as u32)
 }
 
-fn open_page(zone: &[u8], name: u32) -> Answer<Page> {
-    let layout = open(zone)?;
-    Ok(Page::read(zone, find_page(zone, &layout, name)?.block))
-}
-
 fn put_status(zone: &mut [u8], page: &Page, status: u32) {
     put16(zone, page.block.at + AT_STATUS, status);
 }
@@ -289,8 +323,7 @@ pub fn clear_lock(zone: &mut [u8], name: u32) -> Answer<()> {
 
 /// "and drop, which heeds neither flag".
 pub fn drop_page(zone: &mut [u8], name: u32) -> Answer<()> {
-    let layout = open(zone)?;
-    let Found { block, free_from } = find_page(zone, &layout, name)?;
-    give_up(zone, &layout, free_from, block.at, block.end());
+    let (layout, page) = open_for(zone, name)?;
+    give_up_block(zone, &layout, page.ok_or(Refusal::NameAbsent)?.block);
     Ok(())
 }

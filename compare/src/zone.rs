@@ -25,6 +25,8 @@ mod pages;
 pub use census::{census, read_limits, stratum, stratum_by, STRATA};
 #[allow(unused_imports)]
 pub use pages::{clear_dirty, clear_lock, create_page, drop_page, set_dirty, set_lock, use_page};
+#[allow(unused_imports)]
+pub use pages::SCATTER;
 
 // ---------------------------------------------------------------- answers
 
@@ -198,13 +200,6 @@ pub enum Kind {
     Page = 3,
 }
 
-impl Kind {
-    /// "Named blocks slide as relocatable ones do" (document 02, U5).
-    fn slides(self) -> bool {
-        matches!(self, Kind::Relocatable | Kind::Page)
-    }
-}
-
 /// A block: its type, its first byte's offset, its size with the header.
 #[derive(Clone, Copy, Debug)]
 struct Block {
@@ -231,25 +226,26 @@ impl Block {
     const RELOCATABLE_BITS: u32 = 0x8000;
     const PAGE_BITS: u32 = 0xC000;
 
+    /// the type bits of a block's first four bytes
+    const HIGH_BIT: u32 = 0x8000_0000;
+    const NEXT_BIT: u32 = 0x4000_0000;
+
+    /// The size that a 14-bit one stands for, by the block's first four bytes.
+    #[inline]
+    fn short_size(word: u32) -> usize {
+        (word >> 15 & 0x7FFE) as usize
+    }
+
     /// The block that starts at `at`.
     #[inline]
     fn read(zone: &[u8], at: usize) -> Block {
         let word = get32(zone, at);
-        let short_size = 2 * (word >> 16 & 0x3FFF) as usize;
+        let short_size = Block::short_size(word);
         match word >> 30 {
             0 => Block { kind: Kind::Free, at, size: 2 * word as usize },
             1 => Block { kind: Kind::Fixed, at, size: short_size },
             2 => Block { kind: Kind::Relocatable, at, size: short_size },
             _ => Block { kind: Kind::Page, at, size: short_size },
-        }
-    }
-
-    /// The least size of a block of this type.
-    #[inline]
-    fn least(&self) -> usize {
-        match self.kind {
-            Kind::Page => Block::PAGE_LEAST,
-            _ => Block::LEAST,
         }
     }
 
@@ -279,15 +275,10 @@ impl Block {
         self.size - self.header()
     }
 
-    /// The header's second word: a relocatable block's handle, 0 in a fixed one.
-    #[inline]
-    fn second_word(&self, zone: &[u8]) -> u32 {
-        get16(zone, self.at + 2)
-    }
-
+    /// A relocatable block's handle, its header's second word.
     #[inline]
     fn handle(&self, zone: &[u8]) -> usize {
-        self.second_word(zone) as usize
+        get16(zone, self.at + 2) as usize
     }
 }
 
@@ -316,8 +307,14 @@ fn put_relocatable(zone: &mut [u8], at: usize, size: usize, handle: usize) {
 
 /// The rules of 'Well-formed': the header, one pass over the blocks, the chain.
 fn inspect(zone: &[u8]) -> Option<Layout> {
+    inspect_showing(zone, |_| ())
+}
+
+/// The same; each page is shown when it is met.
+#[inline]
+fn inspect_showing(zone: &[u8], show: impl FnMut(&pages::Page)) -> Option<Layout> {
     let mut layout = inspect_header(zone)?;
-    layout.live = inspect_blocks(zone, &layout)?;
+    layout.live = inspect_blocks(zone, &layout, show)?;
     let chain = inspect_chain(zone, &layout)?;
     // "relocatable blocks plus chain length equal m"
     (layout.live + chain == layout.masters).then_some(layout)
@@ -341,57 +338,71 @@ fn inspect_header(zone: &[u8]) -> Option<Layout> {
     good.then_some(Layout { length, first, masters, live: 0 })
 }
 
-/// Answers the number of relocatable blocks.
-fn inspect_blocks(zone: &[u8], layout: &Layout) -> Option<usize> {
+/// Answers the number of relocatable blocks. Each type has a branch of its own up
+/// to the block's end: so the next block can be looked for before this one is judged.
+#[inline]
+fn inspect_blocks(
+    zone: &[u8],
+    layout: &Layout,
+    mut show: impl FnMut(&pages::Page),
+) -> Option<usize> {
+    let zone = &zone[..layout.length];
     let mut live = 0;
     let mut names = Vec::new();
     let mut after_free = false;
     let mut at = layout.first;
     // "blocks tile bkFst to L"
-    while at < layout.length {
-        let block = Block::read(zone, at);
-        // "sizes and the zeros of free blocks as above"
-        if block.size % 4 != 0
-            || block.size < block.least()
-            || block.size > layout.length - at
-        {
-            return None;
-        }
-        match block.kind {
-            Kind::Free => {
-                // "no two free blocks are neighbours"
-                if after_free || !all_zero(&zone[block.data()..block.end()]) {
-                    return None;
-                }
-            }
-            Kind::Fixed => {
-                // "the second word zero" (document 02, U6)
-                if block.second_word(zone) != 0 {
-                    return None;
-                }
-            }
-            Kind::Relocatable => {
+    while at < zone.len() {
+        let word = get32(zone, at);
+        if word & Block::HIGH_BIT != 0 {
+            let size = Block::short_size(word);
+            if word & Block::NEXT_BIT == 0 {
                 // "each relocatable block's handle is a master's offset and
                 // that master holds the block's data offset"
-                let handle = block.handle(zone);
-                if !layout.is_master(handle) || get32(zone, handle) as usize != block.data() {
+                let handle = (word & 0xFFFF) as usize;
+                if !layout.is_master(handle)
+                    || get32(zone, handle) as usize != at + Block::RELOCATABLE_HEADER
+                {
                     return None;
                 }
                 live += 1;
-            }
-            Kind::Page => {
-                let page = pages::Page::read(zone, block);
+                at = end_of(zone, at, size, Block::LEAST)?;
+            } else {
+                let end = end_of(zone, at, size, Block::PAGE_LEAST)?;
+                let page = pages::Page::read(zone, Block { kind: Kind::Page, at, size });
                 if !page.status_is_good() {
                     return None;
                 }
                 names.push(page.name);
+                show(&page);
+                at = end;
             }
+            after_free = false;
+        } else if word & Block::NEXT_BIT != 0 {
+            // "the second word zero" (document 02, U6)
+            if word & 0xFFFF != 0 {
+                return None;
+            }
+            at = end_of(zone, at, Block::short_size(word), Block::LEAST)?;
+            after_free = false;
+        } else {
+            // "no two free blocks are neighbours"
+            let end = end_of(zone, at, 2 * word as usize, Block::LEAST)?;
+            if after_free || !all_zero(&zone[at + Block::FREE_HEADER..end]) {
+                return None;
+            }
+            at = end;
+            after_free = true;
         }
-        after_free = block.kind == Kind::Free;
-        at = block.end();
     }
     // "Names are distinct in a well-formed zone" (document 02, U5)
     pages::distinct(names).then_some(live)
+}
+
+/// The end of a block: "sizes [...] as above", and no end beyond the zone's.
+#[inline]
+fn end_of(zone: &[u8], at: usize, size: usize, least: usize) -> Option<usize> {
+    (size % 4 == 0 && size >= least && size <= zone.len() - at).then_some(at + size)
 }
 
 /// "the chain from hFstFree visits only masters and ends in 0": its length.
@@ -452,16 +463,19 @@ struct Found {
     free_from: usize,
 }
 
-/// The block that starts at this very offset.
+/// The block that starts at this very offset. Only of the block before it the
+/// type is asked, when it is known.
 fn find_start(zone: &[u8], layout: &Layout, at: usize) -> Option<Found> {
-    let mut free_from = at;
-    for block in all_blocks(zone, layout) {
-        if block.at >= at {
-            return (block.at == at).then_some(Found { block, free_from });
-        }
-        free_from = if block.kind == Kind::Free { block.at } else { at };
+    let (mut before, mut start) = (None, layout.first);
+    while start < at && start < layout.length {
+        before = Some(start);
+        start = Block::read(zone, start).end();
     }
-    None
+    if start != at || start >= layout.length {
+        return None;
+    }
+    let free_left = before.filter(|&left| Block::read(zone, left).kind == Kind::Free);
+    Some(Found { block: Block::read(zone, at), free_from: free_left.unwrap_or(at) })
 }
 
 /// A live handle's block. A free master holds 0 or a master's offset, a live
@@ -552,25 +566,50 @@ fn bays<'z>(zone: &'z [u8], layout: &Layout) -> Bays<'z> {
 /// free block holds the rest (none for 0), masters follow." Answers that free
 /// block, of size 0 for none.
 fn compact_bay(zone: &mut [u8], bay: &Bay) -> Block {
-    let mut to = bay.start;
-    let mut live_end = bay.start;
-    let mut at = bay.start;
-    while at < bay.end {
-        let block = Block::read(zone, at);
-        at = block.end();
-        if block.kind.slides() {
-            if to < block.at {
-                zone.copy_within(block.at..block.end(), to);
-                follow(zone, Block { at: to, ..block });
+    compact_from(zone, bay.start, bay.end).0
+}
+
+/// Compacts the bay that starts at `start`, up to its fixed block or to `limit`, in
+/// one walk: a run of blocks that slide ("Named blocks slide as relocatable ones
+/// do", document 02, U5) goes down as one, after its masters were set. Answers the
+/// free block, and where the next bay starts if there is one.
+#[inline]
+fn compact_from(zone: &mut [u8], start: usize, limit: usize) -> (Block, Option<usize>) {
+    let (mut to, mut live_end) = (start, start);
+    let mut at = start;
+    let next_bay = loop {
+        let run = at;
+        let mut next = None;
+        while at < limit {
+            let block = Block::read(zone, at);
+            if matches!(block.kind, Kind::Free | Kind::Fixed) {
+                next = Some(block);
+                break;
             }
-            to += block.size;
+            if to < run && block.kind == Kind::Relocatable {
+                let master = block.handle(zone);
+                put32(zone, master, (block.data() - (run - to)) as u32);
+            }
+            at = block.end();
+        }
+        if run < at {
+            if to < run {
+                zone.copy_within(run..at, to);
+            }
+            to += at - run;
             live_end = at;
         }
+        match next {
+            Some(free) if free.kind == Kind::Free => at = free.end(),
+            fixed => break fixed.map(|fixed| fixed.end()),
+        }
+    };
+    if to < at {
+        // Old blocks stood up to live_end, and at most one free header after it.
+        zone[to..at.min(live_end + Block::FREE_HEADER)].fill(0);
+        put_free(zone, to, at - to);
     }
-    // Old blocks stood up to live_end, and at most one free header after it.
-    zone[to..bay.end.min(live_end + Block::FREE_HEADER)].fill(0);
-    put_free(zone, to, bay.end - to);
-    Block { kind: Kind::Free, at: to, size: bay.end - to }
+    (Block { kind: Kind::Free, at: to, size: at - to }, next_bay)
 }
 
 /// "masters follow": that of a relocatable block which now stands here. A page
@@ -921,25 +960,26 @@ pub struct Stretch {
     pub count: u32,
 }
 
-fn find_target(zone: &[u8], layout: &Layout, target: Target) -> Answer<Block> {
+/// The block of a target in a zone that is well-formed.
+fn open_target(zone: &[u8], target: Target) -> Answer<Block> {
     match target {
-        Target::Handle(handle) => find_handle(zone, layout, handle),
-        Target::Pointer(pointer) => find_pointer(zone, layout, pointer).map(|found| found.block),
-        Target::Name(name) => pages::find_page(zone, layout, name).map(|found| found.block),
+        Target::Handle(handle) => find_handle(zone, &open(zone)?, handle),
+        Target::Pointer(pointer) => {
+            find_pointer(zone, &open(zone)?, pointer).map(|found| found.block)
+        }
+        Target::Name(name) => pages::open_page(zone, name).map(|page| page.block),
     }
 }
 
 /// "Size takes the block alone and answers its data size."
 pub fn size(zone: &[u8], block: Target) -> Answer<u32> {
-    let layout = open(zone)?;
-    Ok(find_target(zone, &layout, block)?.data_size() as u32)
+    Ok(open_target(zone, block)?.data_size() as u32)
 }
 
 /// The stretch's place in the zone; "offset + count, unwrapped, above data
 /// size" is 8.
 fn place(zone: &[u8], stretch: Stretch) -> Answer<Range<usize>> {
-    let layout = open(zone)?;
-    let block = find_target(zone, &layout, stretch.block)?;
+    let block = open_target(zone, stretch.block)?;
     if u64::from(stretch.offset) + u64::from(stretch.count) > block.data_size() as u64 {
         return Err(Refusal::PastBlockEnd);
     }
@@ -974,20 +1014,11 @@ pub fn view(zone: &[u8], stretch: Stretch) -> &[u8] {
 /// "Compact: every bay; answers the largest sum."
 pub fn compact(zone: &mut [u8]) -> Answer<u32> {
     let layout = open(zone)?;
-    let mut largest = 0;
-    let mut start = layout.first;
-    loop {
-        // The next bay, then past the fixed block that ends it.
-        let rest = Blocks { zone, at: start, end: layout.length };
-        let Some(bay) = (Bays { blocks: rest, start, done: false }).next() else { break };
-        largest = largest.max(bay.sum);
-        if bay.sum > 0 {
-            compact_bay(zone, &bay);
-        }
-        if bay.end == layout.length {
-            break;
-        }
-        start = Block::read(zone, bay.end).end();
+    let (mut largest, mut next) = (0, Some(layout.first));
+    while let Some(start) = next {
+        let (free, next_bay) = compact_from(zone, start, layout.length);
+        largest = largest.max(free.size);
+        next = next_bay;
     }
     Ok(largest as u32)
 }

@@ -12,16 +12,21 @@
 
 from .bays import Bay, Scatter, Sum
 from .census import Stratum
+from .content import ZonePart
+from .diff import Change, changes
 from .format import Block, BlockType, Page
 from .limits import decode_limits
 from .roster import Record, decode_roster
 from .rules import ZoneError
 from .zone import Zone, check, fault, read
 
+__version__ = "1.7.1"  # as in the file VERSION
+
 __all__ = [
     "Bay",
     "Block",
     "BlockType",
+    "Change",
     "Page",
     "Record",
     "Scatter",
@@ -29,6 +34,8 @@ __all__ = [
     "Sum",
     "Zone",
     "ZoneError",
+    "ZonePart",
+    "changes",
     "check",
     "decode_limits",
     "decode_roster",

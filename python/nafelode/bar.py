@@ -42,25 +42,22 @@ class Stretch(NamedTuple):
 
 
 class Bar:
-    """Where the rows stand on the drawing."""
+    """Where the rows stand on the drawing; `below` is the room below each."""
 
-    def __init__(self, drawing: Drawing, wrap: Wrap, x: float,
-                 y: float) -> None:
+    def __init__(self, drawing: Drawing, wrap: Wrap, x: float, y: float,
+                 thick: float, below: float = BAY_STRIP + GAP) -> None:
         self.drawing = drawing
         self.wrap = wrap
         self.x = x
         self.y = y
+        self.thick = thick
+        self.pitch = thick + below
         self._latest: Dict[str, Tuple[int, int]] = {}
-        self.thick = 52 if wrap.rows <= 2 else 34 if wrap.rows <= 12 else 24
 
     @property
     def two_lines(self) -> bool:
         """Whether names and sizes find room one above the other."""
         return self.thick > 30
-
-    @property
-    def pitch(self) -> float:
-        return self.thick + BAY_STRIP + GAP
 
     @property
     def end(self) -> float:
@@ -71,6 +68,11 @@ class Bar:
 
     # -- stretches -----------------------------------------------------------
 
+    def ground(self) -> None:
+        for piece in self.wrap.pieces(0, self.wrap.length):
+            self.drawing.rect(self.x + piece.x, self.row_y(piece.row),
+                              piece.width, self.thick, "#eef1f3")
+
     def paint(self, stretch: Stretch) -> None:
         widest = None
         for piece in self.wrap.pieces(stretch.start, stretch.end):
@@ -80,7 +82,7 @@ class Bar:
         if widest is not None:
             self._label(stretch, widest)
 
-    def _seen(self, mark: str, row: int, x: float) -> bool:
+    def seen(self, mark: str, row: int, x: float) -> bool:
         """Whether such a mark stands on this pixel already."""
         pixel = row, int(x)
         seen = self._latest.get(mark) == pixel
@@ -90,7 +92,7 @@ class Bar:
     def _paint_piece(self, stretch: Stretch, piece: Piece) -> None:
         # Without this a zone of 200,000 blocks is drawn, but never shown.
         if piece.width < LEAST_WIDTH / 2 \
-                and self._seen(stretch.fill, piece.row, piece.x):
+                and self.seen(stretch.fill, piece.row, piece.x):
             return
         # A thin gap parts neighbours where there is room for one.
         gap = 0.8 if piece.last and piece.width > 3 else 0
@@ -130,14 +132,13 @@ class Bar:
 
     # -- rulers --------------------------------------------------------------
 
-    def offsets(self) -> None:
-        """Each row's first offset on its left, L where the zone ends."""
-        self.drawing.text(self.x - 8, self.y - 6, "offset", 10,
-                          palette.FAINT, "end")
+    def offsets(self, which: str = "") -> None:
+        """Each row's first offset on its left, after a word for the zone; L
+        where the zone ends."""
         for row in range(self.wrap.rows):
             self.drawing.text(self.x - 8,
                               self.row_y(row) + self.thick / 2 + 4,
-                              f"{row * self.wrap.per_row:,}", 11,
+                              f"{which}{row * self.wrap.per_row:,}", 11,
                               palette.FAINT, "end")
         last = self.wrap.length - (self.wrap.rows - 1) * self.wrap.per_row
         x = self.x + last * self.wrap.scale
@@ -168,7 +169,7 @@ class Bar:
         row = (at - 1) // self.wrap.per_row
         x = self.x + (at - row * self.wrap.per_row) * self.wrap.scale
         y = self.row_y(row) + self.thick
-        if not self._seen("empty bay", row, x):
+        if not self.seen("empty bay", row, x):
             self.drawing.line(x, y + 1, x, y + 7, palette.BAY, 1.6)
 
     def _bracket(self, piece: Piece) -> None:
@@ -193,23 +194,27 @@ class Bar:
 def draw_bar(drawing: Drawing, zone: Zone, wrap: Wrap, x: float,
              y: float) -> float:
     """Draw the zone's bar from (x, y); answers where it ends below."""
-    bar = Bar(drawing, wrap, x, y)
-    _ground(bar)
-    for stretch in _stretches(zone):
+    bar = Bar(drawing, wrap, x, y, thickness(wrap.rows))
+    bar.ground()
+    for stretch in stretches(zone):
         bar.paint(stretch)
     for index, bay in enumerate(zone.bays):
         bar.bay(index, bay.start, bay.end, bay.sum)
+    offset_word(drawing, x, y)
     bar.offsets()
     return bar.end
 
 
-def _ground(bar: Bar) -> None:
-    for piece in bar.wrap.pieces(0, bar.wrap.length):
-        bar.drawing.rect(bar.x + piece.x, bar.row_y(piece.row), piece.width,
-                         bar.thick, "#eef1f3")
+def thickness(rows: int) -> int:
+    return 52 if rows <= 2 else 34 if rows <= 12 else 24
 
 
-def _stretches(zone: Zone) -> Iterator[Stretch]:
+def offset_word(drawing: Drawing, x: float, y: float) -> None:
+    """What the numbers left of a bar are."""
+    drawing.text(x - 8, y - 6, "offset", 10, palette.FAINT, "end")
+
+
+def stretches(zone: Zone) -> Iterator[Stretch]:
     yield Stretch(0, HEADER_LENGTH, palette.HEADER,
                   f"header: L {zone.length}, bkFst {zone.bk_fst}, m {zone.m}, "
                   f"hFstFree {zone.h_fst_free}, clock {zone.clock}",

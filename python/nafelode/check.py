@@ -45,23 +45,53 @@ Image = Union[bytes, bytearray, memoryview]
 
 
 class Reading(NamedTuple):
-    """What a well-formed image holds; `data` is a copy of its L bytes."""
+    """What an image holds, up to its first broken rule if it has one.
+
+    `data` is a copy of its L bytes, or of as many as there are. The header's
+    numbers are 0 where the image has none.
+    """
 
     data: bytes
     header: Header
     blocks: Tuple[Block, ...]
     chain: Tuple[int, ...]
+    fault: Optional[ZoneError]
 
 
 def read_image(image: Image) -> Reading:
-    """Read an image whole, or raise ZoneError for its first broken rule."""
+    """Read an image up to its first broken rule, or whole.
+
+    The blocks of an image that was cut off, which is shorter than L, are read
+    up to the cut, though L comes before them.
+    """
     data, buffer_length = _first_bytes(image)
-    header = _read_header(data, buffer_length)
-    data = data[:header.length]
-    blocks = _read_blocks(data, header)
-    chain = _read_chain(data, header)
-    _check_count(header, blocks, chain)
-    return Reading(data, header, blocks, chain)
+    header = Header(0, 0, 0, 0, 0)
+    blocks: List[Block] = []
+    chain: List[int] = []
+    fault: Optional[ZoneError] = None
+    try:
+        header = _read_header(data, buffer_length)
+        _check_length(header.length, buffer_length)
+        _check_behind_length(data, header)
+        data = data[:header.length]
+        _read_blocks(data, header, blocks)
+        _read_chain(data, header, chain)
+        _check_count(header, blocks, chain)
+    except ZoneError as error:
+        fault = error.with_traceback(None)
+        if error.rule == rules.LENGTH_BUFFER:
+            _read_to_the_cut(data, header, blocks)
+    return Reading(data, header, tuple(blocks), tuple(chain), fault)
+
+
+def _read_to_the_cut(data: bytes, header: Header,
+                     blocks: List[Block]) -> None:
+    there = header._replace(length=len(data) - len(data) % 4)
+    try:
+        _check_behind_length(data, there)
+        _read_blocks(data, there, blocks)
+    except ZoneError:
+        pass  # the block that was cut, or a fault behind the one that is named
 
 
 def _first_bytes(image: Image) -> Tuple[bytes, int]:
@@ -79,21 +109,13 @@ def _read_header(data: bytes, buffer_length: int) -> Header:
     if buffer_length < HEADER_LENGTH:
         raise ZoneError(rules.BUFFER, buffer_length,
                         f"the buffer ends after {buffer_length} bytes")
-    header = Header(
+    return Header(
         length=number(data, AT_LENGTH, 4),
         bk_fst=number(data, AT_BK_FST, 4),
         m=number(data, AT_M, 4),
         h_fst_free=number(data, AT_H_FST_FREE, 2),
         clock=data[AT_CLOCK],
     )
-    _check_length(header.length, buffer_length)
-    _check_bk_fst(header)
-    if header.m > MASTER_LIMIT:
-        raise ZoneError(rules.M_LIMIT, AT_M, f"m is {header.m}")
-    if data[AT_ZERO] != 0:
-        raise ZoneError(rules.HEADER_ZERO, AT_ZERO,
-                        f"header byte {AT_ZERO} is 0x{data[AT_ZERO]:02X}")
-    return header
 
 
 def _check_length(length: int, buffer_length: int) -> None:
@@ -104,6 +126,15 @@ def _check_length(length: int, buffer_length: int) -> None:
     if length > buffer_length:
         raise ZoneError(rules.LENGTH_BUFFER, AT_LENGTH,
                         f"L is {length}, the buffer has {buffer_length} bytes")
+
+
+def _check_behind_length(data: bytes, header: Header) -> None:
+    _check_bk_fst(header)
+    if header.m > MASTER_LIMIT:
+        raise ZoneError(rules.M_LIMIT, AT_M, f"m is {header.m}")
+    if data[AT_ZERO] != 0:
+        raise ZoneError(rules.HEADER_ZERO, AT_ZERO,
+                        f"header byte {AT_ZERO} is 0x{data[AT_ZERO]:02X}")
 
 
 def _check_bk_fst(header: Header) -> None:
@@ -120,8 +151,8 @@ def _check_bk_fst(header: Header) -> None:
 # -- blocks ----------------------------------------------------------------
 
 
-def _read_blocks(data: bytes, header: Header) -> Tuple[Block, ...]:
-    blocks: List[Block] = []
+def _read_blocks(data: bytes, header: Header, blocks: List[Block]) -> None:
+    """Read the blocks into a list, which keeps those before a fault."""
     named: Dict[int, int] = {}  # where each name stands
     offset = header.bk_fst
     after_free = False
@@ -143,7 +174,6 @@ def _read_blocks(data: bytes, header: Header) -> Tuple[Block, ...]:
         blocks.append(block)
         after_free = free
         offset = block.end
-    return tuple(blocks)
 
 
 def _read_block(data: bytes, offset: int, header: Header) -> Block:
@@ -232,8 +262,8 @@ def _check_master(data: bytes, header: Header, block: Block,
 # -- chain -----------------------------------------------------------------
 
 
-def _read_chain(data: bytes, header: Header) -> Tuple[int, ...]:
-    chain: List[int] = []
+def _read_chain(data: bytes, header: Header, chain: List[int]) -> None:
+    """Read the chain into a list, which keeps the masters before a fault."""
     visited = set()
     link_at, master = AT_H_FST_FREE, header.h_fst_free
     while master != 0:
@@ -248,7 +278,6 @@ def _read_chain(data: bytes, header: Header) -> Tuple[int, ...]:
         visited.add(master)
         chain.append(master)
         link_at, master = master, number(data, master, MASTER_LENGTH)
-    return tuple(chain)
 
 
 def _check_count(header: Header, blocks: Sequence[Block],

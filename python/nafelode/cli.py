@@ -1,158 +1,151 @@
 """The command zone-print."""
 
 import argparse
-import os
-import sys
 from typing import List, Optional
 
-from . import limits, table
+from . import __version__, as_json, command, dump, part, table
+from .command import DONE, STANDARD, Failure
+from .content import Content, ZonePart
 from .draw import draw
-from .format import LENGTH_LIMIT
+from .format import Block
+from .limits import decode_limits
 from .rules import ZoneError
 from .zone import Zone
 
-DONE = 0
 FAILED = 1
-INTERRUPTED = 130
-
-
-class Failure(Exception):
-    """A message for standard error."""
 
 
 def main(argv: Optional[List[str]] = None) -> int:
     """Run the command; answers the exit status."""
-    try:
-        status = _run(argv)
-        if sys.stdout is not None:
-            sys.stdout.flush()
-        return status
-    except Failure as failure:
-        _complain(str(failure))
-    except BrokenPipeError:
-        _drop_output()  # the reader has gone: no message
-    except OSError as error:
-        _drop_output()
-        _complain(f"standard output: {_reason(error)}")
-    except KeyboardInterrupt:
-        _drop_output()
-        return INTERRUPTED
-    return FAILED
+    parser = _parser()
 
+    def work(arguments: argparse.Namespace) -> int:
+        if arguments.map == STANDARD and (arguments.json or _asked(arguments)):
+            parser.error("--map - takes standard output for itself")
+        if arguments.file == arguments.strata == STANDARD:
+            parser.error("one of FILE and LIMITS must be a file")
+        return _print(arguments)
 
-def _run(argv: Optional[List[str]]) -> int:
-    try:
-        arguments = _parser().parse_args(argv)
-    except SystemExit as stop:  # after --help, or a message on usage
-        return stop.code if isinstance(stop.code, int) else FAILED
-    image = _read(arguments.file)
-    try:
-        zone = Zone(image)
-    except ZoneError as error:
-        raise Failure(f"{_name(arguments.file)}: not a well-formed zone: "
-                      f"{error}") from None
-    lent = None if arguments.strata is None else _limits(arguments.strata)
-    if arguments.map is not None:
-        # Before the table, so that a reader who leaves early has the map.
-        _write_map(zone, arguments, lent)
-    for line in table.lines(zone, lent):
-        print(line)
-    return DONE
+    return command.run(parser, work, argv, FAILED)
 
 
 def _parser() -> argparse.ArgumentParser:
     parser = argparse.ArgumentParser(
-        prog="zone-print",
+        prog="zone-print", usage="zone-print [OPTIONS] FILE",
         description="Print the blocks and bays of a zone's image, its free "
                     "bytes and their scatter, and how many free blocks there "
                     "are of which size.",
         epilog="Exit status: 0 if the image is a well-formed zone and was "
-               "printed; 1 if not, with the broken rule and its offset on "
-               "standard error; 2 for wrong arguments.")
+               "printed; 1 if not: of a damaged image what stands before the "
+               "fault is printed, and the broken rule and its offset are told "
+               "on standard error; 2 for wrong arguments.")
     parser.add_argument("file", metavar="FILE",
                         help="the image, or - for standard input; bytes "
                              "beyond the zone's length are left alone")
     parser.add_argument("--map", metavar="SVG",
-                        help="also draw the zone into this file")
+                        help="also draw the zone into this file, whose folder "
+                             "is made if there is none; with - only draw it, "
+                             "on standard output")
     parser.add_argument("--strata", metavar="LIMITS",
                         help="count free blocks by the limits in this file: 76 "
                              "bytes, nineteen numbers of words, high byte "
                              "first; all strata are shown, without it those "
                              "of the formula that are not empty")
+    parser.add_argument("--json", action="store_true",
+                        help="print JSON, with all data in hexadecimal")
+    block = parser.add_mutually_exclusive_group()
+    for option, what in (("handle", "relocatable block of this handle"),
+                         ("pointer", "fixed block of this pointer"),
+                         ("name", "page of this name")):
+        block.add_argument(f"--{option}", metavar="N", type=command.number,
+                           help=f"print the {what} alone, byte by byte")
+    parser.add_argument("--version", action="version",
+                        version=f"%(prog)s {__version__}")
     return parser
 
 
-def _read(file: str) -> bytes:
-    """As many bytes of the image as any rule can touch."""
-    if file != "-":
-        return _read_file(file, LENGTH_LIMIT)
-    if sys.stdin is None:
-        raise Failure("standard input is closed")
+def _print(arguments: argparse.Namespace) -> int:
+    image = command.read(arguments.file)
     try:
-        return sys.stdin.buffer.read(LENGTH_LIMIT) or b""
-    except (OSError, ValueError) as error:
-        raise Failure(f"{_name(file)}: {_reason(error)}") from None
-
-
-def _read_file(file: str, most: int) -> bytes:
-    try:
-        with open(file, "rb") as stream:
-            return stream.read(most)
-    except (OSError, ValueError) as error:
-        raise Failure(f"{file}: {_reason(error)}") from None
+        zone = Zone(image)
+    except ZoneError as fault:
+        _print_part(ZonePart(image), fault, arguments)
+        raise Failure(f"{command.named(arguments.file)}: not a well-formed "
+                      f"zone: {fault}") from None
+    lent = None if arguments.strata is None else _limits(arguments.strata)
+    if arguments.map is not None:
+        # Before the table, so that a reader who leaves early has the map.
+        spared = [("image", arguments.file)]
+        if arguments.strata is not None:
+            spared.append(("limits", arguments.strata))
+        command.write(arguments.map,
+                      draw(zone, command.title(arguments.file), lent), *spared)
+    if arguments.map != STANDARD:
+        _print_zone(zone, lent, arguments)
+    return DONE
 
 
 def _limits(file: str) -> bytes:
     """A mill's limits as they are lent, within the rules."""
-    lent = _read_file(file, LENGTH_LIMIT)
+    lent = command.read(file)
     try:
-        limits.decode_limits(lent)
+        decode_limits(lent)
     except ZoneError as error:
-        raise Failure(f"{file}: not a mill's limits: {error}") from None
+        raise Failure(f"{command.named(file)}: not a mill's limits: "
+                      f"{error}") from None
     return lent
 
 
-def _write_map(zone: Zone, arguments: argparse.Namespace,
-               lent: Optional[bytes]) -> None:
-    file, target = arguments.file, arguments.map
-    read = {"image": None if file == "-" else file,
-            "limits": arguments.strata}
-    try:
-        for what, source in read.items():
-            if source is not None and os.path.exists(target) \
-                    and os.path.samefile(source, target):
-                raise Failure(f"{target}: the map would overwrite the {what}")
-        name = "" if file == "-" else os.path.basename(file)
-        with open(target, "w", encoding="utf-8", newline="\n") as stream:
-            stream.write(draw(zone, name, lent))
-    except (OSError, ValueError) as error:
-        raise Failure(f"{target}: {_reason(error)}") from None
+def _print_zone(zone: Zone, lent: Optional[bytes],
+                arguments: argparse.Namespace) -> None:
+    if _asked(arguments):
+        try:
+            _print_block(zone, _block(zone, arguments), None, arguments.json)
+        except ZoneError as error:
+            raise Failure(f"{command.named(arguments.file)}: {error.detail}") \
+                from None
+    elif arguments.json:
+        print(as_json.zone_text(zone, lent or b""), end="")
+    else:
+        for line in table.lines(zone, lent):
+            print(line)
 
 
-def _name(file: str) -> str:
-    return "standard input" if file == "-" else file
+def _print_part(read: ZonePart, fault: ZoneError,
+                arguments: argparse.Namespace) -> None:
+    """What can be printed of a damaged image; no map is drawn of it."""
+    if _asked(arguments):
+        try:
+            _print_block(read, _block(read, arguments), fault, arguments.json)
+        except ZoneError as error:
+            raise Failure(f"{command.named(arguments.file)}: {error.detail} "
+                          f"before the fault; not a well-formed zone: "
+                          f"{fault}") from None
+    elif arguments.json:
+        print(as_json.part_text(read, fault), end="")
+    elif arguments.map != STANDARD:
+        for line in part.lines(read):
+            print(line)
 
 
-def _reason(error: Exception) -> str:
-    return getattr(error, "strerror", None) or str(error)
+def _asked(arguments: argparse.Namespace) -> bool:
+    """Whether one block is asked for."""
+    return any(number is not None for number in
+               (arguments.handle, arguments.pointer, arguments.name))
 
 
-def _complain(message: str) -> None:
-    if sys.stderr is None:  # closed: the exit status alone must do
-        return
-    try:
-        print(f"zone-print: {message}", file=sys.stderr, flush=True)
-    except OSError:
-        pass
+def _block(content: Content, arguments: argparse.Namespace) -> Block:
+    if arguments.handle is not None:
+        return content.by_handle(arguments.handle)
+    if arguments.pointer is not None:
+        return content.by_pointer(arguments.pointer)
+    return content.by_name(arguments.name)
 
 
-def _drop_output() -> None:
-    """Keep the interpreter from flushing to a lost output at its end."""
-    if sys.stdout is None:
-        return
-    try:
-        nowhere = os.open(os.devnull, os.O_WRONLY)
-        os.dup2(nowhere, sys.stdout.fileno())
-        os.close(nowhere)
-    except (OSError, ValueError):
-        pass
+def _print_block(content: Content, block: Block, fault: Optional[ZoneError],
+                 in_json: bool) -> None:
+    if in_json:
+        print(as_json.block_text(content, block, fault), end="")
+    else:
+        for line in dump.block_lines(content, block):
+            print(line)

@@ -25,7 +25,7 @@ def draw(zone: Zone, name: str = "", limits: Optional[Image] = None) -> str:
     drawing = Drawing(WIDTH)
     y = 34.0
     title = f"Zone of {zone.length:,} bytes"
-    drawing.text(LEFT, y, title + (f" \u2014 {_plain(name)}" if name else ""),
+    drawing.text(LEFT, y, title + (f" \u2014 {plain(name)}" if name else ""),
                  18, bold=True)
     for line in _facts(zone):
         y += 19
@@ -63,6 +63,6 @@ def _page_words(zone: Zone) -> str:
     return f"{len(pages):,} pages ({dirty:,} dirty, {locked:,} locked), "
 
 
-def _plain(name: str) -> str:
+def plain(name: str) -> str:
     """A file's name may hold what no SVG may."""
     return "".join(c if c.isprintable() else "?" for c in name)

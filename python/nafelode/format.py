@@ -4,6 +4,7 @@ They are document 01's; pages and the clock are document 02's (U5), which calls
 a page a named block, and a fixed block's header of 4 bytes is, too (U6).
 """
 
+import operator
 from enum import IntEnum
 from typing import NamedTuple, Optional
 
@@ -124,7 +125,29 @@ class Block(NamedTuple):
         """A page's name."""
         return None if self.page is None else self.page.name
 
+    @property
+    def target(self) -> str:
+        """Its handle, pointer or name, in words; a free block has none."""
+        for what, key in (("handle", self.handle),
+                              ("pointer", self.pointer), ("name", self.name)):
+            if key is not None:
+                return f"{what} {key}"
+        return "-"
+
 
 def number(data: bytes, at: int, width: int) -> int:
     """The number of `width` bytes at offset `at`, high byte first."""
     return int.from_bytes(data[at:at + width], "big")
+
+
+def whole(value: object, what: str) -> int:
+    """The whole number that a caller gives.
+
+    Another type is the caller's mistake and a TypeError, which says why;
+    ZoneError is for bytes.
+    """
+    try:
+        return operator.index(value)  # type: ignore[arg-type]
+    except TypeError:
+        raise TypeError(f"{what} is a whole number, and {value!r} is of type "
+                        f"{type(value).__name__}") from None

@@ -16,6 +16,7 @@ FREE = "#f6c12f"
 BAY = "#5c6f7b"
 INK = "#22303a"
 FAINT = "#73838d"
+CHANGED = "#e8590c"  # bytes that are others than in an earlier zone
 APART = "url(#apart)"  # free bytes outside their bay's largest free block
 
 OF_TYPE = {
@@ -68,26 +69,28 @@ _PAGE_WORDS = ("the number of a page is its name; n: the same; its age counts "
 LINE = 20
 
 
-def legend(drawing: Drawing, x: float, y: float, pages: bool) -> float:
+def legend(drawing: Drawing, x: float, y: float, pages: bool,
+           bays: bool = True) -> float:
     """Swatches with their names, baseline at y, and a line of words.
 
     Answers the baseline of the last line.
     """
-    right = _swatches(drawing, x, y, [(fill, "", words)
-                                      for fill, words in _ENTRIES])
-    _bracket(drawing, right, y)
-    drawing.text(right + 30, y, "bay (a tick alone: an empty one)", 12)
+    right = swatches(drawing, x, y, [(fill, "", words)
+                                     for fill, words in _ENTRIES])
+    if bays:
+        _bracket(drawing, right, y)
+        drawing.text(right + 30, y, "bay (a tick alone: an empty one)", 12)
     if pages:
         y += LINE
-        right = _swatches(drawing, x, y, _PAGE_ENTRIES)
+        right = swatches(drawing, x, y, _PAGE_ENTRIES)
         drawing.text(right, y, _PAGE_WORDS, 11, FAINT)
     y += 18
     drawing.text(x, y, _WORDS, 11, FAINT)
     return y
 
 
-def _swatches(drawing: Drawing, x: float, y: float,
-              entries: Iterable[Tuple[str, str, str]]) -> float:
+def swatches(drawing: Drawing, x: float, y: float,
+             entries: Iterable[Tuple[str, str, str]]) -> float:
     """Fill, attributes and words of each; answers where they end."""
     for fill, extra, words in entries:
         drawing.rect(x, y - 10, 14, 12, fill, extra=extra)

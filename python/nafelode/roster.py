@@ -3,7 +3,7 @@
 from typing import List, NamedTuple, Optional, Tuple
 
 from .check import Image
-from .format import number
+from .format import number, whole
 from .rules import ROSTER_ORDER, ROSTER_RECORD, ZoneError
 
 RECORD_LENGTH = 8
@@ -26,9 +26,9 @@ def decode_roster(image: Image,
     data = memoryview(image).tobytes()
     if count is None:
         count = -(-len(data) // RECORD_LENGTH)
+    count = whole(count, "a count")
     if not 0 <= RECORD_LENGTH * count <= len(data):
-        whole = len(data) // RECORD_LENGTH
-        raise ZoneError(ROSTER_RECORD, RECORD_LENGTH * whole,
+        raise ZoneError(ROSTER_RECORD, len(data) - len(data) % RECORD_LENGTH,
                         f"{len(data)} bytes do not hold {count} records")
     records: List[Record] = []
     for at in range(0, RECORD_LENGTH * count, RECORD_LENGTH):

@@ -1,6 +1,6 @@
 """A few SVG elements as text."""
 
-from typing import List, Optional, Sequence
+from typing import List, Optional, Sequence, Tuple
 from xml.sax.saxutils import escape, quoteattr
 
 # A rough width of one sans-serif character, in parts of the font size.
@@ -41,6 +41,15 @@ class Drawing:
             self.add(head + "/>")
         else:
             self.add(f"{head}><title>{escape(tip)}</title></rect>")
+
+    def polygon(self, points: Sequence[Tuple[float, float]], fill: str,
+                tip: Optional[str] = None, extra: str = "") -> None:
+        places = " ".join(f"{_n(x)},{_n(y)}" for x, y in points)
+        head = f'<polygon points="{places}" fill={quoteattr(fill)}{extra}'
+        if tip is None:
+            self.add(head + "/>")
+        else:
+            self.add(f"{head}><title>{escape(tip)}</title></polygon>")
 
     def line(self, x1: float, y1: float, x2: float, y2: float,
              stroke: str, width: float = 1) -> None:

@@ -11,6 +11,7 @@ from typing import (
 )
 
 from .check import Image
+from .content import Content
 from .format import Block, BlockType
 from .zone import Zone
 
@@ -27,9 +28,10 @@ def lines(zone: Zone, limits: Optional[Image] = None) -> Iterator[str]:
 
     `limits` are a mill's own, which the census then goes by.
     """
-    yield from _header_lines(zone)
+    yield header_line(zone)
+    yield from _master_lines(zone)
     yield ""
-    yield from _block_lines(zone)
+    yield from block_lines(zone, "blocks")
     yield ""
     yield from _bay_lines(zone)
     yield ""
@@ -38,9 +40,12 @@ def lines(zone: Zone, limits: Optional[Image] = None) -> Iterator[str]:
     yield from _census_lines(zone, limits)
 
 
-def _header_lines(zone: Zone) -> Iterator[str]:
-    yield (f"zone: L {zone.length}, bkFst {zone.bk_fst}, m {zone.m}, "
-           f"hFstFree {zone.h_fst_free}, clock {zone.clock}")
+def header_line(zone: Content) -> str:
+    return (f"zone: L {zone.length}, bkFst {zone.bk_fst}, m {zone.m}, "
+            f"hFstFree {zone.h_fst_free}, clock {zone.clock}")
+
+
+def _master_lines(zone: Zone) -> Iterator[str]:
     yield (f"masters: {zone.live_handles} live, {len(zone.chain)} in the "
            f"chain{_chain_words(zone.chain)}")
 
@@ -52,15 +57,15 @@ def _chain_words(chain: Sequence[int], shown: int = 8) -> str:
     return f" ({words}{' ...' if len(chain) > shown else ''})"
 
 
-def _block_lines(zone: Zone) -> Iterator[str]:
+def block_lines(zone: Content, title: str) -> Iterator[str]:
     counts = ", ".join(f"{zone.count(kind)} {words}"
                        for kind, words in _KINDS)
-    yield f"blocks: {len(zone.blocks)} ({counts})"
+    yield f"{title}: {len(zone.blocks)} ({counts})"
     if zone.blocks:
         columns = _columns(zone)
         rows = ([column.cell(block) for column in columns]
                 for block in zone.blocks)
-        yield from _table([column.head for column in columns], rows,
+        yield from table([column.head for column in columns], rows,
                           left=(i for i, column in enumerate(columns)
                                 if column.left))
 
@@ -75,28 +80,19 @@ class _Column(NamedTuple):
     left: bool = False  # flush left
 
 
-def _columns(zone: Zone) -> List[_Column]:
+def _columns(zone: Content) -> List[_Column]:
     """Ages and flags have columns only where there are pages."""
     columns = [_Column("offset", lambda block: str(block.offset)),
                _Column("type", lambda block: block.type.name.lower(), True),
                _Column("size", lambda block: str(block.size)),
-               _Column("handle, pointer or name", _target, True)]
+               _Column("handle, pointer or name",
+                       lambda block: block.target, True)]
     if zone.pages:
         columns += [_Column("age", _age), _Column("flags", _flags, True)]
     return columns + [
         _Column("data size", _data_size),
         _Column("first data bytes",
                 lambda block: _first_bytes(zone, block), True)]
-
-
-def _target(block: Block) -> str:
-    if block.handle is not None:
-        return f"handle {block.handle}"
-    if block.pointer is not None:
-        return f"pointer {block.pointer}"
-    if block.name is not None:
-        return f"name {block.name}"
-    return "-"
 
 
 def _age(block: Block) -> str:
@@ -111,7 +107,7 @@ def _data_size(block: Block) -> str:
     return "-" if block.type is BlockType.FREE else str(block.data_size)
 
 
-def _first_bytes(zone: Zone, block: Block) -> str:
+def _first_bytes(zone: Content, block: Block) -> str:
     shown = min(block.data_size, FIRST_BYTES)
     if shown == 0:
         return "-"
@@ -126,7 +122,7 @@ def _bay_lines(zone: Zone) -> Iterator[str]:
     rows = ([str(index), str(bay.start), str(bay.end), str(bay.capacity),
              str(bay.sum), str(bay.pieces), str(bay.largest), str(bay.apart)]
             for index, bay in enumerate(zone.bays))
-    yield from _table(["bay", "start", "end", "capacity", "sum", "free blocks",
+    yield from table(["bay", "start", "end", "capacity", "sum", "free blocks",
                        "largest", "scatter"], rows, left=set())
 
 
@@ -153,7 +149,7 @@ def _census_lines(zone: Zone, limits: Optional[Image]) -> Iterator[str]:
     rows = ([str(s.least), "-" if s.most is None else str(s.most),
              str(s.count), "#" * _up(s.count, blocks_a_mark)]
             for s in strata)
-    yield from _table(["from", "to", "free blocks", ""], rows, left={3})
+    yield from table(["from", "to", "free blocks", ""], rows, left={3})
 
 
 def _up(number: int, parts: int) -> int:
@@ -161,7 +157,7 @@ def _up(number: int, parts: int) -> int:
     return -(-number // parts)
 
 
-def _table(heads: List[str], rows: Iterable[List[str]],
+def table(heads: List[str], rows: Iterable[List[str]],
            left: Iterable[int]) -> Iterator[str]:
     """Rows in columns, flush right but for the columns in `left`."""
     cells = [heads, *rows]

@@ -15,7 +15,7 @@ import support  # noqa: F401  finds the package
 import nafelode
 
 HANDLE, POINTER, NAME = 0, 1, 2
-KINDS = {HANDLE: "handle", POINTER: "pointer", NAME: "name"}
+WORDS = {HANDLE: "handle", POINTER: "pointer", NAME: "name"}
 STRATA = 19
 
 
@@ -28,7 +28,7 @@ _Sums = _struct("Sums", ("number", c_uint32), ("total", c_uint32),
                 ("largest", c_uint32))
 _Checked = _struct("Checked", ("yes", c_uint32), ("count", c_uint32))
 _Part = _struct("Part", ("offset", c_uint32), ("length", c_uint32))
-_Step = _struct("Step", ("number", c_uint32), ("kind", c_uint32),
+_Step = _struct("Step", ("number", c_uint32), ("block_type", c_uint32),
                 ("offset", c_uint32), ("size", c_uint32))
 _Counts = _struct("Counts", ("number", c_uint32),
                   ("counts", c_uint32 * STRATA))
@@ -72,18 +72,18 @@ class Library:
         given = [c_uint32(a) if isinstance(a, int) else a for a in arguments]
         return function(self._zone, c_size_t(self._length), *given)
 
-    def read(self, kind: int, block: int, offset: int,
+    def read(self, by: int, block: int, offset: int,
              count: int) -> Tuple[int, bytes]:
         """Refusal number and bytes; the second buffer is long enough."""
         room = min(count, self._length)
         second = ctypes.create_string_buffer(room + 1)
-        number = self.call("read", kind, block, offset, count, second,
+        number = self.call("read", by, block, offset, count, second,
                            c_size_t(room))
         return number, second.raw[:room]
 
-    def write(self, kind: int, block: int, offset: int, count: int,
+    def write(self, by: int, block: int, offset: int, count: int,
               data: bytes) -> int:
-        return self.call("write", kind, block, offset, count, data,
+        return self.call("write", by, block, offset, count, data,
                          c_size_t(len(data)))
 
     def roster(self, lent: bytes) -> Tuple[int, int, bytes]:
@@ -107,7 +107,7 @@ class Library:
             step = self.call("walker_step", ctypes.byref(walker))
             if step.size == 0:
                 return
-            yield step.kind, step.offset, step.size
+            yield step.block_type, step.offset, step.size
 
 
 def differences(library: Library, image: bytes,
@@ -149,29 +149,29 @@ def _same_blocks(library, zone, same) -> None:
                 for pointer in zone.pointers]
     targets += [(NAME, name, zone.by_name(name), zone.read_name)
                 for name in zone.names]
-    for kind, number, block, read in targets:
-        _same_block(library, same, kind, number, block, read)
+    for by, number, block, read in targets:
+        _same_block(library, same, by, number, block, read)
     _same_refusals(library, zone, same)
 
 
-def _same_block(library, same, kind, number, block, read) -> None:
-    what, data = (KINDS[kind], number), read(number)
-    size = library.call("size", kind, number)
+def _same_block(library, same, by, number, block, read) -> None:
+    what, data = (WORDS[by], number), read(number)
+    size = library.call("size", by, number)
     same(f"size of {what}", (0, block.data_size), (size.number, size.value))
     same(f"bytes of {what}", (0, data),
-         library.read(kind, number, 0, len(data)))
-    view = library.call("view", kind, number, 0, len(data))
+         library.read(by, number, 0, len(data)))
+    view = library.call("view", by, number, 0, len(data))
     same(f"place of {what}", (block.data_offset, len(data)),
          (view.offset, view.length))
     half = len(data) // 2
     same(f"second half of {what}", (0, read(number, half)),
-         library.read(kind, number, half, len(data) - half))
+         library.read(by, number, half, len(data) - half))
     same(f"past the end of {what}", _refused(read, number, half, len(data)),
-         library.call("view", kind, number, half, len(data)).length == 0
-         and library.read(kind, number, half, len(data))[0] == 8)
+         library.call("view", by, number, half, len(data)).length == 0
+         and library.read(by, number, half, len(data))[0] == 8)
     # offset + count is not wrapped
     same(f"far past the end of {what}", _refused(read, number, 2**32 - 1, 1),
-         library.read(kind, number, 2**32 - 1, 1)[0] == 8)
+         library.read(by, number, 2**32 - 1, 1)[0] == 8)
 
 
 def _same_refusals(library, zone, same) -> None:

@@ -1,4 +1,4 @@
-"""Finds the package and the command from wherever the tests are run."""
+"""Finds the package and the commands from wherever the tests are run."""
 
 import os
 import sys
@@ -6,6 +6,7 @@ import sys
 PYTHON = os.path.dirname(os.path.dirname(os.path.abspath(__file__)))
 ROOT = os.path.dirname(PYTHON)
 COMMAND = os.path.join(ROOT, "zone-print")
+DIFF = os.path.join(ROOT, "zone-diff")
 EXAMPLES = os.path.join(ROOT, "examples")
 
 if PYTHON not in sys.path:

@@ -3,41 +3,17 @@
 import os
 import subprocess
 import sys
-import tempfile
 import unittest
 import xml.etree.ElementTree as tree
-from typing import Optional
 
 import builder
 import support
+from nafelode import Zone
+from nafelode.draw import draw
+from trial import Trial
 
 
-class Command(unittest.TestCase):
-    def setUp(self) -> None:
-        holder = tempfile.TemporaryDirectory()
-        self.addCleanup(holder.cleanup)
-        self.place = holder.name
-
-    def file(self, name: str, data: bytes) -> str:
-        path = os.path.join(self.place, name)
-        with open(path, "wb") as stream:
-            stream.write(data)
-        return path
-
-    def run_it(self, *arguments: str, data: Optional[bytes] = None):
-        return subprocess.run([sys.executable, support.COMMAND, *arguments],
-                              input=data, stdout=subprocess.PIPE,
-                              stderr=subprocess.PIPE, timeout=60)
-
-    def fails(self, done, *words: str, status: int = 1) -> None:
-        message = done.stderr.decode()
-        self.assertEqual(done.returncode, status, message)
-        self.assertEqual(done.stdout, b"")
-        self.assertNotIn("Traceback", message)
-        self.assertEqual(message.count("\n"), 1 if status == 1 else 2)
-        for word in words:
-            self.assertIn(word, message)
-
+class Command(Trial):
     def test_table(self) -> None:
         plan = builder.Plan(4, (builder.relocatable(20, b"recipe01"),
                                 builder.free(8), builder.fixed(b"edge"),
@@ -152,8 +128,8 @@ class Command(unittest.TestCase):
         self.fails(self.run_it(path, "--strata", svg), svg)
         # the image is told first, as 1 comes before 14
         bad = self.file("bad.bin", support.R1[:63])
-        self.fails(self.run_it(bad, "--strata", mill), bad,
-                   "not a well-formed zone")
+        self.complains(self.run_it(bad, "--strata", mill), bad,
+                       "not a well-formed zone")
 
     def test_map_spares_the_limits(self) -> None:
         lent = builder.limits_bytes(self.MILL)
@@ -197,32 +173,32 @@ class Command(unittest.TestCase):
         self.assertIn(b"bays: 1", done.stdout)
         self.assertTrue(tree.parse(svg).getroot().tag.endswith("svg"))
 
-    def test_damaged_image(self) -> None:
-        image = bytearray(support.R1)
-        image[40] = 1
-        path = self.file("bad.bin", image)
-        svg = os.path.join(self.place, "map.svg")
-        self.fails(self.run_it(path, "--map", svg), path, "offset 40",
-                   "the zeros of free blocks as above")
-        self.assertFalse(os.path.exists(svg))
-        self.fails(self.run_it("-", data=b""), "standard input", "offset 0",
-                   "the buffer has at least 16 bytes")
-
-    def test_older_image(self) -> None:
-        image = builder.Plan(0, (builder.fixed(b"edge"),), ()).image()
-        image[18:24] = b"splice"
-        path = self.file("older.bin", image)
-        self.fails(self.run_it(path), path, "offset 18", "older image",
-                   "a fixed block's header becomes 4 bytes")
-
     def test_no_such_image(self) -> None:
         self.fails(self.run_it(os.path.join(self.place, "none")), "none")
         self.fails(self.run_it(self.place), self.place)
 
     def test_map_that_cannot_be_written(self) -> None:
         path = self.file("zone.bin", support.R1)
-        for target in (self.place, os.path.join(self.place, "no", "map.svg")):
+        # A folder, and one that cannot be made: a file is in its place.
+        for target in (self.place, os.path.join(path, "map.svg")):
             self.fails(self.run_it(path, "--map", target), target)
+
+    def test_map_makes_its_folder(self) -> None:
+        svg = os.path.join("new", "folder", "map.svg")
+        self.prints(self.run_it(self.file("zone.bin", support.R1), "--map",
+                                svg))
+        tree.parse(os.path.join(self.place, svg))
+
+    def test_map_on_standard_output(self) -> None:
+        path = self.file("zone.bin", support.R1)
+        done = self.run_it(path, "--map", "-")
+        self.assertEqual((done.returncode, done.stderr), (0, b""))
+        self.assertEqual(done.stdout.decode(), draw(Zone(support.R1),
+                                                    "zone.bin"))
+        self.assertEqual(os.listdir(self.place), ["zone.bin"])
+        for other in ("--json", "--handle=16"):
+            self.fails(self.run_it(path, "--map", "-", other), "--map -",
+                       status=2, lines=2)
 
     def test_map_spares_the_image(self) -> None:
         path = self.file("zone.bin", support.R1)
@@ -231,19 +207,16 @@ class Command(unittest.TestCase):
             self.assertEqual(stream.read(), support.R1)
 
     def test_wrong_arguments(self) -> None:
-        self.fails(self.run_it(), "usage", status=2)
-        self.fails(self.run_it("--mop", "a", "b"), "usage", status=2)
+        for arguments in ((), ("--mop", "a", "b"), ("a", "b"),
+                          ("a", "--handle", "x"), ("-", "--strata", "-"),
+                          ("a", "--handle", "16", "--name", "7")):
+            self.fails(self.run_it(*arguments), "usage", status=2, lines=2)
 
     def test_broken_pipe(self) -> None:
         parts = (builder.free(4), builder.fixed(b"")) * 3000
         path = self.file("long.bin", builder.Plan(0, parts, ()).image())
         for argument in (path, "--help"):
-            read_end, write_end = os.pipe()
-            os.close(read_end)
-            done = subprocess.run([sys.executable, support.COMMAND, argument],
-                                  stdout=write_end, stderr=subprocess.PIPE,
-                                  timeout=60)
-            os.close(write_end)
+            done = self.without_output(argument)
             self.assertEqual(done.stderr, b"")
             # Unbuffered, argparse itself passes over the lost help.
             allowed = (1,) if argument == path else (0, 1)
@@ -252,12 +225,8 @@ class Command(unittest.TestCase):
     @unittest.skipUnless(os.path.exists("/dev/full"), "no /dev/full")
     def test_full_output(self) -> None:
         path = self.file("zone.bin", support.R1)
-        with open("/dev/full", "wb") as full:
-            done = subprocess.run([sys.executable, support.COMMAND, path],
-                                  stdout=full, stderr=subprocess.PIPE,
-                                  timeout=60)
-        self.assertEqual(done.returncode, 1)
-        self.assertEqual(done.stderr.count(b"\n"), 1)
+        done = self.with_full_output(path)
+        self.complains(done, "standard output")
 
 
 if __name__ == "__main__":

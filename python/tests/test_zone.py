@@ -6,7 +6,15 @@ import unittest
 
 import builder
 import support
-from nafelode import BlockType, Zone, ZoneError, check, decode_roster, read
+from nafelode import (
+    BlockType,
+    Zone,
+    ZoneError,
+    ZonePart,
+    check,
+    decode_roster,
+    read,
+)
 
 
 def r2() -> bytearray:
@@ -343,6 +351,59 @@ class Questions(unittest.TestCase):
         for stretch in ((0, 5), (5, 0), (5,), (2**32 - 1, 1), (-1, 1),
                         (1, -1)):
             self.refused(past, zone.read_handle, 20, *stretch)
+
+
+class WrongTypes(unittest.TestCase):
+    """What a caller gives wrongly is a TypeError, which says why."""
+
+    def setUp(self) -> None:
+        self.zone = Zone(builder.cache_and_dropped()[0].image())
+
+    def refused(self, what: str, call, *arguments) -> None:
+        with self.assertRaises(TypeError) as caught:
+            call(*arguments)
+        for word in (what, "whole number",
+                     type(arguments[-1]).__name__, repr(arguments[-1])):
+            self.assertIn(word, str(caught.exception))
+
+    def test_blocks(self) -> None:
+        zone = self.zone
+        for what, calls in (("handle", (zone.by_handle, zone.read_handle)),
+                            ("pointer", (zone.by_pointer, zone.read_pointer)),
+                            ("name", (zone.by_name, zone.read_name))):
+            for call in calls:
+                for value in ("16", b"16", 16.0, None, (16,)):
+                    self.refused(what, call, value)
+
+    def test_stretches(self) -> None:
+        self.refused("offset", self.zone.read_handle, 16, "0")
+        self.refused("offset", self.zone.read_handle, 16, None)
+        self.refused("count", self.zone.read_handle, 16, 0, "2")
+        self.refused("count", self.zone.read_block, self.zone.blocks[0], 0,
+                     2.0)
+
+    def test_rosters(self) -> None:
+        self.refused("count", decode_roster, bytes(8), "1")
+
+    def test_images(self) -> None:
+        for image in ("zone", 7, None, ["zone"]):
+            for call in (Zone, read, check, ZonePart, decode_roster):
+                with self.assertRaises(TypeError) as caught:
+                    call(image)
+                self.assertIn(type(image).__name__, str(caught.exception))
+
+    def test_numbers_of_other_types(self) -> None:
+        class Number:
+            def __index__(self) -> int:
+                return 16
+
+        self.assertEqual(self.zone.read_handle(Number()), b"PROFILE 01..")
+
+    def test_errors_can_be_printed(self) -> None:
+        for handle in (20, -4, 2**40):
+            with self.assertRaises(ZoneError) as caught:
+                self.zone.read_handle(handle)
+            self.assertIn(f"{handle} is no live handle", str(caught.exception))
 
 
 class Roster(unittest.TestCase):

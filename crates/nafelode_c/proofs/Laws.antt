@@ -24,14 +24,14 @@ use Rattle.stretch.proofs.Outcomes.{view-there}
 use Rattle.nafelode.proofs.Laws.{view-promised}
 use Rattle.nafelode_c.specs.Named.{named}
 
-pub named-handle : (kind n : ℕ) → kind ≡ 0 → by-handle n ≡ named kind n
-named-handle kind n e = rw e
+pub named-handle : (by n : ℕ) → by ≡ 0 → by-handle n ≡ named by n
+named-handle by n e = rw e
 
-pub named-name : (kind n : ℕ) → kind ≡ 2 → by-name n ≡ named kind n
-named-name kind n e = rw e
+pub named-name : (by n : ℕ) → by ≡ 2 → by-name n ≡ named by n
+named-name by n e = rw e
 
-pub named-pointer : (kind n : ℕ) → (kind ≡ 0 → ⊥) → (kind ≡ 2 → ⊥) → by-pointer n ≡ named kind n
-named-pointer kind n e f = rw (ne-eqb kind 0 e) (rw (ne-eqb kind 2 f))
+pub named-pointer : (by n : ℕ) → (by ≡ 0 → ⊥) → (by ≡ 2 → ⊥) → by-pointer n ≡ named by n
+named-pointer by n e f = rw (ne-eqb by 0 e) (rw (ne-eqb by 2 f))
 
 module _ (t u : Target) (e : t ≡ u) (s : List ℕ) (a : Answer) where
   pub size-named : Promise (size t) s a s → Promise (size u) s a s

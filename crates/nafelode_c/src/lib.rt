@@ -46,11 +46,12 @@ pub struct Part {
     pub length: u32,
 }
 
-// The refusal number, and a block's type (0 free, 1 fixed, 2 relocatable, 3 page), offset and size; 0 for each where no block starts.
+// The refusal number, and a block's type (NAFELODE_TYPE_FREE, .. NAFELODE_TYPE_PAGE), offset and size; 0 for each where no block starts: there the
+// size alone tells, since a free block's type is 0, too.
 #[repr(C)]
 pub struct Step {
     pub number: u32,
-    pub kind: u32,
+    pub block_type: u32,
     pub offset: u32,
     pub size: u32,
 }
@@ -62,14 +63,14 @@ pub struct CensusCounts {
     pub counts: [u32; 19],
 }
 
-// The block that a kind and a number name.
-fn block_of(kind: u32, block: u32) -> Target
-    ensures { λ r. ⌜ targetOf r ≡ named kind block ⌝ }
+// The block that a number names, as a handle, a page's name or a pointer.
+fn block_of(by: u32, block: u32) -> Target
+    ensures { λ r. ⌜ targetOf r ≡ named by block ⌝ }
 {
-    if kind == 0 {
+    if by == 0 {
         return Target::Handle(block);
     }
-    if kind == 2 {
+    if by == 2 {
         return Target::Name(block);
     }
     Target::Pointer(block)
@@ -77,7 +78,8 @@ fn block_of(kind: u32, block: u32) -> Target
 
 // Makes a zone of `length` bytes with so many masters at the start of the buffer; bytes beyond `length` stay.
 // Value: 0.
-// Refused: 2 where length is no multiple of 4, below 16 + 4 * masters, above the buffer's length or above 1048576, or masters is above 8188.
+// Refused: 2 where length is no multiple of 4, below NAFELODE_ZONE_HEADER + NAFELODE_MASTER_SIZE * masters, above the buffer's length
+// or above NAFELODE_LONGEST_ZONE, or masters is above NAFELODE_MOST_MASTERS.
 #[no_mangle]
 pub extern "C" fn nafelode_initialize(zone: &mut [u8], length: u32, masters: u32) -> Told
     ensures { λ r. ⌜ InitPromise length masters (now (zone .entry)) (told (r .number) (r .value)) (now (zone .exit)) ⌝ }
@@ -91,10 +93,11 @@ pub extern "C" fn nafelode_initialize(zone: &mut [u8], length: u32, masters: u32
 
 // Allocates a relocatable block for c data bytes, which are zero. The block may slide; its handle stays.
 // Takes the smallest free block of its bay that is big enough, the lowest of equals; for that, the blocks of that bay slide only where none is.
-// Where no master is free, eight are added first: the first bay gives up 32 bytes at its start, and its blocks stand right behind those without gaps.
+// Where no master is free, NAFELODE_ADDED_MASTERS are added first: the first bay gives up NAFELODE_ADDED_BYTES bytes at its start, and its blocks stand
+// right behind those without gaps.
 // Value: the handle.
-// Refused: 1 zone not well-formed, 3 c above 32760, 4 no master free, and m + 8 above 8188 or less than 32 bytes free in the first bay, 5 no space (after
-// those 32 bytes are taken, where masters would be added).
+// Refused: 1 zone not well-formed, 3 c above NAFELODE_LARGEST_RELOCATABLE, 4 no master free, and none can be added: there would be more than
+// NAFELODE_MOST_MASTERS, or the first bay has less than those bytes free, 5 no space (after those bytes are taken, where masters would be added).
 #[no_mangle]
 pub extern "C" fn nafelode_allocate_relocatable(zone: &mut [u8], c: u32) -> Told
     ensures { λ r. ⌜ Promise (allocate-relocatable c) (now (zone .entry)) (told (r .number) (r .value)) (now (zone .exit)) ⌝ }
@@ -109,7 +112,7 @@ pub extern "C" fn nafelode_allocate_relocatable(zone: &mut [u8], c: u32) -> Told
 // Allocates a fixed block for c data bytes, which are zero. It never moves until it is freed.
 // Value: the pointer, which is the offset of its first data byte from the zone's first byte, a multiple of 4. Of a block without data it is the
 // block's end, which may be L.
-// Refused: 1 zone not well-formed, 3 c above 32760, 5 no space.
+// Refused: 1 zone not well-formed, 3 c above NAFELODE_LARGEST_FIXED, 5 no space.
 #[no_mangle]
 pub extern "C" fn nafelode_allocate_fixed(zone: &mut [u8], c: u32) -> Told
     ensures { λ r. ⌜ Promise (allocate-fixed c) (now (zone .entry)) (told (r .number) (r .value)) (now (zone .exit)) ⌝ }
@@ -152,7 +155,7 @@ pub extern "C" fn nafelode_free_pointer(zone: &mut [u8], pointer: u32) -> Told
 // Gives the block of a handle room for c data bytes. The handle and the common first bytes stay, added bytes are zero.
 // Where it moves to another bay, it takes its place there as a new block does.
 // Value: 0.
-// Refused: 1 zone not well-formed, 6 handle not live, 3 c above 32760, 5 no space.
+// Refused: 1 zone not well-formed, 6 handle not live, 3 c above NAFELODE_LARGEST_RELOCATABLE, 5 no space.
 #[no_mangle]
 pub extern "C" fn nafelode_resize(zone: &mut [u8], handle: u32, c: u32) -> Told
     ensures { λ r. ⌜ Promise (resize handle c) (now (zone .entry)) (told (r .number) (r .value)) (now (zone .exit)) ⌝ }
@@ -164,14 +167,15 @@ pub extern "C" fn nafelode_resize(zone: &mut [u8], handle: u32, c: u32) -> Told
     }
 }
 
-// The data size of a block, which may exceed what was asked for. kind 0: block is a handle; 2: a page's name; any other kind: a pointer.
+// The data size of a block, which may exceed what was asked for.
+// `by` is NAFELODE_HANDLE where block is a handle, NAFELODE_NAME where it is a page's name; NAFELODE_POINTER, or any other number, where it is a pointer.
 // Value: the data size in bytes.
 // Refused: 1 zone not well-formed, 6 handle not live, 13 no page has this name, 7 pointer not that of a fixed block.
 #[no_mangle]
-pub extern "C" fn nafelode_size(zone: &[u8], kind: u32, block: u32) -> Told
-    ensures { λ r. ⌜ Promise (size (named kind block)) (now (zone .entry)) (told (r .number) (r .value)) (now (zone .entry)) ⌝ }
+pub extern "C" fn nafelode_size(zone: &[u8], by: u32, block: u32) -> Told
+    ensures { λ r. ⌜ Promise (size (named by block)) (now (zone .entry)) (told (r .number) (r .value)) (now (zone .entry)) ⌝ }
 {
-    let b = block_of(kind, block);
+    let b = block_of(by, block);
     let t = nafelode::size(zone, b);
     Told {
         number: t.number,
@@ -179,23 +183,23 @@ pub extern "C" fn nafelode_size(zone: &[u8], kind: u32, block: u32) -> Told
     }
 }
 
-// Copies count bytes of a block from an offset on to the start of out; later bytes of out stay. kind 0: block is a handle; 2: a page's
-// name; any other kind: a pointer.
+// Copies count bytes of a block from an offset on to the start of out; later bytes of out stay.
+// `by` is NAFELODE_HANDLE where block is a handle, NAFELODE_NAME where it is a page's name; NAFELODE_POINTER, or any other number, where it is a pointer.
 // Answers the refusal number, 0 if done.
 // Refused: 1 zone not well-formed, 6 handle not live, 13 no page has this name, 7 pointer not that of a fixed block, 8 offset + count
 // above the data size, 10 out shorter than count.
 #[no_mangle]
 pub extern "C" fn nafelode_read(
     zone: &[u8],
-    kind: u32,
+    by: u32,
     block: u32,
     offset: u32,
     count: u32,
     out: &mut [u8],
 ) -> u32
-    ensures { λ r. ⌜ Promise (read (named kind block) offset count (now (out .entry))) (now (zone .entry)) (shows r (now (out .exit))) (now (zone .entry)) ⌝ }
+    ensures { λ r. ⌜ Promise (read (named by block) offset count (now (out .entry))) (now (zone .entry)) (shows r (now (out .exit))) (now (zone .entry)) ⌝ }
 {
-    let b = block_of(kind, block);
+    let b = block_of(by, block);
     nafelode::read(
         zone,
         Stretch {
@@ -207,7 +211,8 @@ pub extern "C" fn nafelode_read(
     )
 }
 
-// Copies count bytes from the start of src to a block, from an offset on. kind 0: block is a handle; 2: a page's name; any other kind: a pointer.
+// Copies count bytes from the start of src to a block, from an offset on.
+// `by` is NAFELODE_HANDLE where block is a handle, NAFELODE_NAME where it is a page's name; NAFELODE_POINTER, or any other number, where it is a pointer.
 // A write by name makes no page dirty: nafelode_set_dirty does.
 // Answers the refusal number, 0 if done.
 // Refused: 1 zone not well-formed, 6 handle not live, 13 no page has this name, 7 pointer not that of a fixed block, 8 offset + count
@@ -215,15 +220,15 @@ pub extern "C" fn nafelode_read(
 #[no_mangle]
 pub extern "C" fn nafelode_write(
     zone: &mut [u8],
-    kind: u32,
+    by: u32,
     block: u32,
     offset: u32,
     count: u32,
     src: &[u8],
 ) -> u32
-    ensures { λ r. ⌜ Promise (write (named kind block) offset count (now (src .entry))) (now (zone .entry)) (shows r (now (src .entry))) (now (zone .exit)) ⌝ }
+    ensures { λ r. ⌜ Promise (write (named by block) offset count (now (src .entry))) (now (zone .entry)) (shows r (now (src .entry))) (now (zone .exit)) ⌝ }
 {
-    let b = block_of(kind, block);
+    let b = block_of(by, block);
     nafelode::write(
         zone,
         Stretch {
@@ -236,18 +241,18 @@ pub extern "C" fn nafelode_write(
 }
 
 // Where count bytes of a block from an offset on lie in the zone. They lie there until the next call that changes the zone.
-// kind 0: block is a handle; 2: a page's name; any other kind: a pointer.
+// `by` is NAFELODE_HANDLE where block is a handle, NAFELODE_NAME where it is a page's name; NAFELODE_POINTER, or any other number, where it is a pointer.
 // Answers offset and length of that part, 0 and 0 when refused. (A view of no bytes at a block that is there has its offset.)
 // Refused, though it carries no number: zone not well-formed, handle not live, no page of this name, pointer not that of a fixed block,
 // offset + count above the data size.
 #[no_mangle]
-pub extern "C" fn nafelode_view(zone: &[u8], kind: u32, block: u32, offset: u32, count: u32) -> Part
-    ensures { λ r. ⌜ Promise (view (named kind block) offset count) (now (zone .entry)) (shows 0 (slice (now (zone .entry)) (r .offset) (r .length))) (now (zone .entry)) ⌝ }
-    ensures { λ r. ⌜ r .offset ≡ viewStart (named kind block) offset count (now (zone .entry)) ⌝ }
-    ensures { λ r. ⌜ r .length ≡ viewLength (named kind block) offset count (now (zone .entry)) ⌝ }
+pub extern "C" fn nafelode_view(zone: &[u8], by: u32, block: u32, offset: u32, count: u32) -> Part
+    ensures { λ r. ⌜ Promise (view (named by block) offset count) (now (zone .entry)) (shows 0 (slice (now (zone .entry)) (r .offset) (r .length))) (now (zone .entry)) ⌝ }
+    ensures { λ r. ⌜ r .offset ≡ viewStart (named by block) offset count (now (zone .entry)) ⌝ }
+    ensures { λ r. ⌜ r .length ≡ viewLength (named by block) offset count (now (zone .entry)) ⌝ }
     ensures { λ r. ⌜ (r .offset + r .length ≤ lengthField (now (zone .entry))) × (r .offset + r .length ≤ length (now (zone .entry))) ⌝ }
 {
-    let b = block_of(kind, block);
+    let b = block_of(by, block);
     let p = stretch::part_of(
         zone,
         Stretch {
@@ -273,8 +278,8 @@ pub extern "C" fn nafelode_view(zone: &[u8], kind: u32, block: u32, offset: u32,
 // Then the clock steps by one, modulo 256, and stamps the page.
 // Value: the offset of its first data byte, which is valid until the next call that changes the zone. When refused with 12: the name of the dirty page
 // that the dropping would reach, where nothing is dropped.
-// Refused: 1 zone not well-formed, 11 a page has this name, 3 c above 32756, 5 no space even without all pages that are not locked, 12 a dirty page would
-// be dropped.
+// Refused: 1 zone not well-formed, 11 a page has this name, 3 c above NAFELODE_LARGEST_PAGE, 5 no space even without all pages that are not locked,
+// 12 a dirty page would be dropped.
 #[no_mangle]
 pub extern "C" fn nafelode_create_page(zone: &mut [u8], name: u32, c: u32) -> Told
     ensures { λ r. ⌜ Promise (on-page name (create-page c)) (now (zone .entry)) (told (r .number) (r .value)) (now (zone .exit)) ⌝ }
@@ -429,7 +434,7 @@ pub extern "C" fn nafelode_length(zone: &[u8]) -> Told
 
 // The zone grows by k bytes of the buffer, which become free.
 // Value: 0.
-// Refused: 1 zone not well-formed, 9 k no multiple of 4, or L + k above the buffer's length or 1048576.
+// Refused: 1 zone not well-formed, 9 k no multiple of 4, or L + k above the buffer's length or NAFELODE_LONGEST_ZONE.
 #[no_mangle]
 pub extern "C" fn nafelode_enlarge(zone: &mut [u8], k: u32) -> Told
     ensures { λ r. ⌜ Promise (enlarge k) (now (zone .entry)) (told (r .number) (r .value)) (now (zone .exit)) ⌝ }
@@ -455,8 +460,8 @@ pub extern "C" fn nafelode_shrink(zone: &mut [u8], k: u32) -> Told
     }
 }
 
-// Writes 8 bytes for each live handle to the start of out, by rising handle: the handle and its data size, 4 bytes each, high byte first; later bytes
-// of out stay.
+// Writes NAFELODE_ROSTER_RECORD bytes for each live handle to the start of out, by rising handle: the handle and its data size, 4 bytes each, high
+// byte first; later bytes of out stay.
 // Value: how many live handles there are.
 // Refused: 1 zone not well-formed, 10 out too short.
 #[no_mangle]
@@ -471,9 +476,9 @@ pub extern "C" fn nafelode_roster(zone: &[u8], out: &mut [u8]) -> Told
 }
 
 // Counts the free blocks by size. With limits of length 0 (the pointer may be NULL then) stratum i has the free blocks of 2^i to 2^(i+1) - 1 words of
-// 2 bytes. Else limits are nineteen numbers of 4 bytes, high byte first, in words: the first 1 or 2, each above the one before it, the last at most
-// 524288; and a free block is of the last stratum whose limit does not exceed its words.
-// Refused: 1 zone not well-formed, 14 limits of a length that is neither 0 nor 76, or against a rule.
+// 2 bytes. Else limits are NAFELODE_STRATA numbers of 4 bytes, high byte first, in words: the first 1 or 2, each above the one before it, the last at most
+// NAFELODE_HIGHEST_LIMIT; and a free block is of the last stratum whose limit does not exceed its words.
+// Refused: 1 zone not well-formed, 14 limits of a length that is neither 0 nor NAFELODE_LIMITS_LENGTH, or against a rule.
 #[no_mangle]
 pub extern "C" fn nafelode_census(zone: &[u8], limits: &[u8]) -> CensusCounts
     ensures { λ r. ⌜ counted (r .number) (r .counts) ≡ census (now (zone .entry)) (now (limits .entry)) ⌝ }
@@ -500,20 +505,20 @@ pub extern "C" fn nafelode_walker_start(zone: &[u8]) -> u32
 // Refused: 1 zone not well-formed.
 #[no_mangle]
 pub extern "C" fn nafelode_walker_step(zone: &[u8], walker: &mut u32) -> Step
-    ensures { λ r. ⌜ walked (r .number) (r .kind) (r .offset) (r .size) (now (walker .exit)) ≡ walkStep (now (zone .entry)) (now (walker .entry)) ⌝ }
+    ensures { λ r. ⌜ walked (r .number) (r .«block_type») (r .offset) (r .size) (now (walker .exit)) ≡ walkStep (now (zone .entry)) (now (walker .entry)) ⌝ }
 {
     let w = Walker {
         at: *walker as usize,
     };
     let m = w.go(zone);
     let next = m.next.at as u32;
-    let kind = m.report.block.kind as u32;
+    let block_type = m.report.block.kind as u32;
     let offset = m.report.block.offset as u32;
     let size = m.report.block.size as u32;
     *walker = next;
     Step {
         number: m.report.number,
-        kind,
+        block_type,
         offset,
         size,
     }
