@@ -48,13 +48,14 @@ class Version(Trial):
 
     def toolchain(self, readme, said):
         self.put("README.md", readme)
-        return list(version.toolchain_faults(self.root, said))
+        return [len(list(found)) for found in (version.toolchain_faults(self.root), version.another_toolchain(self.root, said))]
 
     def test_toolchain(self):
-        self.assertEqual(self.toolchain(f"Proved with\n\n    {KIT}\n", f"{KIT}\n"), [])
-        self.assertEqual(self.toolchain(f"    {KIT}\n", f"{KIT.replace('name', 'another')}\n"), [])
-        self.assertEqual(len(self.toolchain(f"    {KIT}\n", f"{KIT.replace('0123', '1123')}\n")), 1)
-        self.assertEqual(len(self.toolchain("Proved with something\n", f"{KIT}\n")), 1)
+        self.assertEqual(self.toolchain(f"Proved with\n\n    {KIT}\n", f"{KIT}\n"), [0, 0])
+        self.assertEqual(self.toolchain(f"    {KIT}\n", f"{KIT.replace('name', 'another')}\n"), [0, 0])
+        self.assertEqual(self.toolchain(f"    {KIT}\n", f"{KIT.replace('0123', '1123')}\n"), [0, 1])
+        self.assertEqual(self.toolchain(f"    {KIT}\n    {KIT}\n", f"{KIT}\n"), [1, 0])
+        self.assertEqual(self.toolchain("Proved with something\n", f"{KIT}\n"), [1, 1])
 
 
 if __name__ == "__main__":
