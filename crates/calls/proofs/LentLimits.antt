@@ -1,4 +1,4 @@
--- Lent limits one by one: where each stands in the bytes, that those which rise do so from any one to any later one, and their rules as facts.
+-- Lent limits one by one: where each stands in the bytes, that the first of those which rise is below each later one, and their rules as facts.
 use mathlib.Core.Path.{_≡_, refl, ap, _∙_}
 use mathlib.Core.Logic.{_⊎_, inl, inr}
 use mathlib.Core.Bool.{Bool, true, false, _&&_, _||_}
@@ -47,12 +47,6 @@ pub rise-first : (a : ℕ) (ls : List ℕ) → rising (a ∷ ls) ≡ true → (j
 rise-first a [] r j l = absurd (omega arith)
 rise-first a (b ∷ ls) r zero l = rise-front a b ls r
 rise-first a (b ∷ ls) r (suc j) l = omega (arith, rise-front a b ls r, rise-first b ls (rise-rest a (b ∷ ls) r) j (omega arith))
-
-pub rise-all : (ls : List ℕ) → rising ls ≡ true → (i j : ℕ) → i < j → j < length ls → getD ls i 0 < getD ls j 0
-rise-all [] r i j k l = absurd (omega arith)
-rise-all (a ∷ ls) r i zero k l = absurd (omega arith)
-rise-all (a ∷ ls) r zero (suc j) k l = rise-first a ls r j (omega arith)
-rise-all (a ∷ ls) r (suc i) (suc j) k l = rise-all ls (rise-rest a ls r) i j (omega arith) (omega arith)
 
 -- and the other way round
 pub risen : (ls : List ℕ) → ((i : ℕ) → suc i < length ls → getD ls i 0 < getD ls (suc i) 0) → rising ls ≡ true

@@ -54,13 +54,13 @@ fn count_in(z: &[u8], limits: &[u8]) -> [u32; block_type::STRATA]
 fn number_of(ok: bool, may: bool) -> u32
     ensures { λ r. ⌜ r ≡ numberBy ok may ⌝ }
 {
-    if !ok {
-        return 1;
+    if ok & may {
+        return 0;
     }
-    if !may {
+    if ok {
         return 14;
     }
-    0
+    1
 }
 
 // All nineteen counts, by the lent limits or, if none are lent, by the formula; 0 for each when refused.

@@ -1,13 +1,14 @@
 -- The laws that the census's proofs cite.
 use mathlib.Core.Path.{_≡_, refl, ap, ap₂, sym, _∙_}
-use mathlib.Core.Bool.{Bool, true, false, not}
+use mathlib.Core.Bool.{Bool, true, false, not, _&&_}
 use mathlib.Core.List.{List, [], _∷_}
 use Prim.Native.Nat.{ℕ, zero, suc, _+_, _/_, _≤_, _<_}
 use native.Mathlib.Omega.{arith}
 use native.Mathlib.Nat.{zero-add, add-zero}
 use native.Mathlib.Decide.{ℕ-discrete}
 use lib.Dec.{eqb}
-use borrow.Author.Tests.{ne-eqb, not-true, not-false}
+use borrow.Author.Tests.{ne-eqb}
+use Rattle.format.proofs.Bool.{and-left, and-right}
 use lib.ListN.{length, getD, set, take, drop, replicate, length-set}
 use lib.Seq.{getD-set-same, getD-set-other}
 use Rattle.block_type.specs.Limits.{freeCode, longestZone, zoneHeader, strata}
@@ -140,14 +141,14 @@ in-law lent z first cs e q =
     counts-in (rw (← e) (q ∙ adding-zeros strata (countsOf (limitsOf lent) ws) (length-counts (limitsOf lent) ws ∙ limits-long lent)))
 
 module _ (ok may : Bool) where
-  pub number-1 : not ok ≡ true → numberBy ok may ≡ 1
-  number-1 e = rw (not-true ok e) refl
+  pub number-0 : (ok && may) ≡ true → numberBy ok may ≡ 0
+  number-0 e = rw (and-left ok may e, and-right ok may e) refl
 
-  pub number-14 : not ok ≡ false → not may ≡ true → numberBy ok may ≡ 14
-  number-14 e q = rw (not-false ok e, not-true may q) refl
+  pub number-14 : (ok && may) ≡ false → ok ≡ true → numberBy ok may ≡ 14
+  number-14 e q = let n : may ≡ false = rw q at e in rw (q, n) refl
 
-  pub number-0 : not ok ≡ false → not may ≡ false → numberBy ok may ≡ 0
-  number-0 e q = rw (not-false ok e, not-false may q) refl
+  pub number-1 : ok ≡ false → numberBy ok may ≡ 1
+  number-1 e = rw e refl
 
 module _ (ok may : Bool) (n : ℕ) (q : n ≡ numberBy ok may) (z : n ≡ 0) where
   both : (ok ≡ true) × (may ≡ true)

@@ -1,5 +1,6 @@
 use Prim.Native.Nat.{_-_}
 use native.Mathlib.Omega.{arith}
+use native.Mathlib.Nat.{le-of-lt}
 use borrow.Author.Needs.{needs}
 use Rattle.inspect.proofs.strata.Laws.{Halved, halve-start, halve-up, halve-down, halve-end}
 use Rattle.inspect.proofs.strata.by_limits.Statement.{statement}
@@ -27,7 +28,7 @@ loop-less : tie.Need-loop-less Inv-loop μ-loop
 loop-less c = omega arith
 
 loop-again : tie.Need-loop-again Inv-loop μ-loop
-loop-again c = search halve-up
+loop-again c = search (halve-up, le-of-lt)
 
 loop-less-2 : tie.Need-loop-less-2 Inv-loop μ-loop
 loop-less-2 c = omega arith

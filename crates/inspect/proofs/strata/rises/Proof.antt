@@ -1,5 +1,6 @@
 use Prim.Native.Nat.{_-_}
 use native.Mathlib.Omega.{arith}
+use native.Mathlib.Nat.{le-of-lt}
 use borrow.Author.Needs.{needs}
 use Rattle.block_type.specs.Limits.{strata}
 use Rattle.inspect.proofs.strata.Laws.{Risen, rise-start, rise-on, rise-not, rise-end}
@@ -22,7 +23,7 @@ limit-requires-2 : tie.Need-limit-requires-2 Inv-loop μ-loop
 limit-requires-2 c κs = (search needs, search needs)
 
 returns : tie.Need-returns Inv-loop μ-loop
-returns c = search rise-not
+returns c = search (rise-not, le-of-lt)
 
 add-i : tie.Need-add-i Inv-loop μ-loop
 add-i c = search needs
