@@ -5,7 +5,7 @@ tools/edits.txt and tools/edits_not_kept.txt.
 Usage: tools/edits.py reads the logs that rt leaves in target/must-fail and writes the page. It stops at an edit whose first error is no fact
        of the program: an edited text that does not check, a bound of a sum or a cast, or a proof's text that no longer fits the code.
        tools/edits.py --check tests that the page has each edit of the tree, and no other, with what the edit says and, where its log is there, with
-       the fact of the log.
+       the fact of the log; and that the edits that are not kept are edits of a text that is there.
 """
 import pathlib
 import re
@@ -13,11 +13,14 @@ import sys
 
 ROOT = pathlib.Path(__file__).resolve().parent.parent
 PAGE = ROOT / "docs" / "MUST_FAIL.md"
+NOT_KEPT = ROOT / "tools" / "edits_not_kept.txt"
 LOGS = ROOT / "target" / "must-fail"
 ERROR = re.compile(r"^(\S+?):(\d+):\d+: error: (?:`([^`]+)`: )?(.*)$", re.M)
 UNPROVED = re.compile(r"^note: (\S+?):(\d+):\d+: it is not proved that (.*) \(`([\w-]+)`\)$", re.M)
 FUNCTION = re.compile(r"^\s*(?:pub )?(?:extern \"C\" )?fn (\w+)")
 WRONG = "# wrong at: "
+ROW_NOT_KEPT = re.compile(r"\| (\w+) \| (.*?) \| (`.*`) \| .* \|")
+OLD_TEXT = re.compile(r"`([^`]*)` → `[^`]*`")
 
 # A goal that is not met. Any other message is about a text: it does not parse, a name is not there, a clause is missing, the arguments are
 # too many.
@@ -117,7 +120,20 @@ def expected(crate, name):
     return row(crate, name) if (LOGS / crate / name / ".log").is_file() else start_of_row(crate, name)
 
 
+def not_there(rows, crates):
+    """The edits that are not kept whose old text their crate no longer has, each by crate and note."""
+    found = []
+    for crate, note, edit in (m.groups() for m in map(ROW_NOT_KEPT.fullmatch, rows.split("\n")) if m):
+        sources = [p.read_text(encoding="utf-8") for kind in ("src/**/*.rt", "specs/**/*.antt") for p in (crates / crate).glob(kind)]
+        if not all(any(old.replace("\\|", "|") in source for source in sources) for old in OLD_TEXT.findall(edit)):
+            found.append(f"{crate}: {note}")
+    return found
+
+
 def check():
+    stale = not_there(NOT_KEPT.read_text(encoding="utf-8"), ROOT / "crates")
+    if stale:
+        sys.exit(f"{NOT_KEPT.name} has edits of a text that is not there: {stale}")
     kept = PAGE.read_text(encoding="utf-8").split("\n## ")[0]
     lines = [line for line in kept.split("\n") if line.startswith("| ")][1:]
     starts = [expected(*edit) for edit in all_edits()]
@@ -129,7 +145,7 @@ def check():
 def write():
     rows = [row(*edit) for edit in all_edits()]
     head = (ROOT / "tools" / "edits.txt").read_text(encoding="utf-8")
-    tail = (ROOT / "tools" / "edits_not_kept.txt").read_text(encoding="utf-8")
+    tail = NOT_KEPT.read_text(encoding="utf-8")
     PAGE.write_text(head + "\n".join(rows) + "\n\n" + tail, encoding="utf-8")
 
 

@@ -73,6 +73,17 @@ class Edits(unittest.TestCase):
         note = "note: /x/must-fail/calls/wrong/src/lib.rt:4:5: it is not proved that what the function ensures holds when it returns (`returns`)\n"
         self.assertEqual(self.refused(waits + note), "what `second` returns")
 
+    def test_edits_that_are_not_kept(self):
+        rows = "| crate | the wrong program | edit | refused by |\n|---|---|---|---|\n| tell | a note | `a \\| b` → `c`; `d` → `e` | a fact |\n"
+        with tempfile.TemporaryDirectory() as folder:
+            crates = pathlib.Path(folder)
+            (crates / "tell" / "src").mkdir(parents=True)
+            (crates / "tell" / "specs").mkdir()
+            (crates / "tell" / "src" / "lib.rt").write_text("fn f() { a | b }\n", encoding="utf-8")
+            self.assertEqual(edits.not_there(rows, crates), ["tell: a note"])
+            (crates / "tell" / "specs" / "Told.antt").write_text("d\n", encoding="utf-8")
+            self.assertEqual(edits.not_there(rows, crates), [])
+
     def test_edit_with_an_input(self):
         with tempfile.TemporaryDirectory() as folder:
             path = pathlib.Path(folder) / "a.edit"
