@@ -8,13 +8,10 @@ use mir.Val.{Fits}
 use mir.Syntax.{w8}
 use borrow.Author.Tests.{not-false}
 use lib.ListN.{length, getD, take, length-take}
-use Rattle.bigendian.specs.BigEndian.{fromBE, Bytes}
-use Rattle.bigendian.proofs.Parts.{slice-take}
+use Rattle.bigendian.specs.BigEndian.{Bytes}
 use Rattle.block_type.specs.Limits.{lengthAt, firstAt, mastersAt, chainAt, clockAt}
-use Rattle.format.specs.WellFormed.{wellFormed, zoneOf, lengthField, firstField, mastersField, chainField}
-use Rattle.format.specs.Steps.{Fields}
-use Rattle.format.proofs.Bool.{and-left}
-use Rattle.format.proofs.Header.{header-facts}
+use Rattle.format.specs.WellFormed.{wellFormed, zoneOf, lengthField}
+pub use Rattle.format.proofs.Header.{fields-of, first-of}
 use Rattle.zone_check.specs.Sought.{pageIn, pageOf}
 use Rattle.structure.specs.Structure.{decode, len}
 use Rattle.structure.proofs.Table.{whole, len-is}
@@ -31,14 +28,6 @@ pub take-len : (l : ℕ) (s : List ℕ) → l ≤ length s → l ≡ length (tak
 take-len l s h = omega (arith, length-take l s)
 
 -- ---- the buffer
-
-pub fields-of : (s : List ℕ) → wellFormed s ≡ true → Fields s (lengthField s) (firstField s) (mastersField s) (chainField s)
-unfolding wellFormed
-fields-of s h = header-facts s (and-left _ _ h)
-
--- the first block's offset, read in the zone or in the buffer
-pub first-of : (s : List ℕ) → wellFormed s ≡ true → firstField (zoneOf s) ≡ firstField s
-first-of s h = let f = fields-of s h in ap fromBE (slice-take s (lengthField s) firstAt 4 (omega arith))
 
 -- the length of the structure is the length in the header
 pub length-is : (s : List ℕ) → Bytes s → wellFormed s ≡ true → len (decode s) ≡ lengthField s

@@ -1,15 +1,18 @@
--- What the test of a header says.
-use mathlib.Core.Path.{_≡_, refl}
+-- What the test of a header says, and what is read of the header with and without the bytes beyond the zone.
+use mathlib.Core.Path.{_≡_, refl, ap}
 use mathlib.Core.List.{List}
 use mathlib.Core.Bool.{true, _&&_}
 use Prim.Native.Nat.{ℕ, _+_, _*_, _%_}
+use native.Mathlib.Omega.{arith}
 use lib.Dec.{eqb, leb}
 use borrow.Author.Tests.{leb-true, eqb-true}
 use lib.ListN.{length, getD}
-use Rattle.block_type.specs.Limits.{longestZone, masterSize, mostMasters, zoneHeader, zeroAt}
+use Rattle.bigendian.specs.BigEndian.{fromBE}
+use Rattle.bigendian.proofs.Parts.{slice-take}
+use Rattle.block_type.specs.Limits.{longestZone, masterSize, mostMasters, zoneHeader, zeroAt, firstAt}
 use Rattle.format.proofs.Bool.{and-left, and-right}
 pub use Rattle.format.specs.Steps.{Fields}
-use Rattle.format.specs.WellFormed.{headerOk, lengthField, firstField, mastersField, chainField}
+use Rattle.format.specs.WellFormed.{headerOk, lengthField, firstField, mastersField, chainField, zoneOf, wellFormed}
 
 pub header-facts : (s : List ℕ) → headerOk s ≡ true → Fields s (lengthField s) (firstField s) (mastersField s) (chainField s)
 unfolding headerOk
@@ -41,3 +44,11 @@ header-facts s h =
       start = eqb-true (firstField s) (zoneHeader + masterSize * mastersField s) (and-right t₅ _ h₆);
       within = leb-true (firstField s) (lengthField s) (and-right t₆ _ h₇);
     }
+
+pub fields-of : (s : List ℕ) → wellFormed s ≡ true → Fields s (lengthField s) (firstField s) (mastersField s) (chainField s)
+unfolding wellFormed
+fields-of s h = header-facts s (and-left _ _ h)
+
+-- bkFst is read alike in the zone and in the buffer
+pub first-of : (s : List ℕ) → wellFormed s ≡ true → firstField (zoneOf s) ≡ firstField s
+first-of s h = let f = fields-of s h in ap fromBE (slice-take s (lengthField s) firstAt 4 (omega arith))

@@ -11,12 +11,10 @@ use lib.Count.{leadingZeros, leading-top}
 use lib.Dec.{eqb, leb, ltb}
 use lib.ListN.{length, drop}
 use borrow.Author.Tests.{eq-eqb, ne-eqb, lt-ltb, leb-true, leb-false, ltb-true, ltb-false}
-use Rattle.bigendian.specs.BigEndian.{Bytes, fromBE}
-use Rattle.bigendian.proofs.Parts.{slice-take}
-use Rattle.block_type.specs.Limits.{freeCode, fixedHeader, firstAt, longestZone, zoneHeader, firstBlock, strata}
-use Rattle.format.specs.WellFormed.{typeOf, sizeOf, lengthField, firstField, zoneOf, splitBlocks, wellFormed}
-use Rattle.format.proofs.Bool.{and-left}
-use Rattle.format.proofs.Header.{header-facts}
+use Rattle.bigendian.specs.BigEndian.{Bytes}
+use Rattle.block_type.specs.Limits.{freeCode, fixedHeader, longestZone, zoneHeader, firstBlock, strata}
+use Rattle.format.specs.WellFormed.{typeOf, sizeOf, firstField, zoneOf, splitBlocks, wellFormed}
+use Rattle.format.proofs.Header.{first-of}
 use Rattle.format.specs.Occurs.{occurs}
 use Rattle.format.proofs.Count.{All, all-at}
 use Rattle.kinds.specs.Kinds.{Item, itemIn}
@@ -148,14 +146,9 @@ words-met (b ∷ l) =
     by-code (typeOf b) (sizeOf b) (drop fixedHeader b) (itemIn b) (map decodeBlock l)
     ∙ ap (λ (r : List ℕ). cond (eqb (typeOf b) freeCode) (sizeOf b / 2 ∷ r) r) (words-met l)
 
--- bkFst is read alike with and without the bytes beyond the zone
-first-same : (bs : List ℕ) → wellFormed bs ≡ true → firstField (zoneOf bs) ≡ firstField bs
-unfolding wellFormed
-first-same bs h = let f = header-facts bs (and-left _ _ h) in ap fromBE (slice-take bs (lengthField bs) firstAt 4 (omega arith))
-
 pub words-are : (bs : List ℕ) → wellFormed bs ≡ true → freeWords (decode bs .blocks) ≡ wordsIn bs
 unfolding decode decodeZone
-words-are bs h = words-met (splitBlocks (drop (firstField (zoneOf bs)) (zoneOf bs))) ∙ ap (λ (n : ℕ). wordsMet (splitBlocks (drop n (zoneOf bs)))) (first-same bs h)
+words-are bs h = words-met (splitBlocks (drop (firstField (zoneOf bs)) (zoneOf bs))) ∙ ap (λ (n : ℕ). wordsMet (splitBlocks (drop n (zoneOf bs)))) (first-of bs h)
 
 pub all-met : (bs : List ℕ) → Bytes bs → wellFormed bs ≡ true → All FreeSize (wordsIn bs)
 all-met bs y h = rw (words-are bs h) at (zone-free bs y h)

@@ -7,12 +7,11 @@ use native.Mathlib.Omega.{arith}
 use native.Mathlib.Nat.{add-zero, zero-add, add-assoc}
 use lib.ListN.{length, drop}
 use lib.Dec.{eqb}
-use Rattle.block_type.specs.Limits.{freeCode, fixedCode, relocCode, relocHeader, fixedHeader, firstBlock, firstAt}
-use Rattle.bigendian.specs.BigEndian.{fromBE}
-use Rattle.bigendian.proofs.Parts.{slice-take}
-use Rattle.format.specs.WellFormed.{headerOk, lengthField, firstField, mastersField, chainField, typeOf, sizeOf, handleOf, isFree, splitBlocks, zoneOf, isReloc}
+use Rattle.block_type.specs.Limits.{freeCode, fixedCode, relocCode, relocHeader, fixedHeader, firstBlock}
+use Rattle.format.specs.WellFormed.{headerOk, firstField, mastersField, chainField, typeOf, sizeOf, handleOf, isFree, splitBlocks, zoneOf, isReloc}
 use Rattle.format.specs.OneWalk.{blockOk, blocksOk, bodyOk}
 use Rattle.format.proofs.Bool.{and-left, and-right}
+use Rattle.format.proofs.Header.{first-of}
 use Rattle.format.proofs.Walk.{is-good}
 use Rattle.format.proofs.OneWalk.{one-walk}
 use Rattle.format.proofs.Live.{body-parts}
@@ -31,7 +30,7 @@ use Rattle.zone.specs.Claim.{fixedMet, relocMet, freeMet, fixedIn, reloc
 use Rattle.zone.proofs.Places.{Tiled, tile-last, tile-more}
 use Rattle.zone.proofs.Keep.{Whole, masters-are}
 use Rattle.zone.proofs.Run.{Stored, stored-well, stored-decode}
-use Rattle.zone.proofs.Fields.{header-fits, first-read}
+use Rattle.zone.proofs.Fields.{first-read}
 use borrow.Author.Tests.{ne-eqb, eq-eqb}
 
 -- place and size of each fixed block, in address order
@@ -173,14 +172,10 @@ module _ (bs : List ℕ) (z : Zone) (w : Whole z) (s : Stored bs z) where
   first-is : firstField bs ≡ firstBlock (w .m)
   first-is = first-read bs z w s ∙ ap firstBlock (masters-are z w)
 
-  -- bkFst is read alike with and without the bytes beyond the zone
-  first-same : firstField (zoneOf bs) ≡ firstField bs
-  first-same = ap fromBE (slice-take bs (lengthField bs) firstAt 4 (omega (arith, header-fits bs z w s)))
-
   blocks-are : map decodeBlock (splitBlocks (drop (firstField bs) (zoneOf bs))) ≡ flatten (z .bays)
   unfolding decode decodeZone
   blocks-are =
-      ap (λ (k : ℕ). map decodeBlock (splitBlocks (drop k (zoneOf bs)))) (sym first-same)
+      ap (λ (k : ℕ). map decodeBlock (splitBlocks (drop k (zoneOf bs)))) (sym (first-of bs (stored-well bs z w s)))
       ∙ ap (λ (u : Structure). u .blocks) (stored-decode bs z w s)
 
 pub fixed-walk : (bs : List ℕ) (z : Zone) → Whole z → Stored bs z → fixedIn bs ≡ spotsS (z .bays)
