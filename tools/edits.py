@@ -52,9 +52,11 @@ def read_edit(path):
 
 
 def function_at(path, line):
-    """The function of a source file that a line stands in."""
-    lines = path.read_text(encoding="utf-8").split("\n")[:line]
-    return next(m.group(1) for m in map(FUNCTION.match, reversed(lines)) if m)
+    """The function of a source file that a line stands in; an attribute stands before its function."""
+    lines = path.read_text(encoding="utf-8").split("\n")
+    while lines[line - 1].startswith("#["):
+        line += 1
+    return next(m.group(1) for m in map(FUNCTION.match, reversed(lines[:line])) if m)
 
 
 def fact_of(need, function, message):

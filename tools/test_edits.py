@@ -61,6 +61,12 @@ class Edits(unittest.TestCase):
             with mock.patch.object(edits, "LOGS", pathlib.Path(folder)):
                 return edits.refused_by("calls", "wrong")
 
+    def test_function_at_a_line(self):
+        with tempfile.TemporaryDirectory() as folder:
+            path = pathlib.Path(folder) / "lib.rt"
+            path.write_text('fn first() {\n    1\n}\n\n#[no_mangle]\npub extern "C" fn second() {\n    2\n}\n', encoding="utf-8")
+            self.assertEqual([edits.function_at(path, line) for line in (2, 5, 6, 7)], ["first", "second", "second", "second"])
+
     def test_first_error_counts(self):
         law = "/x/must-fail/calls/wrong/proofs/Order.antt:3:4: error: `six-first`: `omega`: the goal does not follow\n"
         text = "/x/must-fail/calls/wrong/specs/Table.antt:3:4: error: `first`: `x` is not in scope\n"

@@ -1,8 +1,8 @@
 -- The walk over one bay: the cells that it has passed stand in front of the bays that are left.
-use mathlib.Core.Path.{_≡_, refl, sym, ap, _∙_}
+use mathlib.Core.Path.{_≡_, refl, sym, ap, _∙_, subst}
 use mathlib.Core.List.{List, [], _∷_, _++_, append-nil, append-assoc}
 use mathlib.Core.Bool.{cond, Bool}
-use Prim.Native.Nat.{ℕ, _+_, _<_, _≤_}
+use Prim.Native.Nat.{ℕ, _+_, _/_, _<_, _≤_}
 use native.Mathlib.Nat.{add-zero}
 use native.Mathlib.Omega.{arith}
 use lib.Dec.{eqb}
@@ -10,6 +10,7 @@ use borrow.Author.Tests.{eq-eqb, ne-eqb}
 use lib.ListN.{length, drop, drop-of-length-le}
 use Rattle.block_type.specs.Limits.{freeCode, fixedCode}
 use Rattle.format.specs.WellFormed.{typeOf}
+use Rattle.block_check.specs.Word.{typeWord, IsHeader}
 use Rattle.structure.specs.Structure.{Block, cell, fixed, size, join, code}
 use Rattle.calls.specs.Bays.{Bays, last, more}
 use Rattle.calls.specs.State.{Fixed}
@@ -149,12 +150,21 @@ pub record Seen (z : List ℕ) (p at sum tail : ℕ) : Type 0 where
 pub seen-none : (z : List ℕ) (p : ℕ) → Seen z p p 0 0
 seen-none z p = record { cells = []; passed = passed-none z p; sum-is = refl; tail-is = refl }
 
-module _ (z : List ℕ) (p at n k sum tail : ℕ) (st : Stepped z at n) (ek : k ≡ typeOf (drop at z)) (sn : Seen z p at sum tail) where
-  pub seen-more : (f : ℕ) → (k ≡ fixedCode → ⊥) → f ≡ cond (eqb k freeCode) n 0 → Seen z p (at + n) (sum + f) f
+module _ (z : List ℕ) (p at n k w sum tail : ℕ) (st : Stepped z at n) (h : IsHeader z at w) (ew : k ≡ w / typeWord) (sn : Seen z p at sum tail) where
+  ek : k ≡ typeOf (drop at z)
+  ek = ew ∙ sym (h .is-type)
+
+  seen-more : (f : ℕ) → (k ≡ fixedCode → ⊥) → f ≡ cond (eqb k freeCode) n 0 → Seen z p (at + n) (sum + f) f
   seen-more f nk ef =
       let o = one-more z p at n k st ek (sn .cells) (sn .passed) nk in
       let ep = part-is (o .c) k n f (o .kind) (o .bytes) ef in
       record { cells = sn .cells ++ o .c ∷ []; passed = o .passed; sum-is = sum-more (sn .cells) (o .c) sum f (sn .sum-is) ep; tail-is = ep ∙ sym (end-one (sn .cells) (o .c)) }
+
+  pub seen-held : fixedCode < k → Seen z p (at + n) sum 0
+  seen-held l = subst (λ (i : ℕ). Seen z p (at + n) i 0) (add-zero sum) (seen-more 0 (λ e. omega arith) (part-no k n (λ e. omega arith)))
+
+  pub seen-free : k ≤ fixedCode → (k ≡ fixedCode → ⊥) → Seen z p (at + n) (sum + n) n
+  seen-free l nk = let e : k ≡ freeCode = omega arith in seen-more n nk (part-yes k n e)
 
   pub read-fixed : k ≡ fixedCode → at < length z → Read z p at sum tail (at + n)
   read-fixed e l = record { bay = sn .cells; between = ends-fixed z p at n k st ek (sn .cells) (sn .passed) e l; sum-is = sn .sum-is; tail-is = sn .tail-is }

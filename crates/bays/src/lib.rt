@@ -2,11 +2,9 @@
 use access::row;
 use block_type::BlockType;
 ghost use mathlib.Core.Path.{_≡_};
-ghost use mathlib.Core.Bool.{cond};
 ghost use Prim.Native.Nat.{_≤_};
 ghost use lib.ListN.{length, drop};
-ghost use lib.Dec.{eqb};
-ghost use Rattle.block_type.specs.Limits.{freeCode, longestZone};
+ghost use Rattle.block_type.specs.Limits.{longestZone};
 ghost use Rattle.access.specs.row.Row.{Row};
 ghost use Rattle.bays.specs.Places.{baysAt, bayN, highBay, ownBay, betterBay};
 ghost use Rattle.bays.specs.Read.{Read};
@@ -18,16 +16,6 @@ pub struct Bay {
     pub end: usize,
     pub sum: usize,
     pub tail: usize,
-}
-
-// What a block of type k and n bytes adds to its bay's sum.
-pub fn free_part(k: u8, n: usize) -> usize
-    ensures { λ r. ⌜ (r ≡ cond (eqb k freeCode) n 0) × (r ≤ n) ⌝ }
-{
-    if k == BlockType::FREE_CODE {
-        return n;
-    }
-    0
 }
 
 // A bay that has been walked over; `next` is where the next one begins, or one more than the bytes' number behind the last.
@@ -47,19 +35,27 @@ pub fn read_bay(z: &[u8], p: usize) -> BayRead
     let mut sum = 0;
     let mut tail = 0;
     while at < z.len() {
-        let n = row::step(z, at);
-        let k = block_check::type_at(z, at);
-        if k == BlockType::FIXED_CODE {
-            return BayRead {
-                end: at,
-                sum,
-                tail,
-                next: at + n,
-            };
+        let w = row::word(z, at);
+        let k = block_check::type_of(w);
+        // neither free nor fixed, as most blocks are
+        if BlockType::FIXED_CODE < k {
+            let n = row::step_used(z, at, w);
+            tail = 0;
+            at += n;
+        } else {
+            if k == BlockType::FIXED_CODE {
+                let n = row::step_used(z, at, w);
+                return BayRead {
+                    end: at,
+                    sum,
+                    tail,
+                    next: at + n,
+                };
+            }
+            tail = row::step_free(z, at, w);
+            sum += tail;
+            at += tail;
         }
-        tail = free_part(k, n);
-        sum += tail;
-        at += n;
     }
     BayRead {
         end: at,

@@ -5,6 +5,8 @@ use Prim.Native.Nat.{ℕ, zero, suc, _+_, _*_, _/_, _%_, _^_, _<_, _≤_}
 use native.Mathlib.Nat.{pow-succ', one-le-pow, mod-eq-of-lt, mul-assoc, mod-one, div-one, mul-add-div-right}
 use native.Mathlib.Numerals.{add-one, add-two, towards-suc}
 use native.Mathlib.Omega.{arith}
+use mir.Val.{Fits}
+use mir.Syntax.{w32}
 use lib.Arith.{digits-lt, digits-div, mod-mul}
 use lib.ListN.{length, getD, take, set}
 use lib.Seq.{take-at, drop-cons, sets-eq}
@@ -88,10 +90,57 @@ put2-law s at v h =
     let e = sets-eq (v / 256 % 256 ∷ v / 1 % 256 ∷ []) s at h in
     simp (add-one, add-two, div-one) (simp (add-one, add-two, div-one) at e)
 
-pub put4-law : (s : List ℕ) (at v : ℕ) → at + 4 ≤ length s
+put4-bytes : (s : List ℕ) (at v : ℕ) → at + 4 ≤ length s
     → set (set (set (set s at (v / 16777216 % 256)) (at + 1) (v / 65536 % 256)) (at + 2) (v / 256 % 256)) (at + 3) (v % 256)
     ≡ overwrite s at (toBE 4 v)
 unfolding toBE
-put4-law s at v h =
+put4-bytes s at v h =
     let e = sets-eq (toBE 4 v) s at h in
     simp (towards-suc, div-one) (simp (towards-suc, div-one) at e)
+
+-- from a number w that has the same bytes, the last one first
+pub put4-law : (s : List ℕ) (at v w : ℕ) → at + 4 ≤ length s → w % 256 ≡ v / 16777216 % 256 → w / 256 % 256 ≡ v / 65536 % 256 → w / 65536 % 256 ≡ v / 256 % 256 → w / 16777216 % 256 ≡ v % 256
+    → set (set (set (set s at (w % 256)) (at + 1) (w / 256 % 256)) (at + 2) (w / 65536 % 256)) (at + 3) (w / 16777216 % 256)
+    ≡ overwrite s at (toBE 4 v)
+put4-law s at v w h a b c d = rw (a, b, c, d) (put4-bytes s at v h)
+
+-- ---- four bytes, the last one first
+
+module _ (a b c d : ℕ) (la : a < 256) (lb : b < 256) (lc : c < 256) (ld : d < 256) where
+  abbrev r : ℕ
+  r = a * 16777216 + b * 65536 + c * 256 + d
+
+  third : r / 256 ≡ a * 65536 + b * 256 + c
+  third = omega arith
+
+  second : r / 65536 ≡ a * 256 + b
+  second = omega arith
+
+  first : r / 16777216 ≡ a
+  first = omega arith
+
+  digits : (r % 256 ≡ d) × (r / 256 % 256 ≡ c) × (r / 65536 % 256 ≡ b) × (r / 16777216 % 256 ≡ a)
+  digits = (omega arith, omega (arith, third), omega (arith, second), omega (arith, first))
+
+pub swapped-law : (v : ℕ) → Fits w32 v → let w = v % 256 * 16777216 + v / 256 % 256 * 65536 + v / 65536 % 256 * 256 + v / 16777216 in
+    (w % 256 ≡ v / 16777216 % 256) × (w / 256 % 256 ≡ v / 65536 % 256) × (w / 65536 % 256 ≡ v / 256 % 256) × (w / 16777216 % 256 ≡ v % 256)
+swapped-law v f =
+    let q = digits (v % 256) (v / 256 % 256) (v / 65536 % 256) (v / 16777216) (omega arith) (omega arith) (omega arith) (omega (arith, f .fits)) in
+    (omega (arith, q .0, f .fits), q .1, q .2, q .3)
+
+-- a number of four bytes, by them
+four-bytes : (w : ℕ) → Fits w32 w → w ≡ w / 16777216 % 256 * 16777216 + w / 65536 % 256 * 65536 + w / 256 % 256 * 256 + w % 256
+four-bytes w f = sum w (w / 256) (w / 65536) (w / 16777216) (w % 256) (w / 256 % 256) (w / 65536 % 256) (w / 16777216 % 256) (omega arith) (omega arith) (omega arith) (omega (arith, f .fits))
+  where
+    sum : (w x y z a b c d : ℕ) → w ≡ x * 256 + a → x ≡ y * 256 + b → y ≡ z * 256 + c → z ≡ d → w ≡ d * 16777216 + c * 65536 + b * 256 + a
+    sum w x y z a b c d p q r t = omega arith
+
+-- where its bytes were read from the last one on
+pub load4-law : (s : List ℕ) (at a b c d w : ℕ) → w % 256 ≡ (d * 16777216 + c * 65536 + b * 256 + a) / 16777216 % 256
+    → w / 256 % 256 ≡ (d * 16777216 + c * 65536 + b * 256 + a) / 65536 % 256 → w / 65536 % 256 ≡ (d * 16777216 + c * 65536 + b * 256 + a) / 256 % 256
+    → w / 16777216 % 256 ≡ (d * 16777216 + c * 65536 + b * 256 + a) % 256 → Fits w32 w → at + 4 ≤ length s
+    → a ≡ getD s at 0 → b ≡ getD s (at + 1) 0 → c ≡ getD s (at + 2) 0 → d ≡ getD s (at + 3) 0 → a < 256 → b < 256 → c < 256 → d < 256
+    → w ≡ fromBE (slice s at 4)
+load4-law s at a b c d w q₀ q₁ q₂ q₃ f h ea eb ec ed la lb lc ld =
+    let q = digits d c b a ld lc lb la in
+    four-bytes w f ∙ rw (q₀ ∙ q .3, q₁ ∙ q .2, q₂ ∙ q .1, q₃ ∙ q .0) (be4-of s at a b c d h ea eb ec ed)

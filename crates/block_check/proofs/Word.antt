@@ -18,8 +18,8 @@ use Rattle.format.proofs.Walk.{first-rule, turn}
 use Rattle.format.specs.WellFormed.{typeOf, sizeOf, handleOf, isFree, isReloc, isPage, isMaster, masterAt}
 use Rattle.format.specs.OneWalk.{typeRule, relocRule, blockOk}
 use Rattle.format.specs.Steps.{GoodSize, Turn}
-use Rattle.block_check.specs.Word.{typeWord, IsWord, held, GoodBlock}
-use Rattle.block_check.proofs.Leaves.{kind-law, size-used}
+use Rattle.block_check.specs.Word.{typeWord, IsWord, IsHeader, held, GoodBlock}
+use Rattle.block_check.proofs.Leaves.{kind-law, size-free, size-used}
 
 pub word-law : (z : List ℕ) (at w : ℕ) → ((i : ℕ) → Fits w8 (getD z i 0)) → at < length z → at % 4 ≡ 0 → length z % 4 ≡ 0 → w ≡ fromBE (slice z at 4) → IsWord z at w
 unfolding handleOf
@@ -34,13 +34,29 @@ word-law z at w b l f g e =
     let q₂ = (rw i at (be2-at z (at + tagAt) (omega arith))) in
     record { is-type = sym (kind-law z at) ∙ omega arith; is-half = omega arith; is-handle = rw (drop-drop tagAt at z) (omega arith) }
 
+pub header-law : (z : List ℕ) (at w : ℕ) → ((i : ℕ) → Fits w8 (getD z i 0)) → at + smallestBlock ≤ length z → w ≡ fromBE (slice z at 4) → IsHeader z at w
+header-law z at w b l e =
+    let p = e ∙ be4-at z at (omega arith) in
+    let b₀ = b at .fits in
+    let b₁ = b (at + 1) .fits in
+    let b₂ = b (at + tagAt) .fits in
+    let b₃ = b (at + 3) .fits in
+    let q = be2-at z at (omega arith) in
+    let k : typeOf (drop at z) ≡ w / typeWord = sym (kind-law z at) ∙ omega arith in
+    let h : w / handleRange ≡ fromBE (take 2 (drop at z)) = omega arith in
+    record {
+      is-type = k;
+      free-size = λ f. size-free (drop at z) (w / typeWord) w (sym k) f e;
+      used-size = λ f. size-used (drop at z) (w / typeWord) (w / handleRange) (sym k) (λ x. omega arith) h;
+    }
+
 -- behind the end there is nothing
 pub word-end : (z : List ℕ) (at : ℕ) → length z ≤ at → _≡_ {A = ℕ} 0 (fromBE (slice z at 4))
 unfolding fromBE
 word-end z at l = rw (drop-of-length-le z l)
 
-pub word-size : (z : List ℕ) (at w : ℕ) → IsWord z at w → typeOf (drop at z) ≡ relocCode → w / handleRange % typeUnit * 2 ≡ sizeOf (drop at z)
-word-size z at w i k = size-used (drop at z) relocCode (w / handleRange) (sym k) (λ q. omega arith) (i .is-half)
+pub word-size : (z : List ℕ) (at w n : ℕ) → IsWord z at w → typeOf (drop at z) ≡ relocCode → n ≡ w / handleRange % typeUnit * 2 → n ≡ sizeOf (drop at z)
+word-size z at w n i k e = e ∙ size-used (drop at z) relocCode (w / handleRange) (sym k) (λ q. omega arith) (i .is-half)
 
 -- ---- a good relocatable block
 

@@ -2,12 +2,12 @@
 use mathlib.Core.Path.{_≡_}
 use mathlib.Core.List.{List}
 use mathlib.Core.Bool.{Bool, cond, _&&_}
-use Prim.Native.Nat.{ℕ, _+_, _*_, _-_, _/_, _%_, _≤_}
+use Prim.Native.Nat.{ℕ, _+_, _*_, _-_, _/_, _%_, _<_, _≤_}
 use lib.Dec.{eqb, leb}
 use lib.ListN.{length, take, drop}
-use Rattle.block_type.specs.Limits.{relocHeader, typeUnit, handleRange}
+use Rattle.block_type.specs.Limits.{freeCode, relocHeader, typeUnit, handleRange}
 use Rattle.bigendian.specs.BigEndian.{fromBE}
-use Rattle.format.specs.WellFormed.{typeOf, handleOf, isFree, isReloc, isPage, masterAt}
+use Rattle.format.specs.WellFormed.{typeOf, sizeOf, handleOf, isFree, isReloc, isPage, masterAt}
 use Rattle.format.specs.Steps.{GoodSize}
 
 -- the type is what stands above the size and the handle
@@ -19,6 +19,12 @@ pub record IsWord (z : List ℕ) (at w : ℕ) : Type 0 where
   pub is-type : typeOf (drop at z) ≡ w / typeWord
   pub is-half : w / handleRange ≡ fromBE (take 2 (drop at z))
   pub is-handle : w % handleRange ≡ handleOf (drop at z)
+
+-- w has the type of the block at `at`, and its size, which is told in all of it where the block is free
+pub record IsHeader (z : List ℕ) (at w : ℕ) : Type 0 where
+  pub is-type : typeOf (drop at z) ≡ w / typeWord
+  pub free-size : w / typeWord ≡ freeCode → w * 2 ≡ sizeOf (drop at z)
+  pub used-size : freeCode < w / typeWord → w / handleRange % typeUnit * 2 ≡ sizeOf (drop at z)
 
 -- the master at h holds the data offset of a relocatable block at `at`, and the block's n bytes are there
 abbrev pub held : List ℕ → ℕ → ℕ → ℕ → Bool

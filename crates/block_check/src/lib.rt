@@ -9,7 +9,7 @@ ghost use Rattle.bigendian.specs.BigEndian.{fromBE, slice};
 ghost use Rattle.format.specs.WellFormed.{typeOf, sizeOf, handleOf, isFree, isReloc, isPage, isMaster};
 ghost use Rattle.format.specs.OneWalk.{freeRule, relocRule, pageRule, ruleOf};
 ghost use Rattle.format.specs.Steps.{GoodSize, Turn};
-ghost use Rattle.block_check.specs.Word.{IsWord, held, GoodBlock};
+ghost use Rattle.block_check.specs.Word.{typeWord, IsWord, IsHeader, held, GoodBlock};
 
 // A block's word is the number in its first four bytes: of a relocatable block the type, its size in 2-byte words, the handle.
 const TYPE_UNIT: u32 = BlockType::TYPE_UNIT as u32;
@@ -149,12 +149,39 @@ pub fn word_at(z: &[u8], at: usize) -> u32
     0
 }
 
+// The word of the block at `at`, of any type.
+pub fn header_at(z: &[u8], at: usize) -> u32
+    requires { ⌜ at + smallestBlock ≤ length (now z) ⌝ }
+    ensures { λ r. ⌜ IsHeader (now (z .entry)) at r ⌝ }
+{
+    bigendian::load4(z, at)
+}
+
+// The type of a block whose word is w, and its size where it is free, and where it is not.
+pub fn type_of(w: u32) -> u8
+    ensures { λ r. ⌜ r ≡ w / typeWord ⌝ }
+{
+    (w / TYPE_WORD) as u8
+}
+
+pub fn free_size(w: u32) -> usize
+    ensures { λ r. ⌜ r ≡ w * 2 ⌝ }
+{
+    w as usize * 2
+}
+
+pub fn used_size(w: u32) -> usize
+    ensures { λ r. ⌜ r ≡ w / handleRange % typeUnit * 2 ⌝ }
+{
+    (w / BlockType::HANDLE_RANGE % TYPE_UNIT) as usize * 2
+}
+
 // The size and the handle of the relocatable block at `at`, from its word w.
 fn word_size(z: &[u8], at: usize, w: u32) -> usize
     requires { ⌜ (IsWord (now z) at w) × (typeOf (drop at (now z)) ≡ relocCode) ⌝ }
     ensures { λ r. ⌜ (r ≡ sizeOf (drop at (now (z .entry)))) × (r ≡ w / handleRange % typeUnit * 2) ⌝ }
 {
-    (w / BlockType::HANDLE_RANGE % TYPE_UNIT) as usize * 2
+    used_size(w)
 }
 
 fn word_handle(z: &[u8], at: usize, w: u32) -> usize

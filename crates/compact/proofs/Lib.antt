@@ -1,4 +1,4 @@
-pub mod Still
+pub mod Next
 pub mod Going
 pub mod Loop
 pub mod Call

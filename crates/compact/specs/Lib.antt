@@ -1,3 +1,4 @@
 pub mod Compacted
+pub mod Next
 pub mod Packed
 pub mod Ready

@@ -1,12 +1,12 @@
 // Compact: every bay, its relocatable blocks and pages at its start and one free block behind them.
+use block_type::BlockType;
+use slide::run;
+use slide::run::Run;
 ghost use mathlib.Core.Path.{_≡_};
-ghost use mathlib.Core.Bool.{cond};
-ghost use lib.Dec.{eqb};
 ghost use Prim.Native.Nat.{max};
-ghost use Rattle.bay.specs.Bay.{compactBay};
-ghost use Rattle.slide.specs.ZoneBay.{ZoneBay, bayCells, settled};
 ghost use lib.ListN.{take};
 ghost use Rattle.format.specs.WellFormed.{firstField};
+ghost use Rattle.compact.specs.Next.{goesOn, nextAfter, Ended, BayNext, BayCompacted};
 ghost use Rattle.structure.specs.Structure.{encode, decodeZone};
 ghost use Rattle.compact.specs.Compacted.{compacted, largest};
 ghost use Rattle.call_laws.specs.Frame.{Planned};
@@ -25,15 +25,56 @@ fn larger_of(a: usize, b: usize) -> usize
     a
 }
 
-// Compacts the bay from a to e, unless its free bytes are all at its end.
-fn pack(z: &mut [u8], a: usize, e: usize, sum: usize, tail: usize)
-    requires { ⌜ ZoneBay (now z) a e ⌝ }
-    ensures { λ _. ⌜ now (z .exit) ≡ cond (eqb sum tail) (now (z .entry)) (settled (now (z .entry)) a (compactBay (bayCells (now (z .entry)) a e))) ⌝ }
+// Whether a bay that has come to `at` goes on there: neither the bytes' end nor a fixed block ends it.
+fn goes_on(z: &[u8], at: usize) -> bool
+    ensures { λ r. ⌜ r ≡ goesOn (now (z .entry)) at ⌝ }
 {
-    if sum == tail {
-        return;
+    if at < z.len() {
+        if block_check::type_at(z, at) == BlockType::FIXED_CODE {
+            return false;
+        }
+        return true;
     }
-    slide::compact_bay(z, a, e);
+    false
+}
+
+// Where the next bay begins, behind a bay that ends at `at`, or one more than the bytes' number behind the last.
+fn next_after(z: &[u8], at: usize) -> usize
+    requires { ⌜ Ended (now z) at ⌝ }
+    ensures { λ r. ⌜ r ≡ nextAfter (now (z .entry)) at ⌝ }
+{
+    if at < z.len() {
+        return at + block_check::size_at(z, at);
+    }
+    at + 1
+}
+
+// A bay that has been compacted, by its sum, and where the next one begins.
+struct BayDone {
+    sum: usize,
+    next: usize,
+}
+
+// Compacts the bay that begins at a, in one walk.
+fn compact_next(z: &mut [u8], a: usize) -> BayDone
+    requires { ⌜ BayNext (now z) a ⌝ }
+    ensures { λ r. ⌜ BayCompacted (now (z .entry)) a (now (z .exit)) (r .sum) (r .next) ⌝ }
+{
+    let mut w = Run {
+        to: a,
+        from: a,
+        hole: a,
+    };
+    let mut at = a;
+    while goes_on(z, at) {
+        let n = run::cell_size(z, at);
+        w = run::pass(z, w, at, n);
+        at += n;
+    }
+    let next = next_after(z, at);
+    let end = run::close(z, w, at);
+    let sum = at - end;
+    BayDone { sum, next }
 }
 
 // Compacts every bay of a well-formed zone. The largest sum.
@@ -44,12 +85,9 @@ fn compact_all(z: &mut [u8], first: usize) -> usize
     let mut at = first;
     let mut best = 0;
     while at <= z.len() {
-        let b = bays::read_bay(z, at);
-        let end = b.end;
+        let b = compact_next(z, at);
         let sum = b.sum;
-        let tail = b.tail;
         let next = b.next;
-        pack(z, at, end, sum, tail);
         best = larger_of(best, sum);
         at = next;
     }

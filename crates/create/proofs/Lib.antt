@@ -1,3 +1,4 @@
 pub mod Number
 pub mod Place
+pub mod Room
 pub mod Made

@@ -1,89 +1,48 @@
--- The zone after a create: pages go, the new page is placed, and the zone is the one that the work on bays leaves.
+-- The zone after a create: once pages are gone and the new page is placed, it is the one that the work on bays leaves.
 use mathlib.Core.Path.{_≡_, refl, sym, ap, ap₂, _∙_, subst}
-use mathlib.Core.Bool.{Bool, true, false, not, _&&_, false≢true}
+use mathlib.Core.Bool.{Bool, true, false}
 use mathlib.Core.List.{List, _++_}
 use Prim.Native.Nat.{ℕ, _+_, _-_, _≤_}
 use native.Mathlib.Omega.{arith}
 use mir.Val.{Fits}
 use mir.Syntax.{w8, w32}
-use borrow.Author.Tests.{eq-eqb, ne-eqb, leb-true, le-ltb, not-false}
+use borrow.Author.Tests.{eq-eqb, ne-eqb, leb-true, not-false}
 use lib.Dec.{leb}
 use lib.ListN.{length, getD, take, drop, replicate}
-use Rattle.block_type.specs.Limits.{pageHeader, pageNeed, up4, clockAt, firstBlock}
-use Rattle.bigendian.specs.BigEndian.{Bytes}
+use Rattle.block_type.specs.Limits.{pageHeader, pageNeed, up4, firstBlock}
 use Rattle.format.specs.Occurs.{occurs}
-use Rattle.kinds.specs.Kinds.{Key, of-handle, of-name, keyIs, Item, is, hasName, page}
-use Rattle.bay.specs.Bay.{Cell, items, baySum, release}
+use Rattle.kinds.specs.Kinds.{hasName, page}
+use Rattle.bay.specs.Bay.{Cell, items, baySum}
 use Rattle.calls.specs.Calls.{by-name, on-page, create-page, told}
-use Rattle.calls.specs.Bays.{Bays, mapS, maxS}
-use Rattle.calls.specs.State.{Fixed, masterCount, withBays}
+use Rattle.calls.specs.Bays.{Bays, maxS}
+use Rattle.calls.specs.State.{Fixed, masterCount}
 use Rattle.calls.specs.Pages.{tick, newPage}
 use Rattle.calls.specs.Table.{below}
 use Rattle.calls.proofs.First.{or-left}
-use Rattle.structure.specs.Structure.{Block, Structure, start, len, count, placeOf, encode, decodeZone, namesIn}
+use Rattle.structure.specs.Structure.{Block, Structure, start, count, placeOf, encode, decodeZone, namesIn}
 use Rattle.structure.specs.Valid.{Valid}
-use Rattle.structure.specs.IsZone.{IsZone}
-use Rattle.structure.proofs.Sound.{valid-zone}
-use Rattle.structure.proofs.Table.{encode-zone, len-is}
-use Rattle.structure.proofs.IsZone.{whole-of, zone-of, back-of}
 use Rattle.zone.specs.Group.{flatten}
 use Rattle.zone.specs.Work.{Zone, makeRoom, placeLow, dataOffset}
 use Rattle.zone.specs.Call.{inLine, result, call, callWith}
-use Rattle.zone.proofs.GroupLaws.{flatten-group}
-use Rattle.zone.proofs.PageRelease.{mapS-none}
-use Rattle.zone.proofs.Keep.{Whole, valid-line, bays-line, many-strip}
-use Rattle.zone.proofs.Grouped.{whole-bays, work-whole, clear-whole}
+use Rattle.zone.proofs.Keep.{Whole, valid-line, many-strip}
+use Rattle.zone.proofs.Grouped.{work-whole}
 use Rattle.zone.proofs.Dropping.{room-made}
 use Rattle.zone.proofs.Passed.{passed}
 use Rattle.access.specs.Named.{placeAmong}
-use Rattle.access.proofs.Checked.{bytes-of}
 use Rattle.access.proofs.Among.{name-place}
 use Rattle.bays.specs.Places.{baysOf}
 use Rattle.room.specs.place.Fit.{blankPage}
 use Rattle.room.specs.place.Room.{Stands}
-use Rattle.turn.specs.Rank.{rank, keyBelow, goes}
+use Rattle.room.specs.declared.place.Site.{Site}
 use Rattle.turn.specs.Turn.{bayed}
 use Rattle.clear.specs.Cleared.{cleared}
 use Rattle.call_laws.specs.Frame.{Planned, refusal, ready, Does}
 use Rattle.call_laws.proofs.Frame.{frame-ready, frame-done}
 use Rattle.pages.proofs.Page.{name-alone, its-place}
 use Rattle.create.specs.Created.{created, made, RoomFor, ReadyIn, ValueBeside}
+use Rattle.create.proofs.Room.{whole-in, bays-left, left-is}
 
--- ---- pages go
-
--- no block with a handle does
-no-handle : (ck t h : ℕ) (e : Item) → is h e ≡ true → goes ck t e ≡ false
-no-handle ck t h e q = go (e .key) q
-  where
-    go : (k : Key) → keyIs h k ≡ true → keyBelow ck t k ≡ false
-    go (of-handle j) q = refl
-    go (of-name n s) q = absurd (false≢true q)
-
-none-goes : (ck t : ℕ) → t ≤ 0 → (e : Item) → goes ck t e ≡ false
-none-goes ck t l e = go (e .key)
-  where
-    go : (k : Key) → keyBelow ck t k ≡ false
-    go (of-handle h) = refl
-    go (of-name n s) = rw (le-ltb (rank ck n s) t (omega arith)) (none (s .lock))
-      where
-        none : (a : Bool) → not a && false ≡ false
-        none true = refl
-        none false = refl
-
-module _ (z : List ℕ) (i : IsZone z) where
-  pub room-done : (ck t : ℕ) → ck ≡ getD z clockAt 0 → (y : List ℕ) → y ≡ encode (cleared ck t (decodeZone z)) → y ≡ encode (cleared (decodeZone z .clock) t (decodeZone z))
-  unfolding decodeZone
-  room-done ck t e y ey = ey ∙ ap (λ (k : ℕ). encode (cleared k t (decodeZone z))) e
-
-  -- none does where the limit is 0
-  pub room-none : (t : ℕ) → t ≤ 0 → z ≡ encode (cleared (decodeZone z .clock) t (decodeZone z))
-  room-none t l =
-      let s = decodeZone z in
-      let b = whole-bays (len s) s (valid-zone z (whole-of z i)) (omega arith) in
-      let e : s .blocks ≡ cleared (s .clock) t s .blocks = sym (flatten-group (start s) (s .blocks)) ∙ ap flatten (sym (mapS-none (goes (s .clock) t) (none-goes (s .clock) t l) (baysOf s) (b .sound))) in
-      sym (encode-zone z (whole-of z i)) ∙ ap (λ (bs : List Block). encode (record { clock = s .clock; chain = s .chain; blocks = bs })) e
-
-module _ (z : List ℕ) (n c limit : ℕ) (x : ReadyIn z n c limit) where
+module _ (z : List ℕ) (n c limit : ℕ) (r : Site) (x : ReadyIn z n c limit r) where
   abbrev s : Structure
   s = decodeZone z
 
@@ -93,32 +52,30 @@ module _ (z : List ℕ) (n c limit : ℕ) (x : ReadyIn z n c limit) where
   abbrev need : ℕ
   need = pageNeed c
 
-  v : Valid s
-  v = valid-zone z (whole-of z (x .zone))
-
-  whole-u : Whole u
-  whole-u = let w = whole-of z (x .zone) in whole-bays (length z) s v (omega (arith, len-is z w, w .all))
-
   abbrev s₁ : Structure
   s₁ = cleared (s .clock) limit s
 
-  abbrev u₁ : Zone
-  u₁ = withBays (mapS (release (goes (s .clock) limit)) (u .bays)) u
+  whole-u : Whole u
+  whole-u = whole-in z (x .zone)
 
-  whole₁ : Whole u₁
-  whole₁ = clear-whole u whole-u (goes (s .clock) limit) (no-handle (s .clock) limit)
-
-  v₁ : Valid s₁
-  v₁ = valid-line u₁ whole₁
-
-  bays₁ : baysOf s₁ ≡ u₁ .bays
-  bays₁ = ap (λ (w : Zone). w .bays) (bays-line u₁ whole₁)
+  -- what is left is what the work goes on with
+  bays₁ : baysOf s₁ ≡ makeRoom need u .bays
+  bays₁ = bays-left z (x .zone) limit ∙ sym (x .gone)
 
   -- enough is free then
   enough : need ≤ maxS baySum (baysOf s₁)
   enough =
       let q : below (maxS baySum (makeRoom need u .bays)) need ≡ false = room-made need u (whole-u .apart .apart) (or-left _ _ (passed (on-page n (create-page c)) u (x .passed (length z)) 5 refl)) in
-      leb-true need (maxS baySum (baysOf s₁)) (ap (λ (b : Bays (List Cell) Fixed). leb need (maxS baySum b)) (bays₁ ∙ sym (x .gone)) ∙ not-false _ q)
+      leb-true need (maxS baySum (baysOf s₁)) (ap (λ (b : Bays (List Cell) Fixed). leb need (maxS baySum b)) bays₁ ∙ not-false _ q)
+
+  pub room-for : (k : ℕ) → k ≡ pageNeed c → RoomFor z k limit r
+  room-for k e = record {
+    zone = x .zone;
+    page = record { size = record { low = omega (arith, x .small); high = omega (arith, x .small); four = omega arith }; header = omega arith };
+    there = λ f. rw e (x .there f);
+    stay = x .stay;
+    enough = rw e enough;
+  }
 
   -- what the work leaves
   abbrev left : Zone
@@ -136,24 +93,13 @@ module _ (z : List ℕ) (n c limit : ℕ) (x : ReadyIn z n c limit) where
 
   created-is : created need n s₁ ≡ inLine left
   created-is =
-      (λ j. record { clock = tick (s .clock); chain = s .chain; blocks = flatten (placeLow (same-page (tick (s .clock)) j) ((bays₁ ∙ sym (x .gone)) j)) })
+      (λ j. record { clock = tick (s .clock); chain = s .chain; blocks = flatten (placeLow (same-page (tick (s .clock)) j) (bays₁ j)) })
 
   -- ---- the bytes
 
-  module _ (z₁ : List ℕ) (e₁ : z₁ ≡ encode (cleared (decodeZone z .clock) limit (decodeZone z))) (g₁ : (j : ℕ) → Fits w8 (getD z₁ j 0)) where
-    zone₁ : IsZone z₁
-    zone₁ = subst IsZone (sym e₁) (zone-of s₁ v₁ (subst Bytes e₁ (bytes-of z₁ g₁)))
-
+  module _ (z₁ : List ℕ) (e₁ : z₁ ≡ encode (cleared (decodeZone z .clock) limit (decodeZone z))) where
     back₁ : decodeZone z₁ ≡ s₁
-    back₁ = ap decodeZone e₁ ∙ back-of s₁ v₁
-
-    pub room-for : (k : ℕ) → k ≡ pageNeed c → RoomFor z₁ k
-    room-for k e = record {
-      zone = zone₁;
-      size = record { low = omega (arith, x .small); high = omega (arith, x .small); four = omega arith };
-      header = omega arith;
-      enough = rw (e, back₁) enough;
-    }
+    back₁ = left-is z (x .zone) limit z₁ e₁
 
     module _ (k : ℕ) (ek : k ≡ pageNeed c) (z₂ : List ℕ) (e₂ : z₂ ≡ encode (created k n (decodeZone z₁))) where
       pub made-bytes : z₂ ≡ encode (inLine (made n c z))
@@ -174,15 +120,15 @@ module _ (z : List ℕ) (n c limit : ℕ) (x : ReadyIn z n c limit) where
 
 -- ---- the call
 
-module _ (s : List ℕ) (n c number value l limit : ℕ) (p : Planned (on-page n (create-page c)) s number l (ReadyIn (take l s) n c limit)) where
-  pub create-ready : number ≡ 0 → ReadyIn (take l s) n c limit
+module _ (s : List ℕ) (n c number value l limit : ℕ) (r : Site) (p : Planned (on-page n (create-page c)) s number l (ReadyIn (take l s) n c limit r)) where
+  pub create-ready : number ≡ 0 → ReadyIn (take l s) n c limit r
   create-ready q = frame-ready (on-page n (create-page c)) s number l _ p q
 
   -- refused, with the value beside the number
   pub create-no : ValueBeside s n c number value → (number ≡ 0 → ⊥) → result (told number value) s ≡ call (on-page n (create-page c)) s
   create-no b ne = go p
     where
-      go : Planned (on-page n (create-page c)) s number l (ReadyIn (take l s) n c limit) → result (told number value) s ≡ call (on-page n (create-page c)) s
+      go : Planned (on-page n (create-page c)) s number l (ReadyIn (take l s) n c limit r) → result (told number value) s ≡ call (on-page n (create-page c)) s
       go (refusal q k) = ap (λ (v : ℕ). result (told number v) s) (b .value-is) ∙ sym (ap (λ (j : ℕ). callWith j (on-page n (create-page c)) s) k ∙ rw (ne-eqb number 0 ne))
       go (ready k w e f r) = absurd (ne k)
 

@@ -8,21 +8,27 @@ use mir.Val.{Fits}
 use mir.Syntax.{w32}
 use lib.Dec.{leb}
 use lib.ListN.{length, take}
-use borrow.Author.Tests.{ne-eqb, le-leb, lt-leb, not-false}
+use borrow.Author.Tests.{ne-eqb, le-leb, lt-leb, leb-true, leb-false, not-false}
 use Rattle.block_type.specs.Limits.{pageLimit, pageNeed}
 use Rattle.format.specs.WellFormed.{wellFormed, lengthField}
-use Rattle.structure.specs.Structure.{decode}
+use Rattle.format.proofs.Bool.{not-both}
+use Rattle.structure.specs.Structure.{decode, decodeZone}
 use Rattle.structure.specs.IsZone.{IsZone}
+use Rattle.calls.specs.Bays.{maxS}
 use Rattle.calls.specs.Calls.{by-name, on-page, create-page}
 use Rattle.calls.specs.Table.{isNone, refusalOf, refusalValue}
 use Rattle.calls.proofs.Order.{create-number}
+use Rattle.bay.specs.Bay.{baySum}
 use Rattle.zone.specs.Work.{facts}
 use Rattle.zone.specs.Call.{zoneIn}
 use Rattle.access.specs.locate.Locate.{targetPlace}
+use Rattle.bays.specs.Places.{baysOf}
+use Rattle.room.specs.declared.place.Site.{Site}
 use Rattle.call_laws.specs.Frame.{zoneAt, PlannedIn, refuses, goes}
 use Rattle.turn.specs.Turn.{turnNumber, turnName, bayed, InTurn}
+use Rattle.turn.proofs.search.Found.{turn-free}
 use Rattle.pages.proofs.Page.{page-absent, page-present}
-use Rattle.create.specs.Created.{ReadyIn, ValueBeside, ValueBesideIn}
+use Rattle.create.specs.Created.{Searched, ReadyIn, ValueBeside, ValueBesideIn}
 
 -- ---- in a well-formed zone
 
@@ -45,28 +51,52 @@ module _ (z : List ℕ) (n c : ℕ) where
   pub value-3 : (number value : ℕ) → number ≡ 3 → value ≡ 0 → ValueBesideIn z n c number value
   value-3 number value q e = no-value number value e (λ k. omega arith)
 
-  module _ (i : IsZone z) (place : ℕ) (e : place ≡ targetPlace (by-name n) z) (gone : place ≡ 0) (l : c ≤ pageLimit) (need : ℕ) (en : need ≡ pageNeed c) (number name limit : ℕ) (t : InTurn z need number name limit) where
-    -- 5, 12 or none
-    number-is : (buf : ℕ) → refusalOf (on-page n (create-page c)) (facts true (zoneAt buf z)) ≡ number
-    number-is buf =
-        create-number n c (facts true (zoneAt buf z)) refl ∙ (rw (page-absent z n (sym e ∙ gone), le-leb c pageLimit l))
-        ∙ turned (leb (pageNeed c) ((facts true (bayed z)) .largestEmptied)) (isNone ((facts true (bayed z)) .stop (pageNeed c)))
-        ∙ sym (t .number-is ∙ ap (λ (k : ℕ). turnNumber k (facts true (bayed z))) en)
-      where
-        turned : (e s : Bool) → _≡_ {A = ℕ} (cond e (cond s 0 12) 5) (cond (not e) 5 (cond (not s) 12 0))
-        turned true true = refl
-        turned true false = refl
-        turned false s = refl
+  module _ (i : IsZone z) (place : ℕ) (e : place ≡ targetPlace (by-name n) z) (gone : place ≡ 0) (l : c ≤ pageLimit) (need : ℕ) (en : need ≡ pageNeed c) (r : Site) (q : Searched z need r) where
+    module _ (number name limit : ℕ) (stay : r .found ≡ true → limit ≡ 0) (t : InTurn z need number name limit) where
+      -- 5, 12 or none
+      number-is : (buf : ℕ) → refusalOf (on-page n (create-page c)) (facts true (zoneAt buf z)) ≡ number
+      number-is buf =
+          create-number n c (facts true (zoneAt buf z)) refl ∙ (rw (page-absent z n (sym e ∙ gone), le-leb c pageLimit l))
+          ∙ turned (leb (pageNeed c) ((facts true (bayed z)) .largestEmptied)) (isNone ((facts true (bayed z)) .stop (pageNeed c)))
+          ∙ sym (t .number-is ∙ ap (λ (k : ℕ). turnNumber k (facts true (bayed z))) en)
+        where
+          turned : (e s : Bool) → _≡_ {A = ℕ} (cond e (cond s 0 12) 5) (cond (not e) 5 (cond (not s) 12 0))
+          turned true true = refl
+          turned true false = refl
+          turned false s = refl
 
-    pub in-turn : Fits w32 n → PlannedIn (on-page n (create-page c)) z number (ReadyIn z n c limit)
-    in-turn f = go number refl
-      where
-        go : (k : ℕ) → number ≡ k → PlannedIn (on-page n (create-page c)) z number (ReadyIn z n c limit)
-        go zero q = goes q (record { zone = i; name = omega (arith, f .fits); small = l; passed = λ buf. number-is buf ∙ q; gone = rw en at (t .gone q) })
-        go (suc k) q = refuses (record { some = λ y. omega arith; is = number-is })
+      planned : Fits w32 n → PlannedIn (on-page n (create-page c)) z number (ReadyIn z n c limit r)
+      planned f = go number refl
+        where
+          go : (k : ℕ) → number ≡ k → PlannedIn (on-page n (create-page c)) z number (ReadyIn z n c limit r)
+          go zero k = goes k (record { zone = i; name = omega (arith, f .fits); small = l; passed = λ buf. number-is buf ∙ k; gone = rw en at (t .gone k); there = λ h. rw en at (q .lowest h); stay = stay })
+          go (suc m) k = refuses (record { some = λ y. omega arith; is = number-is })
 
-    pub value-turn : ValueBesideIn z n c number name
-    value-turn = record { value-is = λ buf. t .name-is ∙ ap (λ (k : ℕ). turnName number k (facts true (bayed z))) en }
+      value-is : ValueBesideIn z n c number name
+      value-is = record { value-is = λ buf. t .name-is ∙ ap (λ (k : ℕ). turnName number k (facts true (bayed z))) en }
+
+    -- there is room
+    module _ (h : r .found ≡ true) where
+      free : InTurn z need 0 0 0
+      free = turn-free z need i (leb-true need _ (q .reach ∙ h))
+
+      pub in-room : Fits w32 n → PlannedIn (on-page n (create-page c)) z 0 (ReadyIn z n c 0 r)
+      in-room = planned 0 0 0 (λ y. refl) free
+
+      pub value-room : ValueBesideIn z n c 0 0
+      value-room = value-is 0 0 0 (λ y. refl) free
+
+    -- there is none
+    module _ (h : r .found ≡ false) where
+      pub no-room : maxS baySum (baysOf (decodeZone z)) < need
+      no-room = leb-false need _ (q .reach ∙ h)
+
+      module _ (number name limit : ℕ) (t : InTurn z need number name limit) where
+        pub in-turn : Fits w32 n → PlannedIn (on-page n (create-page c)) z number (ReadyIn z n c limit r)
+        in-turn = planned number name limit (λ y. absurd (not-both y h)) t
+
+        pub value-turn : ValueBesideIn z n c number name
+        value-turn = value-is number name limit (λ y. absurd (not-both y h)) t
 
 -- ---- in any buffer
 

@@ -6,12 +6,12 @@ use pages::status;
 use room::place;
 use turn::search;
 ghost use mathlib.Core.Path.{_≡_};
-ghost use mathlib.Core.Bool.{true};
 ghost use mathlib.Core.List.{[], _∷_};
 ghost use Prim.Native.Nat.{_-_, _<_, _≤_};
 ghost use lib.ListN.{length, take};
 ghost use Rattle.block_type.specs.Limits.{pageHeader, pageLimit, pageNeed, clockAt};
 ghost use Rattle.bigendian.specs.BigEndian.{overwrite};
+ghost use Rattle.format.specs.WellFormed.{clockField};
 ghost use Rattle.bay.specs.Bay.{held, gap};
 ghost use Rattle.bay.specs.Sound.{bytesOf};
 ghost use Rattle.structure.specs.Structure.{encode, decodeZone};
@@ -21,29 +21,39 @@ ghost use Rattle.calls.specs.Pages.{tick};
 ghost use Rattle.zone.specs.Work.{dataOffset};
 ghost use Rattle.zone.specs.Call.{inLine, result, call};
 ghost use Rattle.room.specs.place.Fit.{blankPage, Fit};
-ghost use Rattle.room.specs.place.Room.{LowestRoom, Stands};
+ghost use Rattle.room.specs.place.Room.{Stands};
 ghost use Rattle.zone_check.specs.Sought.{pageIn};
 ghost use Rattle.call_laws.specs.Frame.{PlannedIn, Planned};
 ghost use Rattle.clear.specs.Cleared.{cleared};
-ghost use Rattle.create.specs.Created.{created, made, RoomFor, SiteFor, ReadyIn, ValueBeside, ValueBesideIn};
+ghost use Rattle.create.specs.Created.{created, made, Searched, SiteFor, RoomFor, ReadyIn, ValueBeside, ValueBesideIn};
 
-// The refusal, 0 for none, with the name beside a 12; or the zone's length, and the limit below which pages go.
+// The refusal, 0 for none, with the name beside a 12; or the zone's length, the limit below which pages go, and the site, which is found where none has to.
 struct CreatePlan {
     number: u32,
     value: u32,
     len: usize,
     limit: u64,
+    site: place::Site,
 }
 
 // The plan of a call that is refused.
 fn no_plan(number: u32) -> CreatePlan
-    ensures { λ r. ⌜ (r .number ≡ number) × (r .value ≡ 0) × (r .len ≡ 0) × (r .limit ≡ 0) ⌝ }
+    ensures { λ r. ⌜ (r .number ≡ number) × (r .value ≡ 0) ⌝ }
 {
+    let site = place::Site {
+        found: false,
+        start: 0,
+        end: 0,
+        at: 0,
+        size: 0,
+        tidy: false,
+    };
     CreatePlan {
         number,
         value: 0,
         len: 0,
         limit: 0,
+        site,
     }
 }
 
@@ -55,10 +65,19 @@ fn need_of(c: u32) -> usize
     (BlockType::PAGE_HEADER + c as usize + 3) / 4 * 4
 }
 
+// The lowest bay that has room for need bytes, and where.
+fn find_site(z: &[u8], need: usize) -> place::Site
+    requires { ⌜ IsZone (now z) × (0 < need) ⌝ }
+    ensures { λ r. ⌜ Searched (now (z .entry)) need r ⌝ }
+{
+    let first = bigendian::get4(z, block_type::FIRST_AT) as usize;
+    place::find_room(z, first, need)
+}
+
 // The plan in a well-formed zone, in which a page of that name starts at `page`, 0 for none.
 fn plan_in(z: &[u8], name: u32, page: usize, c: u32) -> CreatePlan
     requires { ⌜ (IsZone (now z)) × (page ≡ pageIn name (now z)) ⌝ }
-    ensures { λ r. ⌜ PlannedIn (on-page name (create-page c)) (now (z .entry)) (r .number) (ReadyIn (now (z .entry)) name c (r .limit)) × ValueBesideIn (now (z .entry)) name c (r .number) (r .value) ⌝ }
+    ensures { λ r. ⌜ PlannedIn (on-page name (create-page c)) (now (z .entry)) (r .number) (ReadyIn (now (z .entry)) name c (r .limit) (r .site)) × ValueBesideIn (now (z .entry)) name c (r .number) (r .value) ⌝ }
 {
     let old = locate::by_page(z, name, page);
     let place = old.at;
@@ -69,6 +88,18 @@ fn plan_in(z: &[u8], name: u32, page: usize, c: u32) -> CreatePlan
         return no_plan(3);
     }
     let need = need_of(c);
+    // mostly there is room, and no page has to go
+    let site = find_site(z, need);
+    let found = site.found;
+    if found {
+        return CreatePlan {
+            number: 0,
+            value: 0,
+            len: 0,
+            limit: 0,
+            site,
+        };
+    }
     let t = search::find_turn(z, need);
     let number = t.number;
     let value = t.name;
@@ -78,12 +109,13 @@ fn plan_in(z: &[u8], name: u32, page: usize, c: u32) -> CreatePlan
         value,
         len: 0,
         limit,
+        site,
     }
 }
 
 // The plan in any buffer.
 fn plan(zone: &[u8], name: u32, c: u32) -> CreatePlan
-    ensures { λ r. ⌜ Planned (on-page name (create-page c)) (now (zone .entry)) (r .number) (r .len) (ReadyIn (take (r .len) (now (zone .entry))) name c (r .limit)) × ValueBeside (now (zone .entry)) name c (r .number) (r .value) ⌝ }
+    ensures { λ r. ⌜ Planned (on-page name (create-page c)) (now (zone .entry)) (r .number) (r .len) (ReadyIn (take (r .len) (now (zone .entry))) name c (r .limit) (r .site)) × ValueBeside (now (zone .entry)) name c (r .number) (r .value) ⌝ }
 {
     let k = zone_check::check_for(zone, name);
     let ok = k.ok;
@@ -95,24 +127,37 @@ fn plan(zone: &[u8], name: u32, c: u32) -> CreatePlan
     let number = p.number;
     let value = p.value;
     let limit = p.limit;
+    let site = p.site;
     CreatePlan {
         number,
         value,
         len: l,
         limit,
+        site,
     }
 }
 
-// The pages of rank below the limit go: none where it is 0.
-fn make_room(z: &mut [u8], limit: u64)
+// The unlocked pages of rank below the limit go.
+fn clear_pages(z: &mut [u8], limit: u64)
     requires { ⌜ IsZone (now z) ⌝ }
     ensures { λ _. ⌜ now (z .exit) ≡ encode (cleared (decodeZone (now (z .entry)) .clock) limit (decodeZone (now (z .entry)))) ⌝ }
 {
-    if 0 < limit {
-        let first = bigendian::get4(z, block_type::FIRST_AT) as usize;
-        let clock = z[block_type::CLOCK_AT];
-        clear::clear(z, first, clock, limit);
+    let first = bigendian::get4(z, block_type::FIRST_AT) as usize;
+    let clock = z[block_type::CLOCK_AT];
+    clear::clear(z, first, clock, limit);
+}
+
+// Where the page goes: to the site, where it was found, else to where there is room once the pages of rank below the limit are gone.
+fn make_room(z: &mut [u8], need: usize, limit: u64, r: place::Site) -> place::Site
+    requires { ⌜ RoomFor (now z) need limit r ⌝ }
+    ensures { λ s. ⌜ (now (z .exit) ≡ encode (cleared (decodeZone (now (z .entry)) .clock) limit (decodeZone (now (z .entry))))) × SiteFor (now (z .exit)) need s ⌝ }
+{
+    let found = r.found;
+    if found {
+        return r;
     }
+    clear_pages(z, limit);
+    find_site(z, need)
 }
 
 // The page's bytes in the free block of n bytes at `at`, and the clock, which is its stamp.
@@ -124,9 +169,9 @@ fn carve(z: &mut [u8], at: usize, n: usize, need: usize, name: u32, stamp: u8)
     z[block_type::CLOCK_AT] = stamp;
 }
 
-// The page in the room that has been found: in a bay that is compacted first where no free block is big enough.
+// The page at the site r: in a bay that is compacted first where no free block is big enough.
 fn place_in(z: &mut [u8], need: usize, name: u32, stamp: u8, r: place::Site)
-    requires { ⌜ SiteFor (now z) need stamp (r .start) (r .end) (r .at) (r .size) (r .tidy) ⌝ }
+    requires { ⌜ SiteFor (now z) need r × (stamp ≡ tick (clockField (now z))) ⌝ }
     ensures { λ _. ⌜ now (z .exit) ≡ encode (created need name (decodeZone (now (z .entry)))) ⌝ }
 {
     if r.tidy {
@@ -137,34 +182,25 @@ fn place_in(z: &mut [u8], need: usize, name: u32, stamp: u8, r: place::Site)
     }
 }
 
-// The lowest bay that has room for it, and where.
-fn find_site(z: &[u8], need: usize) -> place::Site
-    requires { ⌜ RoomFor (now z) need ⌝ }
-    ensures { λ r. ⌜ LowestRoom (now (z .entry)) need (r .start) (r .end) (r .at) (r .size) (r .tidy) × (r .found ≡ true) ⌝ }
-{
-    let first = bigendian::get4(z, block_type::FIRST_AT) as usize;
-    place::find_room(z, first, need)
-}
-
-// The new page in the lowest bay that has room; the clock steps. Answers the data offset.
-fn place_page(z: &mut [u8], need: usize, name: u32) -> u32
-    requires { ⌜ RoomFor (now z) need ⌝ }
-    ensures { λ r. ⌜ Stands (blankPage need name (tick (decodeZone (now (z .entry)) .clock))) (created need name (decodeZone (now (z .entry)))) r × (now (z .exit) ≡ encode (created need name (decodeZone (now (z .entry))))) ⌝ }
+// The new page at the site r; the clock steps. Answers the data offset.
+fn place_page(z: &mut [u8], need: usize, name: u32, r: place::Site) -> u32
+    requires { ⌜ SiteFor (now z) need r ⌝ }
+    ensures { λ v. ⌜ Stands (blankPage need name (tick (decodeZone (now (z .entry)) .clock))) (created need name (decodeZone (now (z .entry)))) v × (now (z .exit) ≡ encode (created need name (decodeZone (now (z .entry))))) ⌝ }
 {
     let stamp = status::next_clock(z);
-    let r = find_site(z, need);
+    let at = r.at;
     place_in(z, need, name, stamp, r);
-    (r.at + BlockType::PAGE_HEADER) as u32
+    (at + BlockType::PAGE_HEADER) as u32
 }
 
 // What the plan says, in the zone's bytes. Answers the data offset.
-fn create_in(z: &mut [u8], name: u32, c: u32, limit: u64) -> u32
-    requires { ⌜ ReadyIn (now z) name c limit ⌝ }
-    ensures { λ r. ⌜ (r ≡ dataOffset name (made name c (now (z .entry)))) × (now (z .exit) ≡ encode (inLine (made name c (now (z .entry))))) ⌝ }
+fn create_in(z: &mut [u8], name: u32, c: u32, limit: u64, r: place::Site) -> u32
+    requires { ⌜ ReadyIn (now z) name c limit r ⌝ }
+    ensures { λ v. ⌜ (v ≡ dataOffset name (made name c (now (z .entry)))) × (now (z .exit) ≡ encode (inLine (made name c (now (z .entry))))) ⌝ }
 {
-    make_room(z, limit);
     let need = need_of(c);
-    place_page(z, need, name)
+    let s = make_room(z, need, limit, r);
+    place_page(z, need, name, s)
 }
 
 // A new page of c data bytes. Answers the refusal number, 0 if done, and the data offset, or beside 12 the name of the dirty page that would have had to go.
@@ -176,8 +212,9 @@ pub fn create_page(zone: &mut [u8], name: u32, c: u32) -> Told
     let value = p.value;
     let l = p.len;
     let limit = p.limit;
+    let site = p.site;
     if number == 0 {
-        let place = create_in(&mut zone[..l], name, c, limit);
+        let place = create_in(&mut zone[..l], name, c, limit, site);
         return Told {
             number: 0,
             value: place,

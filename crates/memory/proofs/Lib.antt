@@ -1,3 +1,4 @@
 pub mod Copy
 pub mod Slide
+pub mod Words
 pub mod Writes

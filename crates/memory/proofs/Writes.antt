@@ -3,10 +3,11 @@
 use mathlib.Core.Path.{_≡_, refl, sym, ap, _∙_}
 use mathlib.Core.List.{List, [], _∷_, _++_}
 use mathlib.Core.Bool.{Bool, false, _&&_, and-assoc, and-true}
-use Prim.Native.Nat.{ℕ, zero, suc, _+_, _-_, _<_, _≤_, max}
+use Prim.Native.Nat.{ℕ, zero, suc, _+_, _-_, _<_, _≤_}
 use native.Mathlib.Numerals.{add-one}
 use native.Mathlib.Omega.{arith}
 use lib.Dec.{eqb}
+use lib.Bits.{bitOr, or-zero-l, or-add-and, and-le-r}
 use borrow.Author.Tests.{eq-eqb, ne-eqb}
 use lib.ListN.{length, getD, set, replicate}
 use lib.Seq.{drop-cons, take-suc-set, drop-set-lt, append-snoc}
@@ -21,40 +22,32 @@ cut-step s i to h k =
     let h′ : i < length s = omega arith in
     rw (e, drop-cons s i 0, add-one)
 
--- ---- zeros; most: the largest byte so far
+-- ---- zeros; all: the bits so far
 
-zero-more : (most next x : ℕ) (xs rest : List ℕ) (whole : Bool) → next ≡ max most x → xs ≡ x ∷ rest → eqb most 0 && allZero xs ≡ whole → eqb next 0 && allZero rest ≡ whole
+pub or-zero : (a b : ℕ) → eqb (bitOr a b) 0 ≡ eqb a 0 && eqb b 0
+or-zero zero b = rw (or-zero-l b)
+or-zero (suc a) b =
+    let s = or-add-and (suc a) b in
+    let l = and-le-r (suc a) b in
+    rw (ne-eqb (bitOr (suc a) b) 0 (λ e. omega arith), ne-eqb (suc a) 0 (λ e. omega arith))
+
+pub bits-step : (s : List ℕ) (i to all : ℕ) (whole : Bool) → i < to → to ≤ length s
+    → eqb all 0 && allZero (slice s i (to - i)) ≡ whole → eqb (bitOr all (getD s i 0)) 0 && allZero (slice s (i + 1) (to - (i + 1))) ≡ whole
 unfolding allZero
-zero-more most next x xs rest whole e q inv =
-    ap (_&& allZero rest) (ap (λ (n : ℕ). eqb n 0) e ∙ both most x) ∙ and-assoc (eqb most 0) (eqb x 0) (allZero rest) ∙ (rw q at inv)
-  where
-    both : (a b : ℕ) → eqb (max a b) 0 ≡ eqb a 0 && eqb b 0
-    both zero b = let e : max 0 b ≡ b = omega arith in rw e
-    both (suc a) b = (rw (ne-eqb (max (suc a) b) 0 (λ e. omega arith), ne-eqb (suc a) 0 (λ e. omega arith)))
+bits-step s i to all whole h k inv =
+    ap (_&& allZero (slice s (i + 1) (to - (i + 1)))) (or-zero all (getD s i 0))
+    ∙ and-assoc (eqb all 0) (eqb (getD s i 0) 0) (allZero (slice s (i + 1) (to - (i + 1))))
+    ∙ (rw (cut-step s i to h k) at inv)
 
-pub zero-step : (s : List ℕ) (i to most next : ℕ) (whole : Bool) → next ≡ max most (getD s i 0) → i < to → to ≤ length s
-    → eqb most 0 && allZero (slice s i (to - i)) ≡ whole → eqb next 0 && allZero (slice s (i + 1) (to - (i + 1))) ≡ whole
-zero-step s i to most next whole e h k = zero-more most next (getD s i 0) (slice s i (to - i)) (slice s (i + 1) (to - (i + 1))) whole e (cut-step s i to h k)
-
--- the same for n bytes from a place on
-pub zero-step-from : (s : List ℕ) (from i n most next : ℕ) (whole : Bool) → next ≡ max most (getD s (from + i) 0) → i < n → from + n ≤ length s
-    → eqb most 0 && allZero (slice s (from + i) (n - i)) ≡ whole → eqb next 0 && allZero (slice s (from + (i + 1)) (n - (i + 1))) ≡ whole
-zero-step-from s from i n most next whole e h k =
-    let e₁ : from + n - (from + i) ≡ n - i = omega arith in
-    let e₂ : from + n - (from + i + 1) ≡ n - (i + 1) = omega arith in
-    let e₃ : from + i + 1 ≡ from + (i + 1) = omega arith in
-    zero-more most next (getD s (from + i) 0) (slice s (from + i) (n - i)) (slice s (from + (i + 1)) (n - (i + 1))) whole e
-    (rw (e₁, e₂, e₃) at (cut-step s (from + i) (from + n) (omega arith) k))
-
-pub zero-done : (s : List ℕ) (at i n most : ℕ) (whole : Bool) → n ≤ i → eqb most 0 && allZero (slice s at (n - i)) ≡ whole → eqb most 0 ≡ whole
+pub zero-done : (s : List ℕ) (at i n all : ℕ) (whole : Bool) → n ≤ i → eqb all 0 && allZero (slice s at (n - i)) ≡ whole → eqb all 0 ≡ whole
 unfolding allZero
-zero-done s at i n most whole h inv =
+zero-done s at i n all whole h inv =
     let e : n - i ≡ 0 = omega arith in
-    sym (and-true (eqb most 0)) ∙ (rw e at inv)
+    sym (and-true (eqb all 0)) ∙ (rw e at inv)
 
--- ---- zeros of a part and of the rest; most: the largest byte of the part
+-- ---- zeros of a part and of the rest; most: what is 0 where the part is
 
-zeros-append : (a b : List ℕ) → allZero (a ++ b) ≡ allZero a && allZero b
+pub zeros-append : (a b : List ℕ) → allZero (a ++ b) ≡ allZero a && allZero b
 unfolding allZero
 zeros-append [] b = refl
 zeros-append (x ∷ xs) b = ap (eqb x 0 &&_) (zeros-append xs b) ∙ sym (and-assoc (eqb x 0) (allZero xs) (allZero b))

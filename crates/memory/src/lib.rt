@@ -1,61 +1,80 @@
 // Work on many bytes: a test for zeros, a fill, a copy, slides in place.
 ghost use mathlib.Core.Path.{_≡_};
-ghost use Prim.Native.Nat.{_+_, _-_, _<_, _≤_, max};
+ghost use Prim.Native.Nat.{_+_, _-_, _<_, _≤_};
 ghost use lib.ListN.{length, replicate};
 ghost use lib.Dec.{eqb};
 ghost use Rattle.bigendian.specs.BigEndian.{slice, overwrite};
 ghost use Rattle.memory.specs.Zeros.{allZero};
 
-fn larger(a: u8, b: u8) -> u8
-    ensures { λ r. ⌜ r ≡ max a b ⌝ }
-{
-    if a < b {
-        return b;
-    }
-    a
-}
-
-// The largest of the bytes from `from` up to `to`. There is no early exit, so the loop is compiled to wide loads.
-fn largest(s: &[u8], from: usize, to: usize) -> u8
+// The bits of the bytes from `from` up to `to`, all in one byte.
+fn bits(s: &[u8], from: usize, to: usize) -> u8
     requires { ⌜ (from ≤ to) × (to ≤ length (now s)) ⌝ }
     ensures { λ r. ⌜ eqb r 0 ≡ allZero (slice (now (s .entry)) from (to - from)) ⌝ }
 {
-    let mut most = 0;
+    let mut all = 0;
     let mut i = from;
     while i < to {
-        most = larger(most, s[i]);
+        all = all | s[i];
         i += 1;
     }
-    most
+    all
 }
 
-// The largest of the 1024 bytes from `from` on: a loop of a known length, which is compiled without a branch.
-fn largest_of_1024(s: &[u8], from: usize) -> u8
+fn wide(x: u8) -> u32
+    ensures { λ r. ⌜ (r ≡ x) × (r < 256) ⌝ }
+{
+    x as u32
+}
+
+// Four bytes as a number, low byte first: so the compiler sees one load where a processor has it.
+fn word(s: &[u8], at: usize) -> u32
+    requires { ⌜ at + 4 ≤ length (now s) ⌝ }
+    ensures { λ r. ⌜ eqb r 0 ≡ allZero (slice (now (s .entry)) at 4) ⌝ }
+{
+    wide(s[at + 3]) * 16777216 + wide(s[at + 2]) * 65536 + wide(s[at + 1]) * 256 + wide(s[at])
+}
+
+fn wider(x: u32) -> u64
+    ensures { λ r. ⌜ (r ≡ x) × (r < 4294967296) ⌝ }
+{
+    x as u64
+}
+
+// Eight bytes as a number, likewise.
+fn double_word(s: &[u8], at: usize) -> u64
+    requires { ⌜ at + 8 ≤ length (now s) ⌝ }
+    ensures { λ r. ⌜ eqb r 0 ≡ allZero (slice (now (s .entry)) at 8) ⌝ }
+{
+    wider(word(s, at + 4)) * 4294967296 + wider(word(s, at))
+}
+
+// The bits of the 1024 bytes from `from` on, all in one number. The loop has a known length and no early exit: it is compiled to wide loads without a branch.
+fn bits_of_1024(s: &[u8], from: usize) -> u64
     requires { ⌜ from + 1024 ≤ length (now s) ⌝ }
     ensures { λ r. ⌜ eqb r 0 ≡ allZero (slice (now (s .entry)) from 1024) ⌝ }
 {
-    let mut most = 0;
+    let mut all = 0;
     let mut i = 0;
-    while i < 1024 {
-        most = larger(most, s[from + i]);
+    while i < 128 {
+        all = all | double_word(s, from + 8 * i);
         i += 1;
     }
-    most
+    all
 }
 
-// Whether every byte from `from` up to `to` is 0: whether the largest of each 1024 is, and of the rest.
+// Whether every byte from `from` up to `to` is 0: whether each 1024 have no bit, and the rest.
 pub fn all_zero(s: &[u8], from: usize, to: usize) -> bool
     requires { ⌜ (from ≤ to) × (to ≤ length (now s)) ⌝ }
     ensures { λ r. ⌜ r ≡ allZero (slice (now (s .entry)) from (to - from)) ⌝ }
 {
     let mut at = from;
     while 1024 <= to - at {
-        if largest_of_1024(s, at) != 0 {
+        if bits_of_1024(s, at) != 0 {
             return false;
         }
         at += 1024;
     }
-    largest(s, at, to) == 0
+    bits(s, at, to) == 0
 }
 
 // Sets the bytes from `from` up to `to` to 0.

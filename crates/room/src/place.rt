@@ -64,23 +64,28 @@ fn read_room(z: &[u8], p: usize, need: usize) -> RoomRead
     let mut at = p;
     let mut sum = 0;
     while at < z.len() {
-        let n = row::step(z, at);
-        let k = block_check::type_at(z, at);
-        if k == BlockType::FIXED_CODE {
-            return RoomRead {
-                end: at,
-                sum,
-                next: at + n,
-                found: best.found,
-                at: best.at,
-                size: best.size,
-            };
+        let w = row::word(z, at);
+        let k = block_check::type_of(w);
+        // neither free nor fixed, as most blocks are
+        if BlockType::FIXED_CODE < k {
+            at += row::step_used(z, at, w);
+        } else {
+            if k == BlockType::FIXED_CODE {
+                let n = row::step_used(z, at, w);
+                return RoomRead {
+                    end: at,
+                    sum,
+                    next: at + n,
+                    found: best.found,
+                    at: best.at,
+                    size: best.size,
+                };
+            }
+            let n = row::step_free(z, at, w);
+            best = tighter(best, need, n, at);
+            sum += n;
+            at += n;
         }
-        // 0 for a block that is not free: less than any need
-        let free = bays::free_part(k, n);
-        best = tighter(best, need, free, at);
-        sum += free;
-        at += n;
     }
     RoomRead {
         end: at,

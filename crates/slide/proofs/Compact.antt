@@ -1,17 +1,14 @@
--- A bay compacted in the bytes of a zone.
-use mathlib.Core.Path.{_≡_, _∙_}
-use mathlib.Core.List.{List, [], _∷_, _++_}
+-- What compaction keeps of a bay: sound cells, their size, and masters that lie low.
+use mathlib.Core.Path.{_∙_}
+use mathlib.Core.List.{List, [], _∷_}
 use Prim.Native.Nat.{ℕ, zero, suc, _-_, _≤_}
 use native.Mathlib.Omega.{arith}
-use lib.ListN.{take, drop}
 use Rattle.block_type.specs.Limits.{masterSize, longestZone}
 use Rattle.bay.specs.Bay.{Cell, free, held, baySum, items, gap, packed, compactBay}
-use Rattle.bay.specs.Sound.{cellsOf, IsBay}
 use Rattle.bay.proofs.Laws.{tidy-size}
 use Rattle.bay.proofs.SoundLaws.{compact-sound}
-use Rattle.slide.specs.Slide.{Compacted}
-use Rattle.slide.specs.ZoneBay.{setAll, Low, IsLow, partOf, bayCells, ZoneBay, settled}
-use Rattle.slide.proofs.Change.{Kept, kept-now, change-bay, change-low, change-done}
+use Rattle.slide.specs.ZoneBay.{Low}
+use Rattle.slide.proofs.Change.{Kept}
 
 pub gap-low : (lim n : ℕ) (cs : List Cell) → masterSize ≤ lim → Low lim cs → Low lim (gap n cs)
 gap-low lim zero cs l x = x
@@ -34,16 +31,3 @@ compact-keeps a n cs l k = record {
     rest : (ds : List Cell) → Low a ds → Low a (gap (baySum ds) [])
     rest [] x = tt
     rest (c ∷ ds) x = gap-low a (baySum (c ∷ ds)) [] (omega (arith, x .0)) tt
-
-module _ (z y : List ℕ) (a e to : ℕ) (b : ZoneBay z a e) (g : Compacted (partOf z a e) y to) where
-  abbrev kc : Kept a (e - a) (compactBay (bayCells z a e))
-  kc = compact-keeps a (e - a) (bayCells z a e) (omega (arith, b .inside, b .short)) (kept-now z a e b)
-
-  pub compact-bay-in : IsBay (drop a (take e (take a z ++ (y ++ drop (e - a) (drop a z)))))
-  compact-bay-in = change-bay z y a e (compactBay (bayCells z a e)) b kc (g .bytes)
-
-  pub compact-low : IsLow a (cellsOf (drop a (take e (take a z ++ (y ++ drop (e - a) (drop a z))))))
-  compact-low = change-low z y a e (compactBay (bayCells z a e)) b kc (g .bytes)
-
-  pub compact-done : (z₂ : List ℕ) → z₂ ≡ setAll a (cellsOf (drop a (take e (take a z ++ (y ++ drop (e - a) (drop a z)))))) (take a z ++ (y ++ drop (e - a) (drop a z))) → z₂ ≡ settled z a (compactBay (bayCells z a e))
-  compact-done z₂ q = change-done z y a e (compactBay (bayCells z a e)) b kc (g .bytes) z₂ q

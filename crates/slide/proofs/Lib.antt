@@ -1,4 +1,5 @@
-pub mod Part
+pub mod Cases
+pub mod Master
 pub mod MasterLaws
 pub mod Change
 pub mod One

@@ -11,7 +11,7 @@ use Rattle.bay.specs.Sound.{bytesOf}
 use Rattle.slide.specs.ZoneBay.{setOne, setAll, settled}
 
 -- a free block has no master
-set-gap : (p k : ℕ) (z : List ℕ) → setAll p (gap k []) z ≡ z
+pub set-gap : (p k : ℕ) (z : List ℕ) → setAll p (gap k []) z ≡ z
 unfolding setAll setOne
 set-gap p zero z = refl
 set-gap p (suc k) z = refl

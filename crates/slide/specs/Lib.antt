@@ -1,5 +1,5 @@
-pub mod Slide
 pub mod ZoneBay
 pub mod Masters
 pub mod blank
+pub mod run
 pub mod way

@@ -2,14 +2,16 @@
 use block_type::BlockType;
 ghost use mathlib.Core.Path.{_≡_};
 ghost use mathlib.Core.Bool.{cond};
-ghost use Prim.Native.Nat.{_+_, _-_, _≤_};
+ghost use mathlib.Core.List.{[]};
+ghost use Prim.Native.Nat.{_+_, _-_, _%_, _≤_};
 ghost use lib.ListN.{length};
 ghost use lib.Dec.{ltb};
 ghost use Rattle.block_type.specs.Limits.{freeHeader, longestZone};
 ghost use Rattle.bigendian.specs.BigEndian.{overwrite};
 ghost use Rattle.structure.specs.Structure.{encodeBlock, cell};
-ghost use Rattle.bay.specs.Bay.{free};
-ghost use Rattle.slide.specs.blank.Between.{Between};
+ghost use Rattle.bay.specs.Bay.{free, gap};
+ghost use Rattle.bay.specs.Sound.{bytesOf};
+ghost use Rattle.slide.specs.blank.Between.{Hole, Between};
 
 // One free block from `from` up to `to`.
 pub fn blank(z: &mut [u8], from: usize, to: usize)
@@ -51,4 +53,17 @@ pub fn blank_between(z: &mut [u8], from: usize, at: usize, end: usize, to: usize
     let high = zeros_to(end, to);
     bigendian::put4(z, from, ((to - from) / 2) as u32);
     memory::fill_zero(z, low, high);
+}
+
+// One free block over all of s, or none for no bytes, where behind `end` all is free.
+pub fn blank_part(s: &mut [u8], end: usize)
+    requires { ⌜ (end ≤ length (now s)) × (length (now s) % 4 ≡ 0) × (length (now s) ≤ longestZone) × Hole (now s) end (length (now s)) ⌝ }
+    ensures { λ _. ⌜ now (s .exit) ≡ bytesOf (gap (length (now (s .entry))) []) ⌝ }
+{
+    let n = s.len();
+    if 0 < n {
+        let high = zeros_to(end, n);
+        bigendian::put4(s, 0, (n / 2) as u32);
+        memory::fill_zero(s, BlockType::FREE_HEADER, high);
+    }
 }

@@ -1,18 +1,18 @@
 // Compacts a bay in place: its held blocks go to its start in old order, one free block holds the rest, and its masters follow.
 pub mod blank;
+pub mod run;
 pub mod way;
 
 use block_type::BlockType;
+use run::Run;
 ghost use mathlib.Core.Path.{_≡_};
-ghost use mathlib.Core.List.{[], _++_};
-ghost use Prim.Native.Nat.{_+_, _-_, _%_, _<_, _≤_};
+ghost use Prim.Native.Nat.{_+_, _-_, _<_, _≤_};
 ghost use lib.ListN.{length, take, drop};
-ghost use Rattle.block_type.specs.Limits.{longestZone};
-ghost use Rattle.bay.specs.Bay.{gap, compactBay};
-ghost use Rattle.bay.specs.Sound.{bytesOf, cellsOf, IsBay, Stepped};
-ghost use Rattle.slide.specs.Slide.{Passed, Gathered, Compacted};
-ghost use Rattle.slide.specs.ZoneBay.{setAll, IsLow, ZoneBay, bayCells, settled};
-ghost use Rattle.slide.specs.Masters.{Owner, Turned};
+ghost use Rattle.block_type.specs.Limits.{longestZone, masterSize};
+ghost use Rattle.bay.specs.Bay.{compactBay};
+ghost use Rattle.bay.specs.Sound.{cellsOf, cellAt, IsBay, Stepped};
+ghost use Rattle.slide.specs.ZoneBay.{ownerOf, setOne, setAll, IsLow, ZoneBay, bayCells, settled};
+ghost use Rattle.slide.specs.Masters.{CellHere, Turned};
 
 // The size of the block at p, with what a walk relies on.
 fn step(s: &[u8], p: usize) -> usize
@@ -22,66 +22,27 @@ fn step(s: &[u8], p: usize) -> usize
     block_check::size_at(s, p)
 }
 
-// One turn: the block of n bytes at `at` goes to `to`, unless it is free or stands there. The place after what is kept.
-fn keep(s: &mut [u8], to: usize, at: usize, n: usize) -> usize
-    requires { ⌜ (at < length (now s)) × (to ≤ at) × (to % 4 ≡ 0) × IsBay (drop at (now s)) × Stepped (now s) at n ⌝ }
-    ensures { λ r. ⌜ Passed (now (s .entry)) to at n (now (s .exit)) r ⌝ }
-{
-    if block_check::type_at(s, at) == BlockType::FREE_CODE {
-        return to;
-    }
-    if to < at {
-        memory::slide_down(s, to, at, n);
-        return to + n;
-    }
-    to + n
-}
-
-// The held blocks from `first` on go to `from` and behind it, in old order. The place after them.
-fn gather(s: &mut [u8], from: usize, first: usize) -> usize
-    requires { ⌜ (from ≤ first) × (first ≤ length (now s)) × (from % 4 ≡ 0) × (first % 4 ≡ 0) × IsBay (drop first (now s)) ⌝ }
-    ensures { λ r. ⌜ Gathered (now (s .entry)) from first (now (s .exit)) r ⌝ }
-{
-    let mut to = from;
-    let mut at = first;
-    while at < s.len() {
-        let n = step(s, at);
-        to = keep(s, to, at, n);
-        at += n;
-    }
-    to
-}
-
-// One free block from `to` to the end, or none.
-fn finish(s: &mut [u8], to: usize)
-    requires { ⌜ (to ≤ length (now s)) × ((length (now s) - to) % 4 ≡ 0) × (length (now s) ≤ longestZone) ⌝ }
-    ensures { λ _. ⌜ now (s .exit) ≡ take to (now (s .entry)) ++ bytesOf (gap (length (now (s .entry)) - to) []) ⌝ }
-{
-    let end = s.len();
-    if to < end {
-        blank::blank(s, to, end);
-    }
-}
-
-// Compacts a bay. Where its free bytes begin.
-pub fn compact_part(s: &mut [u8]) -> usize
-    requires { ⌜ IsBay (now s) × (length (now s) ≤ longestZone) ⌝ }
-    ensures { λ r. ⌜ Compacted (now (s .entry)) (now (s .exit)) r ⌝ }
-{
-    let to = gather(s, 0, 0);
-    finish(s, to);
-    to
-}
-
-// The master of the block of n bytes at `at`, 0 for none.
-fn owner_at(z: &[u8], to: usize, at: usize, n: usize) -> usize
-    requires { ⌜ (at < to) × (to ≤ length (now z)) × Stepped (take to (now z)) at n ⌝ }
-    ensures { λ r. ⌜ Owner (now (z .entry)) to at n r ⌝ }
+// The master of the block at `at`, 0 for none.
+fn owner_at(z: &[u8], at: usize) -> usize
+    requires { ⌜ CellHere (now z) at ⌝ }
+    ensures { λ r. ⌜ r ≡ ownerOf (cellAt (now (z .entry)) at) ⌝ }
 {
     if block_check::type_at(z, at) == BlockType::RELOCATABLE_CODE {
         return bigendian::get2(z, at + BlockType::TAG_AT) as usize;
     }
     0
+}
+
+// The master of the block at `at`, where it has one, holds the first data byte that the block has at p.
+fn set_master(z: &mut [u8], at: usize, p: usize)
+    requires { ⌜ CellHere (now z) at × (ownerOf (cellAt (now z) at) + masterSize ≤ length (now z)) × (p ≤ longestZone) ⌝ }
+    ensures { λ _. ⌜ now (z .exit) ≡ setOne p (cellAt (now (z .entry)) at) (now (z .entry)) ⌝ }
+{
+    let h = owner_at(z, at);
+    if h == 0 {
+        return;
+    }
+    bigendian::put4(z, h, (p + BlockType::RELOCATABLE_HEADER) as u32);
 }
 
 // One turn: the master of the block at `at` holds its first data byte, where it has one. The block's size.
@@ -90,11 +51,7 @@ fn turn(z: &mut [u8], to: usize, at: usize) -> usize
     ensures { λ r. ⌜ Turned (now (z .entry)) to at (now (z .exit)) r ⌝ }
 {
     let n = step(&z[..to], at);
-    let h = owner_at(z, to, at, n);
-    if h == 0 {
-        return n;
-    }
-    bigendian::put4(z, h, (at + BlockType::RELOCATABLE_HEADER) as u32);
+    set_master(z, at, at);
     n
 }
 
@@ -110,11 +67,21 @@ pub fn set_masters(z: &mut [u8], from: usize, to: usize)
     }
 }
 
-// Compacts the bay from a to e.
+// Compacts the bay from a to e, in one walk.
 pub fn compact_bay(z: &mut [u8], a: usize, e: usize)
     requires { ⌜ ZoneBay (now z) a e ⌝ }
     ensures { λ _. ⌜ now (z .exit) ≡ settled (now (z .entry)) a (compactBay (bayCells (now (z .entry)) a e)) ⌝ }
 {
-    compact_part(&mut z[a..e]);
-    set_masters(z, a, e);
+    let mut w = Run {
+        to: a,
+        from: a,
+        hole: a,
+    };
+    let mut at = a;
+    while at < e {
+        let n = run::cell_size(z, at);
+        w = run::pass(z, w, at, n);
+        at += n;
+    }
+    run::close(z, w, e);
 }

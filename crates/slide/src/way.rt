@@ -1,11 +1,44 @@
 // A bay gives up bytes at its start, in place: blocks at its front go up, blocks behind holes come down.
+use super::blank;
+use block_type::BlockType;
 ghost use mathlib.Core.Path.{_≡_};
-ghost use Prim.Native.Nat.{_%_, _≤_};
-ghost use lib.ListN.{length};
+ghost use Prim.Native.Nat.{_%_, _<_, _≤_};
+ghost use lib.ListN.{length, drop};
 ghost use Rattle.block_type.specs.Limits.{longestZone};
 ghost use Rattle.bay.specs.Bay.{baySum};
-ghost use Rattle.bay.specs.Sound.{cellsOf, IsBay};
+ghost use Rattle.bay.specs.Sound.{cellsOf, IsBay, Stepped};
+ghost use Rattle.slide.specs.way.Gathered.{Passed, Gathered};
 ghost use Rattle.slide.specs.way.Way.{FrontGathered, GaveUp};
+
+// One turn: the block of n bytes at `at` goes to `to`, unless it is free or stands there. The place after what is kept.
+fn keep(s: &mut [u8], to: usize, at: usize, n: usize) -> usize
+    requires { ⌜ (at < length (now s)) × (to ≤ at) × (to % 4 ≡ 0) × IsBay (drop at (now s)) × Stepped (now s) at n ⌝ }
+    ensures { λ r. ⌜ Passed (now (s .entry)) to at n (now (s .exit)) r ⌝ }
+{
+    if block_check::type_at(s, at) == BlockType::FREE_CODE {
+        return to;
+    }
+    if to < at {
+        memory::slide_down(s, to, at, n);
+        return to + n;
+    }
+    to + n
+}
+
+// The held blocks from `first` on go to `from` and behind it, in old order. The place after them.
+fn gather(s: &mut [u8], from: usize, first: usize) -> usize
+    requires { ⌜ (from ≤ first) × (first ≤ length (now s)) × (from % 4 ≡ 0) × (first % 4 ≡ 0) × IsBay (drop first (now s)) ⌝ }
+    ensures { λ r. ⌜ Gathered (now (s .entry)) from first (now (s .exit)) r ⌝ }
+{
+    let mut to = from;
+    let mut at = first;
+    while at < s.len() {
+        let n = super::step(s, at);
+        to = keep(s, to, at, n);
+        at += n;
+    }
+    to
+}
 
 // The held blocks passed so far end at `to`, the next block stands at `at`.
 struct Front {
@@ -22,7 +55,7 @@ fn gather_front(s: &mut [u8], n: usize) -> Front
     let mut at = 0;
     while at - to < n {
         let k = super::step(s, at);
-        to = super::keep(s, to, at, k);
+        to = keep(s, to, at, k);
         at += k;
     }
     Front { to, at }
@@ -37,6 +70,7 @@ pub fn make_way(s: &mut [u8], n: usize)
     let to = f.to;
     let at = f.at;
     memory::slide_up(s, n, 0, to);
-    let end = super::gather(s, n + to, at);
-    super::finish(s, end);
+    let end = gather(s, n + to, at);
+    let rest = s.len() - end;
+    blank::blank_part(&mut s[end..], rest);
 }

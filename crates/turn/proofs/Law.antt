@@ -6,7 +6,7 @@ use mathlib.Core.List.{List, [], _∷_}
 use Prim.Native.Nat.{ℕ, _+_, _%_, _≤_}
 use native.Mathlib.Omega.{arith}
 use lib.Dec.{leb, ltb}
-use borrow.Author.Tests.{le-leb, lt-leb, lt-ltb, ltb-true}
+use borrow.Author.Tests.{le-leb, lt-leb, lt-ltb, le-ltb, ltb-true}
 use Rattle.block_type.specs.Limits.{argumentRange}
 use Rattle.format.proofs.Bool.{not-both}
 use Rattle.kinds.specs.Kinds.{Key, of-handle, of-name, Item, KeyFits, itemSize}
@@ -34,7 +34,18 @@ releases-same t u (last b) f = ap last (release-same t u b f)
 releases-same t u (more b x s) f =
     ap₂ (λ c r. more c x r) (release-same t u b (λ e o. f e (of-left (concatS items s) o))) (releases-same t u s (λ e o. f e (of-right (items b) o)))
 
--- ---- a higher limit frees as much; the highest frees every unlocked page
+-- ---- with the limit 0 no page goes; a higher limit frees as much; the highest frees every unlocked page
+
+pub none-goes : (ck : ℕ) (e : Item) → goes ck 0 e ≡ false
+none-goes ck e = go (e .key)
+  where
+    go : (k : Key) → keyBelow ck 0 k ≡ false
+    go (of-handle h) = refl
+    go (of-name n s) = rw (le-ltb (rank ck n s) 0 (omega arith)) (none (s .lock))
+      where
+        none : (a : Bool) → not a && false ≡ false
+        none true = refl
+        none false = refl
 
 freed-most : (t u : Item → Bool) (es : List Item) → ((e : Item) → t e ≡ true → u e ≡ true) → freed t es ≤ freed u es
 freed-most t u [] f = omega arith

@@ -10,11 +10,12 @@ ghost use Prim.Native.Nat.{_<_, _≤_, min, max};
 ghost use lib.ListN.{length, drop};
 ghost use Rattle.block_type.specs.Limits.{clockAt};
 ghost use Rattle.format.specs.WellFormed.{clockField};
+ghost use Rattle.structure.specs.Structure.{decodeZone};
 ghost use Rattle.structure.specs.IsZone.{IsZone};
-ghost use Rattle.calls.specs.Bays.{concatS};
-ghost use Rattle.bay.specs.Bay.{items};
+ghost use Rattle.calls.specs.Bays.{concatS, maxS};
+ghost use Rattle.bay.specs.Bay.{items, baySum};
 ghost use Rattle.access.specs.row.Row.{Row, blockAt, Stepped};
-ghost use Rattle.bays.specs.Places.{baysAt};
+ghost use Rattle.bays.specs.Places.{baysOf, baysAt};
 ghost use Rattle.turn.specs.Rank.{rankRange, leastDirty};
 ghost use Rattle.turn.specs.Walk.{Past};
 ghost use Rattle.turn.specs.Limit.{Weighed, Least, Between, Nearer};
@@ -203,22 +204,13 @@ pub struct Turn {
     pub limit: u64,
 }
 
-// Those that go for need bytes, in the bytes of a well-formed zone with none beyond its length.
+// Those that go for need bytes, which no bay has free, in the bytes of a well-formed zone with none beyond its length.
 pub fn find_turn(z: &[u8], need: usize) -> Turn
-    requires { ⌜ IsZone (now z) ⌝ }
+    requires { ⌜ IsZone (now z) × (maxS baySum (baysOf (decodeZone (now z))) < need) ⌝ }
     ensures { λ r. ⌜ InTurn (now (z .entry)) need (r .number) (r .name) (r .limit) ⌝ }
 {
     let first = bigendian::get4(z, block_type::FIRST_AT) as usize;
     let clock = clock_of(z);
-    // mostly there is room, and no page has to go
-    let none = weigh(z, first, clock, 0);
-    if need <= none.sum {
-        return Turn {
-            number: 0,
-            name: 0,
-            limit: 0,
-        };
-    }
     let all = weigh(z, first, clock, rank::RANK_RANGE);
     if all.sum < need {
         return Turn {
@@ -227,7 +219,8 @@ pub fn find_turn(z: &[u8], need: usize) -> Turn
             limit: 0,
         };
     }
-    let limit = least_limit(z, first, clock, need, none.over, all.under);
+    // with the limit 0 no page goes, which is not enough
+    let limit = least_limit(z, first, clock, need, 1, all.under);
     let dirty = first_dirty(z, first, clock);
     if dirty < limit {
         return Turn {

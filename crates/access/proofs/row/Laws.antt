@@ -1,12 +1,13 @@
 -- The laws of stretches.
 use mathlib.Core.Path.{_≡_, refl, sym, ap, ap₂, _∙_}
 use mathlib.Core.List.{List, [], _∷_, _++_, map, append-assoc}
-use Prim.Native.Nat.{ℕ, _+_, _%_, _<_, _≤_}
+use Prim.Native.Nat.{ℕ, _+_, _*_, _/_, _%_, _<_, _≤_}
 use native.Mathlib.Omega.{arith}
 use lib.ListN.{length, take, drop, length-append, length-drop, drop-of-length-le}
 use lib.Seq.{drop-drop, take-at, drop-at}
 use lib.Dec.{eqb}
-use Rattle.block_type.specs.Limits.{smallestBlock, freeCode}
+use Rattle.block_type.specs.Limits.{smallestBlock, freeCode, typeUnit, handleRange}
+use Rattle.block_check.specs.Word.{typeWord, IsHeader}
 use Rattle.format.specs.WellFormed.{typeOf, sizeOf}
 use Rattle.format.proofs.Walk.{blocks-cons, blocks-nil, kind-take, size-take}
 use Rattle.structure.specs.Structure.{Block, fixed, size, sizes, encodeBlock, decodeBlock, join, cell, code}
@@ -91,6 +92,14 @@ stepped s p n (row (b ∷ bs) sd e) l en =
       kind = rw a (sym (f .kind));
       image = rw (a, q) (sym (f .image));
     }
+
+-- by the block's word
+module _ (s : List ℕ) (p n w : ℕ) (r : Row (drop p s)) (l : p < length s) (h : IsHeader s p w) where
+  pub free-stepped : w / typeWord ≡ freeCode → n ≡ w * 2 → Stepped s p n
+  free-stepped f e = stepped s p n r l (e ∙ h .free-size f)
+
+  pub used-stepped : freeCode < w / typeWord → n ≡ w / handleRange % typeUnit * 2 → Stepped s p n
+  used-stepped f e = stepped s p n r l (e ∙ h .used-size f)
 
 -- the end of a stretch
 pub row-end : (s : List ℕ) (p : ℕ) → length s ≤ p → blocksOf (drop p s) ≡ []

@@ -21,6 +21,7 @@ pub put4-spec : {M : Type 1} → statement M
 put4-spec =
     tie.close
     (tie.spec
+    (λ c κs. search needs)
     (λ c. search needs)
     (λ c. search needs)
     (λ c. search needs)

@@ -4,7 +4,7 @@ use Prim.Native.Nat.{suc, _-_, _≤_}
 use native.Mathlib.Omega.{arith}
 use lib.ListN.{length}
 use Rattle.structure.specs.Structure.{decodeZone}
-use Rattle.compact.proofs.Loop.{Going, first-within, going-start, going-row, going-short, going-bay, going-turn, going-most, going-bytes}
+use Rattle.compact.proofs.Loop.{Going, first-within, going-start, going-next, going-turn, going-most, going-bytes}
 use Rattle.compact.proofs.compact_all.Statement.{statement}
 use Rattle.compact.proofs.compact_all.Tie as tie
 
@@ -17,11 +17,8 @@ abbrev μ-loop : tie.MeasureT-loop
 loop-holds : tie.Need-loop-holds Inv-loop μ-loop
 loop-holds c = (search first-within, refl, search going-start)
 
-read-bay-requires : tie.Need-read-bay-requires Inv-loop μ-loop
-read-bay-requires c κs = (search going-row, omega arith, search going-short)
-
-pack-requires : tie.Need-pack-requires Inv-loop μ-loop
-pack-requires c κs = search going-bay
+compact-next-requires : tie.Need-compact-next-requires Inv-loop μ-loop
+compact-next-requires c κs = search going-next
 
 larger-of-requires : tie.Need-larger-of-requires Inv-loop μ-loop
 larger-of-requires c κs = search needs
@@ -45,8 +42,7 @@ compact-all-spec =
     Inv-loop
     μ-loop
     loop-holds
-    read-bay-requires
-    pack-requires
+    compact-next-requires
     larger-of-requires
     loop-less
     loop-again

@@ -1,10 +1,10 @@
-use Rattle.create.proofs.Place.{room-clock, place-fits, place-word, page-stands}
+use Rattle.create.proofs.Place.{site-clock, place-fits, place-word, page-stands}
 use borrow.Author.Needs.{needs}
 use Rattle.create.proofs.place_page.Statement.{statement}
 use Rattle.create.proofs.place_page.Tie as tie
 
 next-clock-requires : tie.Need-next-clock-requires
-next-clock-requires c κs = search room-clock
+next-clock-requires c κs = search site-clock
 
 add-result : tie.Need-add-result
 add-result c = search place-fits
@@ -20,7 +20,6 @@ place-page-spec =
     tie.close
     (tie.spec
     next-clock-requires
-    (λ c κs. search needs)
     (λ c κs. search needs)
     add-result
     cast-result

@@ -1,24 +1,26 @@
 -- The walk over one bay for a new block, and the search from bay to bay.
-use mathlib.Core.Path.{_≡_, refl, sym, ap, ap₂, _∙_}
+use mathlib.Core.Path.{_≡_, refl, sym, ap, ap₂, _∙_, subst}
 use mathlib.Core.List.{List, [], _∷_, _++_}
 use mathlib.Core.Bool.{Bool, true, false, cond}
-use Prim.Native.Nat.{ℕ, _+_, _-_, _<_, _≤_}
+use Prim.Native.Nat.{ℕ, _+_, _-_, _/_, _<_, _≤_}
+use native.Mathlib.Nat.{add-zero}
 use native.Mathlib.Omega.{arith}
 use lib.Dec.{eqb, leb}
 use borrow.Author.Tests.{le-leb, lt-leb}
 use lib.ListN.{length, drop}
 use Rattle.block_type.specs.Limits.{freeCode, fixedCode}
 use Rattle.format.specs.WellFormed.{typeOf}
+use Rattle.block_check.specs.Word.{typeWord, IsHeader}
 use Rattle.access.specs.row.Row.{Stepped}
 use Rattle.bay.specs.Bay.{Cell, baySum}
 use Rattle.bay.proofs.Laws.{bsize-split}
 use Rattle.bays.specs.Places.{baysAt}
 use Rattle.bays.specs.Read.{Cut, at-end, at-fixed}
-use Rattle.bays.proofs.Walk.{PassedCells, passed-none, one-more, ends-fixed, ends-bytes, part-is, sum-more}
+use Rattle.bays.proofs.Walk.{part-yes, part-no, PassedCells, passed-none, one-more, ends-fixed, ends-bytes, part-is, sum-more}
 use Rattle.bays.proofs.Searches.{from, from-in, from-out}
 use Rattle.room.specs.place.Hole.{holeN, holeFor, holeIf, tighterN}
 use Rattle.room.specs.place.Room.{SiteN, siteN, noSite, siteBy, siteAt, lowSite, ReadFor}
-use Rattle.room.proofs.place.Holes.{chosen-more}
+use Rattle.room.proofs.place.Holes.{chosen-more, too-small}
 
 -- ---- the cells that have been passed
 
@@ -31,8 +33,11 @@ pub record SeenFor (z : List ℕ) (p need at sum : ℕ) (f : Bool) (place size :
 pub for-none : (z : List ℕ) (p need : ℕ) → SeenFor z p need p 0 false 0 0
 for-none z p need = record { cells = []; passed = passed-none z p; sum-is = refl; is-hole = refl }
 
-module _ (z : List ℕ) (p need at n k sum : ℕ) (f : Bool) (place size : ℕ) (st : Stepped z at n) (ek : k ≡ typeOf (drop at z)) (sn : SeenFor z p need at sum f place size) where
-  pub for-more : (g : Bool) (i j m : ℕ) → 0 < need → (k ≡ fixedCode → ⊥) → m ≡ cond (eqb k freeCode) n 0 → holeN g i j ≡ tighterN (holeN f place size) (holeIf need m at) → SeenFor z p need (at + n) (sum + m) g i j
+module _ (z : List ℕ) (p need at n k w sum : ℕ) (f : Bool) (place size : ℕ) (st : Stepped z at n) (h : IsHeader z at w) (ew : k ≡ w / typeWord) (sn : SeenFor z p need at sum f place size) where
+  ek : k ≡ typeOf (drop at z)
+  ek = ew ∙ sym (h .is-type)
+
+  for-more : (g : Bool) (i j m : ℕ) → 0 < need → (k ≡ fixedCode → ⊥) → m ≡ cond (eqb k freeCode) n 0 → holeN g i j ≡ tighterN (holeN f place size) (holeIf need m at) → SeenFor z p need (at + n) (sum + m) g i j
   for-more g i j m l nk em eh =
       let o = one-more z p at n k st ek (sn .cells) (sn .passed) nk in
       let part = part-is (o .c) k n m (o .kind) (o .bytes) em in
@@ -42,6 +47,15 @@ module _ (z : List ℕ) (p need at n k sum : ℕ) (f : Bool) (place size : ℕ) 
         sum-is = sum-more (sn .cells) (o .c) sum m (sn .sum-is) part;
         is-hole = chosen-more need p (sn .cells) m at (o .c) l part (sn .passed .place) (holeN f place size) (holeN g i j) (sn .is-hole) eh;
       }
+
+  -- a block that is not free has no byte of a need
+  pub for-held : 0 < need → fixedCode < k → SeenFor z p need (at + n) sum f place size
+  for-held l m =
+      subst (λ (i : ℕ). SeenFor z p need (at + n) i f place size) (add-zero sum)
+      (for-more f place size 0 l (λ e. omega arith) (part-no k n (λ e. omega arith)) (too-small need (holeN f place size) 0 at l))
+
+  pub for-free : (g : Bool) (i j : ℕ) → 0 < need → k ≤ fixedCode → (k ≡ fixedCode → ⊥) → holeN g i j ≡ tighterN (holeN f place size) (holeIf need n at) → SeenFor z p need (at + n) (sum + n) g i j
+  for-free g i j l m nk eh = let e : k ≡ freeCode = omega arith in for-more g i j n l nk (part-yes k n e) eh
 
   pub for-fixed : k ≡ fixedCode → at < length z → ReadFor z p need at sum (at + n) f place size
   for-fixed e l = record { bay = sn .cells; between = ends-fixed z p at n k st ek (sn .cells) (sn .passed) e l; sum-is = sn .sum-is; is-hole = sn .is-hole }

@@ -33,7 +33,7 @@ fill d a b c ea ec =
     rw (length-replicate {A = ℕ} b 0, ea, replicate-append-replicate {A = ℕ} a b 0, r, ← append-assoc (replicate (a + b) 0) (replicate c 0) (drop (a + b + c) d), replicate-append-replicate {A = ℕ} (a + b) c 0)
 
 -- the header, and zeros where there are none yet
-within : (z y₁ y₂ : List ℕ) (from low high to : ℕ) → from + freeHeader ≤ low → low ≤ high → high ≤ to → to ≤ length z
+pub within : (z y₁ y₂ : List ℕ) (from low high to : ℕ) → from + freeHeader ≤ low → low ≤ high → high ≤ to → to ≤ length z
     → slice z (from + freeHeader) (low - (from + freeHeader)) ≡ replicate (low - (from + freeHeader)) 0 → slice z high (to - high) ≡ replicate (to - high) 0
     → y₁ ≡ overwrite z from (toBE 4 ((to - from) / 2)) → y₂ ≡ overwrite y₁ low (replicate (high - low) 0) → y₂ ≡ overwrite z from (encodeBlock (cell (free (to - from))))
 unfolding encodeBlock
@@ -70,6 +70,25 @@ to-header end to l = rw (lt-ltb end to l)
 pub to-end : (end to : ℕ) → to ≤ end → end ≡ cond (ltb end to) (end + freeHeader) end
 to-end end to l = rw (le-ltb end to l)
 
+-- what is known of the upper end
+module _ (z : List ℕ) (end to high : ℕ) (h : Hole z end to) (eh : high ≡ cond (ltb end to) (end + freeHeader) end) where
+  pub record High : Type 0 where
+    pub above : end ≤ high
+    pub fits-in : high ≤ to
+    pub zero-behind : slice z high (to - high) ≡ replicate (to - high) 0
+
+  pub high-is : High
+  high-is = go h
+    where
+      go : Hole z end to → High
+      go (nothing e) =
+          let q : high ≡ end = eh ∙ (rw (le-ltb end to (omega arith))) in
+          let n : to - high ≡ 0 = omega arith in
+          record { above = omega arith; fits-in = omega arith; zero-behind = rw n }
+      go (zeros l s) =
+          let q : high ≡ end + freeHeader = eh ∙ (rw (lt-ltb end to (omega arith))) in
+          record { above = omega arith; fits-in = omega arith; zero-behind = rw q s }
+
 module _ (z : List ℕ) (from at end to low high : ℕ) (b : Between z from at end to) (el : low ≡ cond (ltb from at) at (from + freeHeader)) (eh : high ≡ cond (ltb end to) (end + freeHeader) end) where
   -- what is known of the lower end
   record Low : Type 0 where
@@ -89,28 +108,14 @@ module _ (z : List ℕ) (from at end to low high : ℕ) (b : Between z from at e
           let q : low ≡ at = el ∙ (rw (lt-ltb from at (omega arith))) in
           record { above = omega arith; within-block = omega arith; zero-before = rw q s }
 
-  record High : Type 0 where
-    above : end ≤ high
-    fits-in : high ≤ to
-    zero-behind : slice z high (to - high) ≡ replicate (to - high) 0
-
-  high-is : High
-  high-is = go (b .behind)
-    where
-      go : Hole z end to → High
-      go (nothing e) =
-          let q : high ≡ end = eh ∙ (rw (le-ltb end to (omega arith))) in
-          let n : to - high ≡ 0 = omega arith in
-          record { above = omega arith; fits-in = omega arith; zero-behind = rw n }
-      go (zeros l s) =
-          let q : high ≡ end + freeHeader = eh ∙ (rw (lt-ltb end to (omega arith))) in
-          record { above = omega arith; fits-in = omega arith; zero-behind = rw q s }
+  top : High z end to high (b .behind) eh
+  top = high-is z end to high (b .behind) eh
 
   pub between-order : low ≤ high
-  between-order = omega (arith, low-is .within-block, high-is .above, b .some)
+  between-order = omega (arith, low-is .within-block, top .above, b .some)
 
   pub between-fits : (y : List ℕ) → length y ≡ length z → high ≤ length y
-  between-fits y e = omega (arith, high-is .fits-in, b .fits)
+  between-fits y e = omega (arith, top .fits-in, b .fits)
 
   pub between-law : (y₁ y₂ : List ℕ) → y₁ ≡ overwrite z from (toBE 4 ((to - from) / 2)) → y₂ ≡ overwrite y₁ low (replicate (high - low) 0) → y₂ ≡ overwrite z from (encodeBlock (cell (free (to - from))))
-  between-law y₁ y₂ e₁ e₂ = within z y₁ y₂ from low high to (low-is .above) between-order (high-is .fits-in) (b .fits) (low-is .zero-before) (high-is .zero-behind) e₁ e₂
+  between-law y₁ y₂ e₁ e₂ = within z y₁ y₂ from low high to (low-is .above) between-order (top .fits-in) (b .fits) (low-is .zero-before) (top .zero-behind) e₁ e₂

@@ -5,7 +5,7 @@ use Prim.Native.Nat.{ℕ, _+_, _%_, _≤_}
 use lib.ListN.{length, take, drop}
 use Rattle.bay.specs.Bay.{baySum, packedLess}
 use Rattle.bay.specs.Sound.{bytesOf, cellsOf, IsBay}
-use Rattle.slide.specs.Slide.{heldBytes}
+use Rattle.slide.specs.way.Gathered.{heldBytes}
 
 -- held blocks of s₀ stand in the first `to` bytes of s, in old order, the others from `at` on, and n bytes or more lie between
 pub record FrontGathered (s₀ : List ℕ) (n : ℕ) (s : List ℕ) (to at : ℕ) : Type 0 where

@@ -11,7 +11,7 @@ use borrow.Author.Tests.{le-leb, lt-leb, lt-ltb, le-ltb}
 use Rattle.block_type.specs.Limits.{argumentRange, clockAt}
 use Rattle.format.specs.WellFormed.{firstField, clockField}
 use Rattle.kinds.specs.Kinds.{Item, hasName}
-use Rattle.calls.specs.Bays.{Bays, concatS}
+use Rattle.calls.specs.Bays.{Bays, concatS, maxS}
 use Rattle.calls.specs.State.{Fixed}
 use Rattle.calls.specs.Pages.{unlocked, firstDirty, sumWithout, dropping}
 use Rattle.calls.proofs.Pages.{Of, of-here, of-there}
@@ -24,13 +24,15 @@ use Rattle.zone.proofs.Grouped.{whole-bays}
 use Rattle.zone.proofs.Clean.{Every, e-last, e-more, Items, i-cons, items-append, ItemOk, FixedOk, BayOk}
 use Rattle.zone.specs.Work.{facts}
 use Rattle.zone.proofs.Dropping.{many-flat}
+use Rattle.zone.proofs.PageRelease.{sum-none}
 use Rattle.bays.specs.Places.{baysOf, baysAt}
 use Rattle.bays.proofs.Zone.{zone-bays}
-use Rattle.turn.specs.Rank.{rankRange, leastDirty}
-use Rattle.turn.specs.Limit.{sumBelow, Weighed, Least}
+use Rattle.turn.specs.Rank.{rankRange, goes, leastDirty}
+use Rattle.turn.specs.Limit.{sumBelow, Weighed, Least, Between}
 use Rattle.turn.specs.Turn.{numberBy, turnNumber, bayed, InTurn}
+use Rattle.turn.proofs.search.Halves.{halve-start}
 use Rattle.turn.proofs.Ranks.{Named}
-use Rattle.turn.proofs.Law.{without-more, without-all, dropping-released, dropping-dirty}
+use Rattle.turn.proofs.Law.{none-goes, without-more, without-all, dropping-released, dropping-dirty}
 
 -- ---- the pages of a zone
 
@@ -71,8 +73,15 @@ module _ (z : List ℕ) (need first ck : ℕ) (i : IsZone z) (ef : first ≡ fir
   sum-is : (t : ℕ) → sumBelow ck t (baysAt z first) ≡ sumBelow clock t bays
   sum-is t = ap₂ (λ (c : ℕ) (s : Bays (List Cell) Fixed). sumBelow c t s) clock-is bays-are
 
+  -- with the limit 0 no page goes
+  none-gone : sumBelow ck 0 (baysAt z first) ≡ maxS baySum bays
+  none-gone = sum-is 0 ∙ sum-none (goes clock 0) (none-goes clock) bays
+
   emptied : sumBelow clock rankRange bays ≡ sumWithout items baySum unlocked bays
   emptied = without-all items baySum clock bays (zone-named z i)
+
+  pub turn-starts : (r under over : ℕ) → maxS baySum (baysOf (decodeZone z)) < need → Weighed ck rankRange (baysAt z first) r under over → need ≤ r → Between ck need 1 under (baysAt z first)
+  turn-starts r under over l w m = halve-start ck need (baysAt z first) r under over (omega (arith, none-gone)) w m
 
   pub turn-five : (r under over : ℕ) → Weighed ck rankRange (baysAt z first) r under over → r < need → InTurn z need 5 0 0
   turn-five r under over w l = record {
@@ -109,7 +118,11 @@ module _ (z : List ℕ) (need first ck : ℕ) (i : IsZone z) (ef : first ≡ fir
         let e : firstDirty (dropping items baySum need (bayed z)) ≡ none = stop-is ∙ ap (λ (b : Bool). cond b (some (d % argumentRange)) none) (le-ltb d t m) in
         record { number-is = sym (number-of none e); name-is = refl; least = λ q. least; gone = λ q. dropping-released need t (bayed z) (zone-named z i) least }
 
-  -- no page has to go
-  pub turn-free : (r under over : ℕ) → Weighed ck 0 (baysAt z first) r under over → need ≤ r → InTurn z need 0 0 0
-  turn-free r under over w m =
-      turn-found 0 (leastDirty ck (concatS items (baysAt z first))) (record { enough = omega (arith, w .sum-is); less = λ u v. absurd (omega arith); top = omega arith }) refl (omega arith)
+-- ---- no page has to go
+
+pub turn-free : (z : List ℕ) (need : ℕ) → IsZone z → need ≤ maxS baySum (baysOf (decodeZone z)) → InTurn z need 0 0 0
+turn-free z need i l =
+    let first = firstField z in
+    let ck = clockField z in
+    turn-found z need first ck i refl refl 0 (leastDirty ck (concatS items (baysAt z first)))
+    (record { enough = omega (arith, none-gone z need first ck i refl refl); less = λ u v. absurd (omega arith); top = omega arith }) refl (omega arith)

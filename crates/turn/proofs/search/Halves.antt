@@ -34,15 +34,15 @@ module _ (ck need : ℕ) (s : Bays (List Cell) Fixed) where
         less : (u : ℕ) → u < over → sumBelow ck u s < need
         less u v = omega (arith, w .sum-is, w .next u v)
 
-  -- from the walks with the lowest limit and the highest
-  pub halve-start : (r under low q high over : ℕ) → Weighed ck 0 s r under low → r < need → Weighed ck rankRange s q high over → need ≤ q → Between ck need low high s
-  halve-start r under low q high over w l x m = record { enough = enough; less = less; order = from-low low high less enough; top = x .to }
+  -- from the walk with the highest limit; with the limit 0 no page goes
+  pub halve-start : (r high over : ℕ) → sumBelow ck 0 s < need → Weighed ck rankRange s r high over → need ≤ r → Between ck need 1 high s
+  halve-start r high over l w m = record { enough = enough; less = less; order = from-low 1 high less enough; top = w .to }
     where
       enough : need ≤ sumBelow ck high s
-      enough = omega (arith, x .sum-is, x .same)
+      enough = omega (arith, w .sum-is, w .same)
 
-      less : (u : ℕ) → u < low → sumBelow ck u s < need
-      less u v = omega (arith, w .sum-is, w .next u v)
+      less : (u : ℕ) → u < 1 → sumBelow ck u s < need
+      less u v = let e : u ≡ 0 = omega arith in rw e l
 
   pub halve-done : (low high : ℕ) → Between ck need low high s → high ≤ low → Least ck need low s
   halve-done low high b l =

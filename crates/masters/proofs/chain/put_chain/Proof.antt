@@ -2,49 +2,61 @@ use mathlib.Core.Path.{_≡_, refl}
 use Prim.Native.Nat.{_+_, _*_, _-_, _%_, _≤_}
 use native.Mathlib.Omega.{arith}
 use lib.ListN.{length}
-use Rattle.block_type.specs.Limits.{masterSize}
+use Rattle.block_type.specs.Limits.{longestZone, masterSize}
 use Rattle.bigendian.specs.BigEndian.{overwrite}
 use Rattle.masters.specs.chain.Chain.{chainBytes}
-use Rattle.masters.proofs.chain.Chain.{mastersFrom, masterOrNone, chain-none, chain-start, chain-next, chain-step, chain-end}
+use Rattle.masters.proofs.chain.Chain.{mastersTo, chain-none, chain-start, chain-next, chain-last}
 use Rattle.masters.proofs.chain.put_chain.Statement.{statement}
 use Rattle.masters.proofs.chain.put_chain.Tie as tie
 
 abbrev Inv-loop : tie.InvT-loop
-Inv-loop z₀ from n next₀ at₀ z next at =
-    (from ≤ at) × ((at - from) % masterSize ≡ 0) × (at ≤ from + masterSize * n) × (length z ≡ length z₀) × (next ≡ masterOrNone at (from + masterSize * n)) × (z ≡ overwrite z₀ at (chainBytes at (mastersFrom at (from + masterSize * n))))
+Inv-loop z₀ from n last at₀ z at =
+    (at ≤ last) × ((last - at) % masterSize ≡ 0) × (last + masterSize ≤ length z) × (last + masterSize ≤ longestZone) × (length z ≡ length z₀) × (overwrite z at (chainBytes at (mastersTo at last)) ≡ overwrite z₀ from (chainBytes from n))
 
 abbrev μ-loop : tie.MeasureT-loop
-μ-loop z₀ from n next₀ at₀ z next at = at
+μ-loop z₀ from n last at₀ z at = last - at
 
-mul-at : tie.Need-mul-at Inv-loop μ-loop
-mul-at c = omega arith
+returns : tie.Need-returns Inv-loop μ-loop
+returns c = search chain-none
 
-add-at : tie.Need-add-at Inv-loop μ-loop
-add-at c = omega arith
+sub-last : tie.Need-sub-last Inv-loop μ-loop
+sub-last c = omega arith
+
+mul-last : tie.Need-mul-last Inv-loop μ-loop
+mul-last c = omega arith
+
+add-last : tie.Need-add-last Inv-loop μ-loop
+add-last c = omega arith
 
 loop-holds : tie.Need-loop-holds Inv-loop μ-loop
-loop-holds c = (omega arith, omega arith, omega arith, refl, search chain-none, search chain-start)
+loop-holds c = (omega arith, omega arith, omega arith, omega arith, refl, search chain-start)
 
-sub-at : tie.Need-sub-at Inv-loop μ-loop
-sub-at c = omega arith
+add-put4 : tie.Need-add-put4 Inv-loop μ-loop
+add-put4 c = omega arith
+
+cast-put4 : tie.Need-cast-put4 Inv-loop μ-loop
+cast-put4 c = omega arith
 
 put4-requires : tie.Need-put4-requires Inv-loop μ-loop
 put4-requires c κs = omega arith
 
-cast-next : tie.Need-cast-next Inv-loop μ-loop
-cast-next c = omega arith
+add-at : tie.Need-add-at Inv-loop μ-loop
+add-at c = omega arith
 
 loop-less : tie.Need-loop-less Inv-loop μ-loop
 loop-less c = omega arith
 
 loop-again : tie.Need-loop-again Inv-loop μ-loop
-loop-again c = (omega arith, omega arith, omega arith, omega arith, search chain-next, search chain-step)
+loop-again c = (omega arith, omega arith, omega arith, omega arith, omega arith, search chain-next)
+
+put4-requires-2 : tie.Need-put4-requires-2 Inv-loop μ-loop
+put4-requires-2 c κs = omega arith
 
 same-length : tie.Need-same-length Inv-loop μ-loop
 same-length c = omega arith
 
-returns : tie.Need-returns Inv-loop μ-loop
-returns c = search chain-end
+returns-2 : tie.Need-returns-2 Inv-loop μ-loop
+returns-2 c = search chain-last
 
 pub put-chain-spec : {M : Type 1} → statement M
 put-chain-spec =
@@ -52,13 +64,17 @@ put-chain-spec =
     (tie.spec
     Inv-loop
     μ-loop
-    mul-at
-    add-at
+    returns
+    sub-last
+    mul-last
+    add-last
     loop-holds
-    sub-at
+    add-put4
+    cast-put4
     put4-requires
-    cast-next
+    add-at
     loop-less
     loop-again
+    put4-requires-2
     same-length
-    returns)
+    returns-2)

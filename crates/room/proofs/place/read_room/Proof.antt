@@ -4,7 +4,7 @@ use native.Mathlib.Omega.{arith}
 use lib.ListN.{length, drop}
 use Rattle.block_type.specs.Limits.{longestZone}
 use Rattle.access.specs.row.Row.{Row}
-use Rattle.room.proofs.place.Walk.{SeenFor, for-none, for-more, for-fixed, for-end}
+use Rattle.room.proofs.place.Walk.{SeenFor, for-none, for-held, for-free, for-fixed, for-end}
 use Rattle.room.proofs.place.read_room.Statement.{statement}
 use Rattle.room.proofs.place.read_room.Tie as tie
 
@@ -18,11 +18,23 @@ abbrev μ-loop : tie.MeasureT-loop
 loop-holds : tie.Need-loop-holds Inv-loop μ-loop
 loop-holds c = (omega arith, omega arith, omega arith, omega arith, search needs, search for-none)
 
+step-used-requires : tie.Need-step-used-requires Inv-loop μ-loop
+step-used-requires c κs = (search needs, search needs, search needs, omega arith)
+
 loop-again : tie.Need-loop-again Inv-loop μ-loop
-loop-again c = (omega arith, omega arith, omega arith, omega arith, search needs, search for-more)
+loop-again c = (omega arith, omega arith, omega arith, omega arith, search needs, search for-held)
+
+step-used-requires-2 : tie.Need-step-used-requires-2 Inv-loop μ-loop
+step-used-requires-2 c κs = (search needs, search needs, search needs, omega arith)
 
 returns : tie.Need-returns Inv-loop μ-loop
 returns c = search for-fixed
+
+step-free-requires : tie.Need-step-free-requires Inv-loop μ-loop
+step-free-requires c κs = (search needs, search needs, search needs, omega arith)
+
+loop-again-2 : tie.Need-loop-again-2 Inv-loop μ-loop
+loop-again-2 c = (omega arith, omega arith, omega arith, omega arith, search needs, search for-free)
 
 returns-2 : tie.Need-returns-2 Inv-loop μ-loop
 returns-2 c = search for-end
@@ -36,13 +48,18 @@ read-room-spec =
     loop-holds
     (λ c κs. search needs)
     (λ c κs. search needs)
-    (λ c. search needs)
-    returns
-    (λ c κs. search needs)
-    (λ c κs. search needs)
-    (λ c. search needs)
+    step-used-requires
     (λ c. search needs)
     (λ c. search needs)
     loop-again
+    step-used-requires-2
+    (λ c. search needs)
+    returns
+    step-free-requires
+    (λ c κs. search needs)
+    (λ c. search needs)
+    (λ c. search needs)
+    (λ c. search needs)
+    loop-again-2
     (λ c. search needs)
     returns-2)

@@ -6,7 +6,7 @@ use native.Mathlib.Omega.{arith}
 use lib.ListN.{length, take, drop}
 use Rattle.bay.specs.Sound.{IsBay, cellsOf}
 use Rattle.bay.specs.Bay.{baySum}
-use Rattle.slide.specs.Slide.{heldBytes}
+use Rattle.slide.specs.way.Gathered.{heldBytes}
 use Rattle.slide.proofs.way.Way.{front-goes-on}
 use Rattle.slide.proofs.way.gather_front.Statement.{statement}
 use Rattle.slide.proofs.way.gather_front.Tie as tie

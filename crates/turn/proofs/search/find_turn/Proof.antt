@@ -2,8 +2,7 @@ use borrow.Author.Needs.{needs}
 use native.Mathlib.Omega.{arith}
 use Rattle.access.proofs.Checked.{zone-8}
 use Rattle.access.proofs.row.Zone.{zone-start, zone-row}
-use Rattle.turn.proofs.search.Halves.{halve-start}
-use Rattle.turn.proofs.search.Found.{clock-inside, turn-free, turn-five, turn-twelve, turn-found}
+use Rattle.turn.proofs.search.Found.{clock-inside, turn-starts, turn-five, turn-twelve, turn-found}
 use Rattle.turn.proofs.search.find_turn.Statement.{statement}
 use Rattle.turn.proofs.search.find_turn.Tie as tie
 
@@ -17,27 +16,19 @@ weigh-requires : tie.Need-weigh-requires
 weigh-requires c κs = (search zone-row, search zone-start, omega arith)
 
 returns : tie.Need-returns
-returns c = search turn-free
-
-weigh-requires-2 : tie.Need-weigh-requires-2
-weigh-requires-2 c κs = (search zone-row, search zone-start, omega arith)
-
-returns-2 : tie.Need-returns-2
-returns-2 c = search turn-five
+returns c = search turn-five
 
 least-limit-requires : tie.Need-least-limit-requires
-least-limit-requires c κs =
-    let e = c .before .before .before in
-    (search zone-row, search zone-start, halve-start _ _ _ _ _ _ _ _ _ (e .before .before .weigh .ensures) (e .if1 .left) (c .before .before .weigh2 .ensures) (c .if2 .left))
+least-limit-requires c κs = (search zone-row, search zone-start, search turn-starts)
 
 first-dirty-requires : tie.Need-first-dirty-requires
 first-dirty-requires c κs = (search zone-row, search zone-start)
 
-returns-3 : tie.Need-returns-3
-returns-3 c = search turn-twelve
+returns-2 : tie.Need-returns-2
+returns-2 c = search turn-twelve
 
-returns-4 : tie.Need-returns-4
-returns-4 c = search turn-found
+returns-3 : tie.Need-returns-3
+returns-3 c = search turn-found
 
 pub find-turn-spec : {M : Type 1} → statement M
 find-turn-spec =
@@ -48,10 +39,8 @@ find-turn-spec =
     clock-of-requires
     weigh-requires
     returns
-    weigh-requires-2
-    returns-2
     least-limit-requires
     first-dirty-requires
     (λ c κs. search needs)
-    returns-3
-    returns-4)
+    returns-2
+    returns-3)
