@@ -10,49 +10,50 @@ import re
 import sys
 import textwrap
 
-NUMBERS = {'u8': 'uint8_t', 'u16': 'uint16_t', 'u32': 'uint32_t', 'u64': 'uint64_t', 'usize': 'size_t'}
+NUMBER = {'u32': 'uint32_t'}  # what is passed and answered alone
+IN_SLICES = {'u8': 'uint8_t'}
+LENGTH = 'uint64_t'  # of a slice, on every machine: the proved module's
 COMMENT = r'(?P<comment>(?:^//[^\n]*\n)*)'
-STRUCT = re.compile(COMMENT + r'^#\[repr\(C\)\]\n^pub struct (?P<name>\w+) \{\n(?P<fields>.*?)^\}', re.M | re.S)
-FUNCTION = re.compile(COMMENT + r'^#\[no_mangle\]\n^pub extern "C" fn (?P<name>\w+)\((?P<args>[^)]*)\)(?:\s*->\s*(?P<result>\w+))?', re.M)
-MARK = re.compile(r'pub extern "C" fn|#\[repr\(C\)\]')
+FUNCTION = re.compile(COMMENT + r'^#\[no_mangle\]\n^pub extern "C" fn (?P<name>\w+)\((?P<args>[^)]*)\) -> (?P<result>\w+)$', re.M)
+REFERENCE = re.compile(r'&(?P<mut>mut )?(?:(?P<slice>\[(?P<of_slice>\w+)\])|\[(?P<of_array>\w+); (?P<count>[\w:]+)\]|(?P<of_one>\w+))')
 CONSTANT = re.compile(r'^(?P<own>    )?pub const (?P<name>\w+): \w+ = (?P<number>\d+);', re.M)
 
 
-def struct_name(name):
-    return 'nafelode_' + re.sub(r'(?<=[a-z0-9])(?=[A-Z])', '_', name).lower()
+def type_of(text, known=None):
+    """A number's type in C. Numbers and pointers alone are passed and answered: each machine returns structs in its own way."""
+    known = known or NUMBER
+    if text not in known:
+        sys.exit(f'header.py: `{text}` does not go in or out here: {", ".join(known)} does')
+    return known[text]
 
 
-def value_type(text, structs):
-    """A number's or a struct's type in C."""
-    if text in NUMBERS:
-        return NUMBERS[text]
-    if text in structs:
-        return struct_name(text)
-    sys.exit(f'header.py: no C type is known for `{text}`')
+def arguments_of(function):
+    """The arguments, each with its name and the kind that the source gives it."""
+    return [tuple(side.strip() for side in part.split(':', 1)) for part in function['args'].split(',') if part.strip()]
 
 
-def field(text, structs):
-    name, kind = (part.strip() for part in text.split(':', 1))
-    array = re.fullmatch(r'\[(\w+); (\d+)\]', kind)
-    if array:
-        return f'{value_type(array[1], structs)} {name}[{array[2]}];'
-    return f'{value_type(kind, structs)} {name};'
-
-
-def parameters(text, structs):
-    """A slice is a pointer and a length in C, any other reference a pointer."""
+def parameters(function):
+    """A slice is a pointer and a length in C; of a variable of the caller's, or an array of them, a pointer is passed."""
     found = []
-    for part in filter(None, (part.strip() for part in text.split(','))):
-        name, kind = (side.strip() for side in part.split(':', 1))
-        reference = re.fullmatch(r'&(mut )?(\[)?(\w+)\]?', kind)
+    for name, kind in arguments_of(function):
+        reference = REFERENCE.fullmatch(kind)
         if not reference:
-            found.append(f'{value_type(kind, structs)} {name}')
+            found.append(f'{type_of(kind)} {name}')
             continue
-        const = '' if reference[1] else 'const '
-        found.append(f'{const}{value_type(reference[3], structs)} *{name}')
-        if reference[2]:
-            found.append(f'size_t {name}_length')
+        const = '' if reference['mut'] else 'const '
+        if reference['slice']:
+            found += [f'{const}{type_of(reference["of_slice"], IN_SLICES)} *{name}', f'{LENGTH} {name}_length']
+        elif reference['of_array']:
+            found.append(f'{const}{type_of(reference["of_array"])} {name}[{constant(reference["count"])}]')
+        else:
+            found.append(f'{const}{type_of(reference["of_one"])} *{name}')
     return found
+
+
+def values(function):
+    """The values: variables of the caller's that the call writes, but for the walker, which is the caller's own and goes in, too."""
+    found = ((name, REFERENCE.fullmatch(kind)) for name, kind in arguments_of(function))
+    return [name for name, reference in found if reference and reference['mut'] and not reference['slice'] and name != 'walker']
 
 
 def paragraphs_of(text):
@@ -71,7 +72,7 @@ def comment(text):
     paragraphs = paragraphs_of(text)
     lines = [line for p in paragraphs for line in textwrap.wrap(p, 96, subsequent_indent='  ')]
     if not lines:
-        sys.exit('header.py: a struct or a function has no comment')
+        sys.exit('header.py: a function has no comment')
     return '/* ' + '\n * '.join(lines) + ' */'
 
 
@@ -79,7 +80,8 @@ def declaration(result, name, arguments):
     line = f'{result} {name}({", ".join(arguments)});'
     if len(line) <= 100:
         return line
-    return f'{result} {name}(\n' + '\n'.join(textwrap.wrap(', '.join(arguments), 92, initial_indent='    ', subsequent_indent='    ')) + ');'
+    whole = ', '.join(argument.replace(' ', '\0') for argument in arguments)  # no argument is broken
+    return f'{result} {name}(\n' + '\n'.join(textwrap.wrap(whole, 92, initial_indent='    ', subsequent_indent='    ')).replace('\0', ' ') + ');'
 
 
 def read(*path):
@@ -88,27 +90,44 @@ def read(*path):
         return file.read()
 
 
+def numbers():
+    """The numbers of crates/block_type by their names."""
+    found = CONSTANT.finditer(read('..', 'crates', 'block_type', 'src', 'lib.rt'))
+    return {('BlockType::' if c['own'] else '') + c['name']: c['number'] for c in found}
+
+
 def with_numbers(text):
     """A text with the numbers of crates/block_type where it names them: @LONGEST_ZONE@, @BlockType::FIXED_LIMIT@."""
-    found = CONSTANT.finditer(read('..', 'crates', 'block_type', 'src', 'lib.rt'))
-    numbers = {('BlockType::' if c['own'] else '') + c['name']: c['number'] for c in found}
+    known = numbers()
 
     def number(place):
-        if place[1] not in numbers:
+        if place[1] not in known:
             sys.exit(f'header.py: crates/block_type has no constant {place[1]}')
-        return numbers[place[1]] + 'u'
+        return known[place[1]] + 'u'
     return re.sub(r'@([\w:]+)@', number, text)
 
 
-def row(function, structs):
-    """A function's row: its arguments, its comment's first sentence, what it answers, the refusals."""
+def constant(count):
+    """The header's constant for an array's length, which is one of crates/block_type."""
+    name = count.removeprefix('block_type::')
+    if name == count or f'#define NAFELODE_{name} @{name}@' not in read('header.txt'):
+        sys.exit(f'header.py: an array of {count} numbers, which is no constant of crates/block_type that header.txt has')
+    return f'NAFELODE_{name}'
+
+
+def row(function):
+    """A function's row: its arguments, its comment's first sentence, the values that go through pointers, the refusals; or, where it
+    answers no refusal number, how a refusal is told."""
     paragraphs = paragraphs_of(function['comment'])
-    arguments = [argument.split()[-1].lstrip('*') for argument in parameters(function['args'], structs)]
-    answers = value_type(function['result'], structs)
+    arguments = [re.search(r'(\w+)(?:\[\w+\])?$', argument)[1] for argument in parameters(function)]
+    told = ', '.join(f'`{name}`' for name in values(function))
     refused = [p.removeprefix('Refused: ') for p in paragraphs if p.startswith('Refused: ')]
-    numbers = re.findall(r'(?:^|, )(\d+) (?=[a-z])', refused[0]) if refused else []
-    said = ', '.join(numbers) or ('never' if 'Never refused.' in ' '.join(paragraphs) else 'told by the answer')
-    return f'| `{function["name"]}({", ".join(arguments)})` | {re.split("(?<=[.]) ", paragraphs[0])[0]} | `{answers}` | {said} |'
+    causes = re.findall(r'(?:^|, )(\d+) (?=[a-z])', refused[0]) if refused else []
+    if 'no refusal number' in ' '.join(paragraphs):
+        said = 'never; answers yes or no' if 'Never refused.' in ' '.join(paragraphs) else 'answers an offset; 0 when refused'
+    else:
+        said = ', '.join(causes)
+    return f'| `{function["name"]}({", ".join(arguments)})` | {re.split("(?<=[.]) ", paragraphs[0])[0]} | {told} | {said} |'
 
 
 def version():
@@ -122,27 +141,18 @@ def main():
         sys.exit(__doc__)
     with open(words[-1], encoding='utf-8') as file:
         source = file.read()
-    structs = list(STRUCT.finditer(source))
     functions = list(FUNCTION.finditer(source))
-    # a layout that the patterns do not know must not drop a declaration
-    if not functions or len(MARK.findall(source)) != len(structs) + len(functions):
-        sys.exit('header.py: not every exported function and struct was understood')
-    known = {s['name'] for s in structs}
+    # a layout that the pattern does not know must not drop a declaration
+    if not functions or source.count('extern "C"') != len(functions):
+        sys.exit('header.py: not every exported function was understood')
     if asked == '--names':
         print('\n'.join(f['name'] for f in functions))
         return
     if asked == '--table':
-        print('\n'.join(['| function | what it does | answers | refused with |', '|---|---|---|---|', *(row(f, known) for f in functions)]))
+        print('\n'.join(['| function | what it does | values | refused with |', '|---|---|---|---|', *(row(f) for f in functions)]))
         return
-    out = [version()]
-    for s in structs:
-        name = struct_name(s['name'])
-        fields = [field(f.removeprefix('pub '), known) for f in re.findall(r'pub .*(?=,)', s['fields'])]
-        body = '\n'.join('    ' + f for f in fields)
-        out.append(f'{comment(s["comment"])}\ntypedef struct {name} {{\n{body}\n}} {name};')
-    for f in functions:
-        result = value_type(f['result'], known) if f['result'] else 'void'
-        out.append(comment(f['comment']) + '\n' + declaration(result, f['name'], parameters(f['args'], known) or ['void']))
+    declared = [comment(f['comment']) + '\n' + declaration(type_of(f['result']), f['name'], parameters(f)) for f in functions]
+    out = [version(), *declared]
     print(with_numbers(read('header.txt').replace('@DECLARATIONS@', '\n\n'.join(out))), end='')
 
 

@@ -10,7 +10,8 @@
 
 enum { CALLS = 27, LIST = 40000, STACK = 32768, LENGTH = 2048 };
 static uint8_t zone[LENGTH], second[4096], limits[NAFELODE_LIMITS_LENGTH], stack[STACK];
-static uint32_t which, a, b, c, d, e, walker, number;
+static uint32_t which, a, b, c, d, e, walker, number, counts[NAFELODE_STRATA];
+static uint32_t value, other, third; /* what a call answers beside its number */
 static ucontext_t here, there;
 
 static uint32_t random_below(uint32_t n) {
@@ -25,8 +26,8 @@ static uint32_t block(void) { return d % 3 == 0 ? a : d % 3 == 1 ? b : e; }
 /* Pages by the walker, which is none of the calls that are measured then. */
 static unsigned pages(void) {
     unsigned n = 0;
-    uint32_t at = nafelode_walker_start(zone, LENGTH);
-    for (nafelode_step s; at && (s = nafelode_walker_step(zone, LENGTH, &at)).size;) n += s.block_type == NAFELODE_TYPE_PAGE;
+    uint32_t at = nafelode_walker_start(zone, LENGTH), block_type, offset, size;
+    while (at && nafelode_walker_step(zone, LENGTH, &at, &block_type, &offset, &size) == 0 && size) n += block_type == NAFELODE_TYPE_PAGE;
     return n;
 }
 
@@ -34,33 +35,33 @@ static unsigned pages(void) {
 #define CASE(n, call) case n: number = (call); break
 static void call(void) {
     switch (which) {
-        CASE(0, nafelode_initialize(Z, 1024 + 4 * a, d).number);
-        CASE(1, nafelode_allocate_relocatable(Z, c).number);
-        CASE(2, nafelode_allocate_fixed(Z, c).number);
-        CASE(3, nafelode_free_handle(Z, a).number);
-        CASE(4, nafelode_free_pointer(Z, b).number);
-        CASE(5, nafelode_resize(Z, a, c).number);
-        CASE(6, nafelode_size(Z, d % 3, block()).number);
+        CASE(0, nafelode_initialize(Z, 1024 + 4 * a, d));
+        CASE(1, nafelode_allocate_relocatable(Z, c, &value));
+        CASE(2, nafelode_allocate_fixed(Z, c, &value));
+        CASE(3, nafelode_free_handle(Z, a));
+        CASE(4, nafelode_free_pointer(Z, b));
+        CASE(5, nafelode_resize(Z, a, c));
+        CASE(6, nafelode_size(Z, d % 3, block(), &value));
         CASE(7, nafelode_read(Z, d % 3, block(), 0, c, second, sizeof second));
         CASE(8, nafelode_write(Z, d % 3, block(), 0, c, second, sizeof second));
-        CASE(9, nafelode_view(Z, d % 3, block(), 0, c).length == 0);
-        CASE(10, nafelode_compact(Z).number);
-        CASE(11, nafelode_sum(Z).number);
-        CASE(12, nafelode_check(Z).yes == 0);
-        CASE(13, nafelode_length(Z).number);
-        CASE(14, nafelode_enlarge(Z, c).number);
-        CASE(15, nafelode_shrink(Z, c).number);
-        CASE(16, nafelode_roster(Z, second, sizeof second).number);
-        CASE(17, nafelode_census(Z, limits, d % 2 ? sizeof limits : 0).number);
+        CASE(9, (nafelode_view(Z, d % 3, block(), 0, c, &value), value == 0));
+        CASE(10, nafelode_compact(Z, &value));
+        CASE(11, nafelode_sum(Z, &value, &other));
+        CASE(12, nafelode_check(Z, &value) == 0);
+        CASE(13, nafelode_length(Z, &value));
+        CASE(14, nafelode_enlarge(Z, c));
+        CASE(15, nafelode_shrink(Z, c, &value));
+        CASE(16, nafelode_roster(Z, second, sizeof second, &value));
+        CASE(17, nafelode_census(Z, limits, d % 2 ? sizeof limits : 0, counts));
         CASE(18, (walker = nafelode_walker_start(Z)) == 0);
-        CASE(19, nafelode_walker_step(Z, &walker).number);
-        CASE(20, nafelode_create_page(Z, e, c).number);
-        CASE(21, nafelode_use_page(Z, e).number);
-        CASE(22, nafelode_set_dirty(Z, e).number);
-        CASE(23, nafelode_clear_dirty(Z, e).number);
-        CASE(24, nafelode_set_lock(Z, e).number);
-        CASE(25, nafelode_clear_lock(Z, e).number);
-        CASE(26, nafelode_drop_page(Z, e).number);
+        CASE(19, nafelode_walker_step(Z, &walker, &value, &other, &third));
+        CASE(20, nafelode_create_page(Z, e, c, &value));
+        CASE(21, nafelode_use_page(Z, e, &value));
+        CASE(22, nafelode_set_dirty(Z, e));
+        CASE(23, nafelode_clear_dirty(Z, e));
+        CASE(24, nafelode_set_lock(Z, e));
+        CASE(25, nafelode_clear_lock(Z, e));
+        CASE(26, nafelode_drop_page(Z, e));
         default: number = 1; /* nothing: what the measuring itself uses */
     }
 }
@@ -91,8 +92,9 @@ int main(void) {
         d = 4 + random_below(20), b = 0, e = random_below(24);
         uint32_t at = nafelode_walker_start(Z), stop = random_below(30); /* b: the pointer of some fixed block */
         for (uint32_t k = 0; at && k < 60; k++) {
-            nafelode_step s = nafelode_walker_step(Z, &at);
-            if (s.block_type == NAFELODE_TYPE_FIXED) b = s.offset + NAFELODE_FIXED_HEADER;
+            uint32_t block_type, offset, size;
+            nafelode_walker_step(Z, &at, &block_type, &offset, &size);
+            if (block_type == NAFELODE_TYPE_FIXED) b = offset + NAFELODE_FIXED_HEADER;
             if (k >= stop && b) break;
         }
         unsigned masters = zone[11], before = pages();

@@ -108,7 +108,6 @@ ALLOWED = [
     ("crates/zone/specs/Strata.antt", r"\bat \+ (2)\b", "the third byte of a limit"),
     ("crates/zone/proofs/Strata.antt", r"\bn ≡ (2)\b", "the same"),
     ("crates/inspect/", r"(?:\beqb first|\bfirst ==|\bv ≡) (2)\b", "the same"),
-    ("crates/nafelode_c/src/lib.rt", r"\[u32; (19)\]", "the length of the array in C's struct, as the header has it"),
     # refusal numbers
     ("crates/calls/specs/Table.antt", r"(?<![\w.])(?:[248]|1[24]) ∷", "the order of the refusal numbers"),
     ("crates/calls/specs/Table.antt", r"\beqb n (12)\b", "a refusal number"),
@@ -144,7 +143,7 @@ ALLOWED = [
     ("crates/records/", r"\(length \(decimal \w+\) \+ (2)\)", "the space and the end of a line"),
     ("crates/records/proofs/Decimal.antt", r"\bdigits-more 8\b", "how many digits are left"),
     ("crates/records/proofs/Example.antt", r"^example = .*", "document 01's example of zone-run"),
-    # a walker that is lent
+    # pages, C and a walker that is the caller's own
     ("crates/create/", r"(?:\bnumber|≡|\bcond s 0|\(not s\)) (12)\b", "a refusal number"),
     ("crates/nafelode_c/", r"\bby (?:== |≡ )?(2)\b", "how C says that a number is a page's name"),
     ("crates/walker_run/src/main.rt", r"\bturns = (16384)usize\b", "more steps than a zone of 65,536 bytes has blocks"),

@@ -11,12 +11,14 @@ def text(root):
 
 
 def functions(said):
-    """The functions without their prefix, each with its arguments: no zone, and no length of a lent buffer."""
+    """The functions without their prefix, each with its arguments: no zone, no length of a lent buffer, and no variable that is written, but for the walker, which
+    is read too."""
     found = {}
     for name, arguments in re.findall(r"^\w+ nafelode_(\w+)\(([^)]*)\);", said, re.M):
-        names = re.findall(r"(\w+)(?:,|$)", " ".join(arguments.split()))
-        lengths = {f"{word}_length" for word in names}
-        found[name] = [word for word in names if word != "zone" and word not in lengths]
+        given = [re.fullmatch(r"((?:const )?\w+ \*?)(\w+)((?:\[\w+\])?)", argument).groups() for argument in " ".join(arguments.split()).split(", ")]
+        lengths = {f"{word}_length" for _, word, _ in given}
+        values = {word for kind, word, array in given if kind == "uint32_t *" or array} - {"walker"}
+        found[name] = [word for _, word, _ in given if word != "zone" and word not in lengths | values]
     return found
 
 

@@ -78,7 +78,7 @@ class Seals(Trial):
 
     def test_weaker_clause(self):
         file = "crates/nafelode_c/src/lib.rt"
-        self.change(file, r"ensures \{ λ r\. ⌜ InitPromise .*\}$", "ensures { λ r. ⌜ r .value ≡ 0 ⌝ }")
+        self.change(file, r"ensures \{ λ r\. ⌜ InitPromise .*\}$", "ensures { λ r. ⌜ r ≡ 0 ⌝ }")
         self.noticed(seals, ["seal differs", "nafelode_c::nafelode_initialize"])
 
     def test_requires_more(self):

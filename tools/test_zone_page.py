@@ -39,7 +39,7 @@ class ZonePage(Trial):
         self.page(r"^### `compact\(\)`$", "### `pack()`", ["calls", "pack"])
         self.page(r"^### `resize\(handle, c\)`", "### `resize(handle, k)`", ["resize's arguments"])
         self.page(r"^### `set_dirty\(name\)`, ", "### ", ["calls", "set_dirty"])
-        self.defined("crates/nafelode_c/src/lib.rt", r"fn nafelode_shrink\(zone: &mut \[u8\], k: u32\)", "fn nafelode_shrink(zone: &mut [u8], k: u32, limit: u32)", ["shrink's arguments", "limit"])
+        self.defined("crates/nafelode_c/src/lib.rt", r"fn nafelode_shrink\(zone: &mut \[u8\], k: u32, ", "fn nafelode_shrink(zone: &mut [u8], k: u32, limit: u32, ", ["shrink's arguments", "limit"])
 
     def test_refusals_of_a_call(self):
         self.page(r"^- Refused: 1, 3, 4, 5\.$", "- Refused: 1, 3, 5.", ["allocate_relocatable's refusals"])

@@ -31,7 +31,7 @@ def rust(text):
         parts.append(code[at : clause.start()])
         at = sources.closing(code, clause.end() - 1)
     code = re.sub(r"^(\s*)fn ", r"\1pub fn ", "".join(parts) + code[at:], flags=re.M)
-    return re.sub(r"^((?:#\[repr\(C\)\]\n)?pub (?:struct|enum))", r"#[derive(Clone, Copy)]\n\1", code, flags=re.M)
+    return re.sub(r"^(pub (?:struct|enum))", r"#[derive(Clone, Copy)]\n\1", code, flags=re.M)
 
 
 def libraries():

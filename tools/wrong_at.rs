@@ -116,14 +116,21 @@ fn call(zone: &mut Vec<u8>, words: &[&str]) -> String {
             let step = walker.advance(zone);
             format!("{} {} {} {}, walker {}", step.number, step.block.kind, step.block.offset, step.block.size, walker.at)
         }
+        // C's, with the caller's variable before the call
+        "nafelode_allocate_relocatable" => {
+            let mut handle = n(2);
+            let number = nafelode_c::nafelode_allocate_relocatable(zone, n(1), &mut handle);
+            format!("{number} {handle}")
+        }
         "nafelode_size" => {
-            let answer = nafelode_c::nafelode_size(zone, n(1), n(2));
-            format!("{} {}", answer.number, answer.value)
+            let mut size = 0;
+            let number = nafelode_c::nafelode_size(zone, n(1), n(2), &mut size);
+            format!("{number} {size}")
         }
         "nafelode_walker_step" => {
-            let mut walker = n(1);
-            let step = nafelode_c::nafelode_walker_step(zone, &mut walker);
-            format!("{} {} {} {}, walker {walker}", step.number, step.block_type, step.offset, step.size)
+            let (mut walker, mut block_type, mut offset, mut size) = (n(1), 0, 0, 0);
+            let number = nafelode_c::nafelode_walker_step(zone, &mut walker, &mut block_type, &mut offset, &mut size);
+            format!("{number} {block_type} {offset} {size}, walker {walker}")
         }
         "record" => lines(zone, &record(&(1..words.len()).map(n).collect::<Vec<u32>>())),
         "raw" => lines(zone, &unhex(words[1])),

@@ -55,7 +55,7 @@ class Steered:
 
     def count(self) -> int:
         """Mostly a few bytes, sometimes about as much as is free."""
-        largest = self.library.call("sum").largest
+        _, _, largest = self.library.call("sum")
         if self.rng.random() < 0.3:
             return max(0, largest - self.rng.randint(0, 8))
         return self.rng.randint(0, max(4, largest // 4))
@@ -63,7 +63,7 @@ class Steered:
     def stretch(self) -> list:
         by = self.rng.choices((HANDLE, POINTER), (3, 1))[0]
         name = self.name(by)
-        size = self.library.call("size", by, name).value
+        _, size = self.library.call("size", by, name)
         offset = self.rng.randint(0, size)
         count = self.rng.randint(0, size - offset) if self.rng.random() < 0.9 else size + 1
         return ["handle" if by == HANDLE else "pointer", name, offset, min(count, 40)]
@@ -76,7 +76,7 @@ class Steered:
             return [self.name(HANDLE if call == "free_handle" else POINTER)]
         if call == "resize":
             name = self.name(HANDLE)
-            size = self.library.call("size", HANDLE, name).value
+            _, size = self.library.call("size", HANDLE, name)
             return [name, rng.choice((self.count(), size + rng.randint(1, 16), size + self.count()))]
         if call == "size":
             return self.stretch()[:2]

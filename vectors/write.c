@@ -97,30 +97,33 @@ static void numbers(const char *word, unsigned how_many, const uint32_t *p) {
     putchar('\n');
 }
 
-static void told(nafelode_told t) { numbers("answer", 2, (uint32_t[]){t.number, t.value}); }
+/* What a call answers: the refusal number and its value, 0 for a call that has none. The value is that of the call: it is read after it. */
+static uint32_t value;
+static void told(uint32_t refusal) { numbers("answer", 2, (uint32_t[]){refusal, value}); }
+static void done(uint32_t refusal) { value = 0, told(refusal); }
 
 static int changing_call(void) {
-    if (is("initialize", 2)) told(nafelode_initialize(zone, length, number(2), number(3)));
-    else if (is("allocate_relocatable", 1)) told(nafelode_allocate_relocatable(zone, length, number(2)));
-    else if (is("allocate_fixed", 1)) told(nafelode_allocate_fixed(zone, length, number(2)));
-    else if (is("free_handle", 1)) told(nafelode_free_handle(zone, length, number(2)));
-    else if (is("free_pointer", 1)) told(nafelode_free_pointer(zone, length, number(2)));
-    else if (is("resize", 2)) told(nafelode_resize(zone, length, number(2), number(3)));
-    else if (is("compact", 0)) told(nafelode_compact(zone, length));
-    else if (is("enlarge", 1)) told(nafelode_enlarge(zone, length, number(2)));
-    else if (is("shrink", 1)) told(nafelode_shrink(zone, length, number(2)));
+    if (is("initialize", 2)) done(nafelode_initialize(zone, length, number(2), number(3)));
+    else if (is("allocate_relocatable", 1)) told(nafelode_allocate_relocatable(zone, length, number(2), &value));
+    else if (is("allocate_fixed", 1)) told(nafelode_allocate_fixed(zone, length, number(2), &value));
+    else if (is("free_handle", 1)) done(nafelode_free_handle(zone, length, number(2)));
+    else if (is("free_pointer", 1)) done(nafelode_free_pointer(zone, length, number(2)));
+    else if (is("resize", 2)) done(nafelode_resize(zone, length, number(2), number(3)));
+    else if (is("compact", 0)) told(nafelode_compact(zone, length, &value));
+    else if (is("enlarge", 1)) done(nafelode_enlarge(zone, length, number(2)));
+    else if (is("shrink", 1)) told(nafelode_shrink(zone, length, number(2), &value));
     else return 0;
     return 1;
 }
 
 static int page_call(void) {
-    if (is("create_page", 2)) told(nafelode_create_page(zone, length, number(2), number(3)));
-    else if (is("use_page", 1)) told(nafelode_use_page(zone, length, number(2)));
-    else if (is("set_dirty", 1)) told(nafelode_set_dirty(zone, length, number(2)));
-    else if (is("clear_dirty", 1)) told(nafelode_clear_dirty(zone, length, number(2)));
-    else if (is("set_lock", 1)) told(nafelode_set_lock(zone, length, number(2)));
-    else if (is("clear_lock", 1)) told(nafelode_clear_lock(zone, length, number(2)));
-    else if (is("drop_page", 1)) told(nafelode_drop_page(zone, length, number(2)));
+    if (is("create_page", 2)) told(nafelode_create_page(zone, length, number(2), number(3), &value));
+    else if (is("use_page", 1)) told(nafelode_use_page(zone, length, number(2), &value));
+    else if (is("set_dirty", 1)) done(nafelode_set_dirty(zone, length, number(2)));
+    else if (is("clear_dirty", 1)) done(nafelode_clear_dirty(zone, length, number(2)));
+    else if (is("set_lock", 1)) done(nafelode_set_lock(zone, length, number(2)));
+    else if (is("clear_lock", 1)) done(nafelode_clear_lock(zone, length, number(2)));
+    else if (is("drop_page", 1)) done(nafelode_drop_page(zone, length, number(2)));
     else return 0;
     return 1;
 }
@@ -130,30 +133,33 @@ static int census(void) {
     if (!is("census", count > 2)) return 0;
     size_t size = 0;
     uint8_t *given = count > 2 ? bytes(given_room, 2, &size) : NULL, *limits = count > 2 ? bytes(second_room, 2, &size) : NULL;
-    nafelode_census_counts c = nafelode_census(zone, length, limits, size);
-    printf("answer %" PRIu32, c.number);
-    numbers("", 19, c.counts);
+    uint32_t counts[NAFELODE_STRATA];
+    printf("answer %" PRIu32, nafelode_census(zone, length, limits, size, counts));
+    numbers("", NAFELODE_STRATA, counts);
     if (size && memcmp(limits, given, size)) fail("a census has changed its limits");
     return 1;
 }
 
 static int telling_call(void) {
-    if (is("size", 2)) told(nafelode_size(zone, length, by(), number(3)));
-    else if (is("length", 0)) told(nafelode_length(zone, length));
+    if (is("size", 2)) told(nafelode_size(zone, length, by(), number(3), &value));
+    else if (is("length", 0)) told(nafelode_length(zone, length, &value));
     else if (is("walker_start", 0)) printf("walker %" PRIu32 "\n", nafelode_walker_start(zone, length));
     else if (is("view", 4)) {
-        nafelode_part p = nafelode_view(zone, length, by(), number(3), number(4), number(5));
-        numbers("view", 2, (uint32_t[]){p.offset, p.length});
+        uint32_t part[2];
+        part[0] = nafelode_view(zone, length, by(), number(3), number(4), number(5), &part[1]);
+        numbers("view", 2, part);
     } else if (is("sum", 0)) {
-        nafelode_sums s = nafelode_sum(zone, length);
-        numbers("answer", 3, (uint32_t[]){s.number, s.total, s.largest});
+        uint32_t sums[3];
+        sums[0] = nafelode_sum(zone, length, &sums[1], &sums[2]);
+        numbers("answer", 3, sums);
     } else if (is("check", 0)) { /* never refused */
-        nafelode_checked c = nafelode_check(zone, length);
-        numbers("answer 0", 2, (uint32_t[]){c.yes, c.count});
+        uint32_t checked[2];
+        checked[0] = nafelode_check(zone, length, &checked[1]);
+        numbers("answer 0", 2, checked);
     } else if (is("walker_step", 1)) {
-        uint32_t walker = number(2);
-        nafelode_step s = nafelode_walker_step(zone, length, &walker);
-        numbers("answer", 4, (uint32_t[]){s.number, s.block_type, s.offset, s.size});
+        uint32_t walker = number(2), step[4];
+        step[0] = nafelode_walker_step(zone, length, &walker, &step[1], &step[2], &step[3]);
+        numbers("answer", 4, step);
         numbers("walker", 1, &walker);
     } else return 0;
     return 1;
@@ -165,7 +171,7 @@ static int call_with_second(void) {
     uint8_t *given = bytes(given_room, count - 1, &size), *second = bytes(second_room, count - 1, &size);
     if (is("read", 5)) printf("answer %" PRIu32 "\n", nafelode_read(zone, length, by(), number(3), number(4), number(5), second, size));
     else if (is("write", 5)) printf("answer %" PRIu32 "\n", nafelode_write(zone, length, by(), number(3), number(4), number(5), second, size));
-    else told(nafelode_roster(zone, length, second, size));
+    else told(nafelode_roster(zone, length, second, size, &value));
     tell("second", second, size, !memcmp(second, given, size));
     return 1;
 }

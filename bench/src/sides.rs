@@ -4,7 +4,7 @@
 
 use crate::c_interface::*;
 use crate::calls::Call;
-use crate::zone::{self, numbers, Stretch, Target, Walker};
+use crate::zone::{self, numbers, Stretch, Target, Walker, STRATA};
 
 pub type Side = fn(&mut [u8], &Call, &mut [u8]) -> u32;
 
@@ -16,8 +16,10 @@ fn named(target: Target) -> (u32, u32) {
     }
 }
 
-fn both(told: Told) -> u32 {
-    told.number ^ told.value
+/// The number and the value of a call, which is told where the value goes.
+fn both(call: impl FnOnce(*mut u32) -> u32) -> u32 {
+    let mut value = 0;
+    call(&mut value) ^ value
 }
 
 fn done(answer: zone::Answer<()>) -> u32 {
@@ -30,20 +32,20 @@ fn value(answer: zone::Answer<u32>) -> u32 {
 }
 
 pub fn archive(zone: &mut [u8], call: &Call, second: &mut [u8]) -> u32 {
-    let (z, n) = (zone.as_mut_ptr(), zone.len());
-    let (s, k) = (second.as_mut_ptr(), second.len());
+    let (z, n) = (zone.as_mut_ptr(), zone.len() as u64);
+    let (s, k) = (second.as_mut_ptr(), second.len() as u64);
     // SAFETY: both buffers are lent whole for the one call.
     unsafe {
         match *call {
-            Call::Initialize(length, m) => both(nafelode_initialize(z, n, length, m)),
-            Call::Relocatable(c) => both(nafelode_allocate_relocatable(z, n, c)),
-            Call::Fixed(c) => both(nafelode_allocate_fixed(z, n, c)),
-            Call::FreeHandle(handle) => both(nafelode_free_handle(z, n, handle)),
-            Call::FreePointer(pointer) => both(nafelode_free_pointer(z, n, pointer)),
-            Call::Resize(handle, c) => both(nafelode_resize(z, n, handle, c)),
+            Call::Initialize(length, m) => nafelode_initialize(z, n, length, m),
+            Call::Relocatable(c) => both(|v| nafelode_allocate_relocatable(z, n, c, v)),
+            Call::Fixed(c) => both(|v| nafelode_allocate_fixed(z, n, c, v)),
+            Call::FreeHandle(handle) => nafelode_free_handle(z, n, handle),
+            Call::FreePointer(pointer) => nafelode_free_pointer(z, n, pointer),
+            Call::Resize(handle, c) => nafelode_resize(z, n, handle, c),
             Call::Size(target) => {
                 let (by, block) = named(target);
-                both(nafelode_size(z, n, by, block))
+                both(|v| nafelode_size(z, n, by, block, v))
             }
             Call::Read(Stretch { block, offset, count }) => {
                 let (by, block) = named(block);
@@ -55,39 +57,36 @@ pub fn archive(zone: &mut [u8], call: &Call, second: &mut [u8]) -> u32 {
             }
             Call::View(Stretch { block, offset, count }) => {
                 let (by, block) = named(block);
-                let part = nafelode_view(z, n, by, block, offset, count);
-                part.offset ^ part.length
+                both(|v| nafelode_view(z, n, by, block, offset, count, v))
             }
-            Call::Compact => both(nafelode_compact(z, n)),
+            Call::Compact => both(|v| nafelode_compact(z, n, v)),
             Call::Sum => {
-                let sums = nafelode_sum(z, n);
-                sums.number ^ sums.total ^ sums.largest
+                let (mut total, mut largest) = (0, 0);
+                nafelode_sum(z, n, &mut total, &mut largest) ^ total ^ largest
             }
-            Call::Check => {
-                let checked = nafelode_check(z, n);
-                checked.yes ^ checked.count
-            }
-            Call::Length => both(nafelode_length(z, n)),
-            Call::Enlarge(k) => both(nafelode_enlarge(z, n, k)),
-            Call::Shrink(k) => both(nafelode_shrink(z, n, k)),
-            Call::Roster => both(nafelode_roster(z, n, s, k)),
+            Call::Check => both(|v| nafelode_check(z, n, v)),
+            Call::Length => both(|v| nafelode_length(z, n, v)),
+            Call::Enlarge(k) => nafelode_enlarge(z, n, k),
+            Call::Shrink(k) => both(|v| nafelode_shrink(z, n, k, v)),
+            Call::Roster => both(|v| nafelode_roster(z, n, s, k, v)),
             Call::Census => {
-                let census = nafelode_census(z, n, s, k);
-                census.counts.iter().fold(census.number, |all, count| all.rotate_left(3) ^ count)
+                let mut counts = [0; STRATA];
+                let number = nafelode_census(z, n, s, k, &mut counts);
+                counts.iter().fold(number, |all, count| all.rotate_left(3) ^ count)
             }
             Call::WalkerStart => nafelode_walker_start(z, n),
             Call::WalkerStep(offset) => {
-                let mut walker = offset;
-                let block = nafelode_walker_step(z, n, &mut walker);
-                block.number ^ block.block_type ^ block.offset ^ block.size ^ walker
+                let (mut walker, mut kind, mut at, mut size) = (offset, 0, 0, 0);
+                let number = nafelode_walker_step(z, n, &mut walker, &mut kind, &mut at, &mut size);
+                number ^ kind ^ at ^ size ^ walker
             }
-            Call::CreatePage(name, c) => both(nafelode_create_page(z, n, name, c)),
-            Call::UsePage(name) => both(nafelode_use_page(z, n, name)),
-            Call::SetDirty(name) => both(nafelode_set_dirty(z, n, name)),
-            Call::ClearDirty(name) => both(nafelode_clear_dirty(z, n, name)),
-            Call::SetLock(name) => both(nafelode_set_lock(z, n, name)),
-            Call::ClearLock(name) => both(nafelode_clear_lock(z, n, name)),
-            Call::DropPage(name) => both(nafelode_drop_page(z, n, name)),
+            Call::CreatePage(name, c) => both(|v| nafelode_create_page(z, n, name, c, v)),
+            Call::UsePage(name) => both(|v| nafelode_use_page(z, n, name, v)),
+            Call::SetDirty(name) => nafelode_set_dirty(z, n, name),
+            Call::ClearDirty(name) => nafelode_clear_dirty(z, n, name),
+            Call::SetLock(name) => nafelode_set_lock(z, n, name),
+            Call::ClearLock(name) => nafelode_clear_lock(z, n, name),
+            Call::DropPage(name) => nafelode_drop_page(z, n, name),
         }
     }
 }

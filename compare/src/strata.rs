@@ -56,18 +56,20 @@ pub fn of_length(
 ) -> Result<usize, String> {
     put(zone, length);
     let (lent, second) = (&zone[..length], limits.map_or(vec![], bytes_of));
-    // SAFETY: both are lent whole for this call alone.
-    let census =
-        unsafe { nafelode_census(lent.as_ptr(), lent.len(), second.as_ptr(), second.len()) };
+    let mut counts = [0; STRATA];
+    // SAFETY: all are lent whole for this call alone.
+    let number = unsafe {
+        let (z, n, s, k) = (lent.as_ptr(), lent.len() as u64, second.as_ptr(), second.len() as u64);
+        nafelode_census(z, n, s, k, &mut counts)
+    };
     let words = (length - HEADER) as u32 / 2;
     let (wanted, stratum) = wanted(words, limits);
-    if census.number == 0 && census.counts[..] == wanted && wanted.get(stratum) == Some(&1) {
+    if number == 0 && counts[..] == wanted && wanted.get(stratum) == Some(&1) {
         return Ok(stratum);
     }
     Err(format!(
         "census of a zone of {length} bytes with one free block, of {words} words, by {limits:?}\n\
          the limits written out {wanted:?}\nthe Rust implementation: stratum {stratum}\n\
-         the archive {} {:?}",
-        census.number, census.counts
+         the archive {number} {counts:?}"
     ))
 }

@@ -20,7 +20,7 @@ from .roster import Record, decode_roster
 from .rules import ZoneError
 from .zone import Zone, check, fault, read
 
-__version__ = "1.7.2"  # as in the file VERSION
+__version__ = "1.7.3"  # as in the file VERSION
 
 __all__ = [
     "Bay",

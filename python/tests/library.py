@@ -7,7 +7,7 @@ import ctypes
 import os
 import subprocess
 import tempfile
-from ctypes import c_size_t, c_uint32
+from ctypes import c_uint32, c_uint64
 from typing import Iterator, List, Sequence, Tuple
 
 import builder
@@ -19,23 +19,13 @@ WORDS = {HANDLE: "handle", POINTER: "pointer", NAME: "name"}
 STRATA = 19
 
 
-def _struct(name: str, *fields: Tuple[str, type]) -> type:
-    return type(name, (ctypes.Structure,), {"_fields_": list(fields)})
-
-
-_Told = _struct("Told", ("number", c_uint32), ("value", c_uint32))
-_Sums = _struct("Sums", ("number", c_uint32), ("total", c_uint32),
-                ("largest", c_uint32))
-_Checked = _struct("Checked", ("yes", c_uint32), ("count", c_uint32))
-_Part = _struct("Part", ("offset", c_uint32), ("length", c_uint32))
-_Step = _struct("Step", ("number", c_uint32), ("block_type", c_uint32),
-                ("offset", c_uint32), ("size", c_uint32))
-_Counts = _struct("Counts", ("number", c_uint32),
-                  ("counts", c_uint32 * STRATA))
-
-_ANSWERS = {"sum": _Sums, "check": _Checked, "view": _Part, "read": c_uint32,
-            "write": c_uint32, "census": _Counts, "walker_start": c_uint32,
-            "walker_step": _Step}
+# how many values a call has, which it writes through its last pointers
+_VALUES = {"allocate_relocatable": 1, "allocate_fixed": 1, "size": 1,
+           "view": 1, "create_page": 1, "use_page": 1, "compact": 1, "sum": 2,
+           "check": 1, "length": 1, "shrink": 1, "roster": 1,
+           "walker_step": 3}
+# what a value is before a call, which has to write it
+_UNWRITTEN = 0x0BAD0BAD
 
 
 def load(path: str) -> ctypes.CDLL:
@@ -65,49 +55,55 @@ class Library:
     def zone(self) -> bytes:
         return self._zone.raw[:self._length]
 
-    def call(self, name: str, *arguments: object) -> object:
-        """A call by its C name; its numbers are unsigned 32-bit."""
+    def call(self, name: str, *arguments: object) -> Tuple[int, ...]:
+        """A call by its C name; its numbers are unsigned 32-bit. What it
+        answers, mostly the refusal number, and then its values."""
         function = getattr(self._library, "nafelode_" + name)
-        function.restype = _ANSWERS.get(name, _Told)
+        function.restype = c_uint32
         given = [c_uint32(a) if isinstance(a, int) else a for a in arguments]
-        return function(self._zone, c_size_t(self._length), *given)
+        values = [c_uint32(_UNWRITTEN) for _ in range(_VALUES.get(name, 0))]
+        answer = function(self._zone, c_uint64(self._length), *given,
+                          *map(ctypes.byref, values))
+        return answer, *(value.value for value in values)
 
     def read(self, by: int, block: int, offset: int,
              count: int) -> Tuple[int, bytes]:
         """Refusal number and bytes; the second buffer is long enough."""
         room = min(count, self._length)
         second = ctypes.create_string_buffer(room + 1)
-        number = self.call("read", by, block, offset, count, second,
-                           c_size_t(room))
+        number, = self.call("read", by, block, offset, count, second,
+                            c_uint64(room))
         return number, second.raw[:room]
 
     def write(self, by: int, block: int, offset: int, count: int,
               data: bytes) -> int:
-        return self.call("write", by, block, offset, count, data,
-                         c_size_t(len(data)))
+        number, = self.call("write", by, block, offset, count, data,
+                            c_uint64(len(data)))
+        return number
 
     def roster(self, lent: bytes) -> Tuple[int, int, bytes]:
         """Refusal number, how many, and the second buffer's bytes then."""
         second = ctypes.create_string_buffer(lent, len(lent) + 1)
-        told = self.call("roster", second, c_size_t(len(lent)))
-        return told.number, told.value, second.raw[:len(lent)]
+        number, count = self.call("roster", second, c_uint64(len(lent)))
+        return number, count, second.raw[:len(lent)]
 
     def census(self, lent: bytes = b"") -> Tuple[int, ...]:
         """Refusal number and counts; with no limits the pointer is null."""
         limits = ctypes.create_string_buffer(lent, len(lent)) if lent else None
-        census = self.call("census", limits, c_size_t(len(lent)))
+        counts = (c_uint32 * STRATA)(*[_UNWRITTEN] * STRATA)
+        number, = self.call("census", limits, c_uint64(len(lent)), counts)
         if limits is not None and limits.raw != lent:
             raise ValueError("a census has changed its limits")
-        return census.number, *census.counts
+        return number, *counts
 
     def walk(self) -> Iterator[Tuple[int, int, int]]:
         """Type, offset and size of each block."""
-        walker = c_uint32(self.call("walker_start"))
+        walker = c_uint32(*self.call("walker_start"))
         while True:
-            step = self.call("walker_step", ctypes.byref(walker))
-            if step.size == 0:
+            _, *block = self.call("walker_step", ctypes.byref(walker))
+            if block[2] == 0:
                 return
-            yield step.block_type, step.offset, step.size
+            yield tuple(block)
 
 
 def differences(library: Library, image: bytes,
@@ -121,20 +117,20 @@ def differences(library: Library, image: bytes,
             found.append(f"{what}: package {package}, library {proved}")
 
     library.lend(image)
-    checked = library.call("check")
-    same("check", nafelode.check(image), (checked.yes == 1, checked.count))
-    same("fault", nafelode.fault(image) is None, checked.yes == 1)
-    if checked.yes == 1 and not found:
+    yes, count = library.call("check")
+    same("check", nafelode.check(image), (yes == 1, count))
+    same("fault", nafelode.fault(image) is None, yes == 1)
+    if yes == 1 and not found:
         zone = nafelode.Zone(image)
-        same("length", zone.length, library.call("length").value)
+        same("length", (0, zone.length), library.call("length"))
         same("blocks", [(b.type, b.offset, b.size) for b in zone.blocks],
              list(library.walk()))
         _same_blocks(library, zone, same)
         _same_sums(library, zone, same)
         for lent in (b"", *limits):
             same_census(library, zone, lent, same)
-    elif checked.yes == 0:
-        same("refusal", 1, library.call("length").number)
+    elif yes == 0:
+        same("refusal", (1, 0), library.call("length"))
         for lent in (b"", *limits):
             same("census of no zone", _refusal(1), library.census(lent))
     same("bytes", image, library.zone)
@@ -156,18 +152,17 @@ def _same_blocks(library, zone, same) -> None:
 
 def _same_block(library, same, by, number, block, read) -> None:
     what, data = (WORDS[by], number), read(number)
-    size = library.call("size", by, number)
-    same(f"size of {what}", (0, block.data_size), (size.number, size.value))
+    same(f"size of {what}", (0, block.data_size),
+         library.call("size", by, number))
     same(f"bytes of {what}", (0, data),
          library.read(by, number, 0, len(data)))
-    view = library.call("view", by, number, 0, len(data))
     same(f"place of {what}", (block.data_offset, len(data)),
-         (view.offset, view.length))
+         library.call("view", by, number, 0, len(data)))
     half = len(data) // 2
     same(f"second half of {what}", (0, read(number, half)),
          library.read(by, number, half, len(data) - half))
     same(f"past the end of {what}", _refused(read, number, half, len(data)),
-         library.call("view", by, number, half, len(data)).length == 0
+         library.call("view", by, number, half, len(data)) == (0, 0)
          and library.read(by, number, half, len(data))[0] == 8)
     # offset + count is not wrapped
     same(f"far past the end of {what}", _refused(read, number, 2**32 - 1, 1),
@@ -178,15 +173,15 @@ def _same_refusals(library, zone, same) -> None:
     """Handles, pointers and names that are none."""
     for master in zone.chain:
         same(f"free master {master}", _refused(zone.by_handle, master),
-             library.call("size", HANDLE, master).number == 6)
+             library.call("size", HANDLE, master) == (6, 0))
     for block in zone.blocks:
         # its start, where older images had a pointer, where one may be
         for at in (block.offset, block.offset + 2, block.offset + 4):
             same(f"pointer {at}", _refused(zone.by_pointer, at),
-                 library.call("size", POINTER, at).number == 7)
+                 library.call("size", POINTER, at) == (7, 0))
     for name in {0, 1, 2**32 - 1, *(name ^ 1 for name in zone.names)}:
         same(f"name {name}", _refused(zone.by_name, name),
-             library.call("size", NAME, name).number == 13)
+             library.call("size", NAME, name) == (13, 0))
 
 
 def _refused(call, *arguments) -> bool:
@@ -198,8 +193,7 @@ def _refused(call, *arguments) -> bool:
 
 
 def _same_sums(library, zone, same) -> None:
-    sums = library.call("sum")
-    same("sum", (0, *zone.sum()), (sums.number, sums.total, sums.largest))
+    same("sum", (0, *zone.sum()), library.call("sum"))
     same_roster(library, zone, same)
 
 

@@ -1,2 +1,3 @@
 pub mod Laws
+pub mod NoValue
 pub mod Words

@@ -5,8 +5,8 @@ use borrow.Author.Needs.{needs}
 use Rattle.nafelode_c.proofs.nafelode_check.Statement.{statement}
 use Rattle.nafelode_c.proofs.nafelode_check.Tie as tie
 
-cast-count : tie.Need-cast-count
-cast-count c = search (count-word, bytes-of)
+cast-live : tie.Need-cast-live
+cast-live c = search (count-word, bytes-of)
 
 returns : tie.Need-returns
 returns c = search check-yes
@@ -15,4 +15,4 @@ returns-2 : tie.Need-returns-2
 returns-2 c = search check-no
 
 pub nafelode-check-spec : {M : Type 1} → statement M
-nafelode-check-spec = tie.close (tie.spec (λ c κs. search needs) cast-count returns returns-2)
+nafelode-check-spec = tie.close (tie.spec (λ c κs. search needs) cast-live returns returns-2)
