@@ -1,4 +1,6 @@
 // Where a handle's data lie and how many they are, over the bytes of a well-formed zone with none beyond its length.
+#![tactic(auto)]
+
 pub mod locate;
 pub mod row;
 

@@ -12,7 +12,7 @@ use super::row;
 use block_type::BlockType;
 
 // A block is named by its handle, by its pointer where it is fixed, by its name where it is a page.
-#[derive(Drop)]
+#[derive(Clone, Copy)]
 pub enum Target {
     Handle(u32),
     Pointer(u32),

@@ -113,15 +113,15 @@ skip-free : (n j : ℕ) (cs : List Cell) {o : Option Hole} (x : Hole) → (n ≤
 skip-free n j cs x m q true e = ap (λ (o : Option Hole). some (tighter (hole [] j cs) o)) q ∙ (rw (lt-leb j x.size (m (leb-true n j e))))
 skip-free n j cs x m q false e = q
 
-choose-after : (n : ℕ) {before : List Cell} (k : ℕ) (after : List Cell) → n ≤ k → EachFree (λ (j : ℕ). n ≤ j → k < j) before → EachFree (λ (j : ℕ). n ≤ j → k ≤ j) after
+choose-after : (n : ℕ) (k : ℕ) {before : List Cell} (after : List Cell) → n ≤ k → EachFree (λ (j : ℕ). n ≤ j → k < j) before → EachFree (λ (j : ℕ). n ≤ j → k ≤ j) after
     → choose n (holes (before ++ (free k ∷ after))) ≡ some (hole before k after)
-choose-after n {before = []} k after l no_cell r =
+choose-after n k {before = []} after l no_cell r =
     let w = choose-all n (all_map {Q = λ (x : Hole). n ≤ x.size → k ≤ x.size} (behind (free k)) (λ x q. q) (holes-sizes r)) in
     rw (le-leb n k l) (ap some (tighter-first (hole [] k after) (each_weaken (λ x p. p.0 p.1) w)))
-choose-after n {before = free j ∷ before} k after l (a_hole m s) r =
+choose-after n k {before = free j ∷ before} after l (a_hole m s) r =
     let cs = before ++ (free k ∷ after) in
     skip-free n j cs (hole (free j ∷ before) k after) m (choose-behind n (free j) (holes cs) ∙ ap (over (behind (free j))) (choose-after n k after l s r)) (leb n j) refl
-choose-after n {before = held d ∷ before} k after l (a_block s) r =
+choose-after n k {before = held d ∷ before} after l (a_block s) r =
     choose-behind n (held d) (holes (before ++ (free k ∷ after))) ∙ ap (over (behind (held d))) (choose-after n k after l s r)
 
 choose-none : (n : ℕ) {xs : List Hole} → All (λ (x : Hole). x.size < n) xs → choose n xs ≡ none

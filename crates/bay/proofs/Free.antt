@@ -6,7 +6,7 @@ use mathlib.Core.List.{List, [], ◌∷◌, ◌++◌}
 use Prim.Native.Nat.{ℕ, zero, suc, ◌+◌, ◌<◌, ◌≤◌}
 use native.Mathlib.Nat.{add-zero, zero-add}
 use native.Mathlib.Omega.{arith}
-use Rattle.kinds.specs.Kinds.{Item, item_size, is}
+use Rattle.kinds.specs.Kinds.{Item, item_size}
 use Rattle.calls.specs.State.{get}
 use Rattle.bay.specs.Bay.{Cell, free, held, items, gap, join_bays, release}
 use Rattle.bay.specs.Ends.{end_free, start_free}

@@ -4,10 +4,9 @@ use mathlib.Core.Bool.{Bool}
 use mathlib.Core.List.{List, [], ◌∷◌, ◌++◌, map, append-nil, Permᴰ}
 use Prim.Native.Nat.{ℕ, zero, suc, ◌+◌, ◌-◌, ◌<◌, ◌≤◌}
 use native.Mathlib.Omega.{arith}
-use lib.ListN.{length}
 use lib.Dec.{leb}
 use borrow.Author.Tests.{leb-true}
-use Rattle.kinds.specs.Kinds.{Item, header_of, item_size, is, on_data}
+use Rattle.kinds.specs.Kinds.{Item, item_size}
 use Rattle.calls.specs.State.{total, alter}
 use Rattle.bay.specs.Bay.{Cell, free, held, bay_size, bay_sum, items, gap, packed, join_bays, compact_bay, packed_less, trim, take_high, release, edit}
 use Rattle.bay.specs.Counted.{remove}

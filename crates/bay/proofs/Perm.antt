@@ -8,7 +8,7 @@ use Prim.Native.Nat.{ℕ, suc, ◌+◌, ◌≤◌}
 use native.Mathlib.Omega.{arith}
 use lib.ListN.{length, length-append, length-map}
 use Rattle.calls.specs.Pages.{freed}
-use Rattle.kinds.specs.Kinds.{Item, item_size, is, masters_of}
+use Rattle.kinds.specs.Kinds.{Item, item_size, masters_of}
 use Rattle.calls.specs.State.{total, get, card, listed}
 use Rattle.bay.specs.Counted.{remove, count}
 

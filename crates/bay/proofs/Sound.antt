@@ -4,10 +4,9 @@ use mathlib.Core.Bool.{Bool, true, false, cond}
 use mathlib.Core.List.{List, [], ◌∷◌, ◌++◌}
 use Prim.Native.Nat.{ℕ, zero, suc, ◌+◌, ◌-◌, ◌%◌, ◌≤◌, ◌<◌}
 use native.Mathlib.Omega.{arith}
-use lib.ListN.{length}
 use lib.Dec.{leb}
 use borrow.Author.Tests.{leb-true}
-use Rattle.kinds.specs.Kinds.{Item, item_size, is, on_data}
+use Rattle.kinds.specs.Kinds.{Item, item_size}
 use Rattle.calls.specs.State.{alter}
 use Rattle.bay.specs.Bay.{Cell, free, held, bay_sum, items, gap, packed, join_bays, compact_bay, packed_less, put, trim, take_high, release, edit}
 use Rattle.bay.proofs.Each.{Each, nothing, just, each_over, each-cond, each-get_d}
@@ -71,6 +70,8 @@ hole-sound : (e : Item) → Block (item_size e) → (before : List Cell) (k : �
     → Sound (before ++ (held e ∷ gap (k - item_size e) after))
 hole-sound e q [] k after l s = s-held q (gap-sound (k - item_size e) (omega (arith, q, hole-four s)) (behind-free s))
 hole-sound e q (free m ∷ (held d ∷ before)) k after l (s-free b s) = s-free b (hole-sound e q (held d ∷ before) k after l s)
+hole-sound e q (free m ∷ []) k after l s = elim s [ ]
+hole-sound e q (free m ∷ (free _ ∷ before)) k after l s = elim s [ ]
 hole-sound e q (held d ∷ before) k after l (s-held b s) = s-held b (hole-sound e q before k after l s)
 
 pub put-sound : (e : Item) {cs : List Cell} → Block (item_size e) → Sound cs → Sound (put e cs)

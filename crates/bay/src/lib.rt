@@ -1,1 +1,2 @@
 // One bay of a zone: definitions and laws alone.
+#![tactic(auto)]

@@ -1,4 +1,6 @@
 // The bays of a zone's bytes: one walk over a bay, and the searches for a bay.
+#![tactic(auto)]
+
 ghost use Rattle.std.specs.Prelude.{◌≡◌, ◌≤◌, length, drop};
 ghost use Rattle.block_type.specs.Limits.{longest_zone};
 ghost use Rattle.access.specs.row.Row.{Row};

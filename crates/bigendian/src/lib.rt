@@ -1,4 +1,6 @@
 // Numbers of 2 and 4 bytes in a part, high byte first.
+#![tactic(auto)]
+
 ghost use Rattle.std.specs.Prelude.{◌≡◌, ◌+◌, ◌/◌, ◌%◌, ◌<◌, ◌≤◌, length};
 ghost use Rattle.bigendian.specs.BigEndian.{from_be, to_be, slice, overwrite};
 

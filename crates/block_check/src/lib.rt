@@ -1,4 +1,6 @@
 // One block of a zone: its type, its size, and whether it obeys the rules.
+#![tactic(auto)]
+
 ghost use Rattle.std.specs.Prelude.{◌≡◌, Bool, cond, ◌+◌, ◌*◌, ◌/◌, ◌%◌, ◌<◌, ◌≤◌, length, take, drop};
 ghost use Rattle.block_type.specs.Limits.{longest_zone, reloc_code, master_size, type_unit, handle_range, smallest_block, argument_range};
 ghost use Rattle.bigendian.specs.BigEndian.{from_be, slice};

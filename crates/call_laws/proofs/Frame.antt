@@ -9,7 +9,6 @@ use mir.Val.{Fits}
 use mir.Syntax.{w8}
 use borrow.Author.Tests.{ne_eqb, not-true, not-false}
 use lib.ListN.{length, get_or, take, drop, replicate, length-take, take-append-drop}
-use Rattle.bigendian.specs.BigEndian.{Bytes}
 use Rattle.format.specs.WellFormed.{well_formed, zone_of, length_field}
 use Rattle.structure.specs.Structure.{Structure, len, encode, decode, decode_zone}
 use Rattle.structure.proofs.Table.{whole, len_is}

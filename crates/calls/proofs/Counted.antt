@@ -3,9 +3,9 @@ use mathlib.Core.Path.{◌≡◌, refl, ap}
 use mathlib.Core.Bool.{Bool, true, false, cond}
 use mathlib.Core.Option.{none, some}
 use mathlib.Core.List.{List, [], ◌∷◌, map}
-use Prim.Native.Nat.{ℕ, suc}
+use Prim.Native.Nat.{suc}
 use native.Mathlib.Omega.{arith}
-use Rattle.kinds.specs.Kinds.{Item, is, on_data}
+use Rattle.kinds.specs.Kinds.{Item}
 use Rattle.calls.specs.State.{get, alter}
 use Rattle.calls.specs.Counted.{count}
 

@@ -1,4 +1,5 @@
 // The calls and their answers, as the zone and the ledger both see them: definitions, and the answer that most calls give.
+#![tactic(auto)]
 
 // A refusal number, 0 for done, and a value.
 #[derive(Drop)]

@@ -1,4 +1,6 @@
 // Pages that make room: in one walk every unlocked page of rank below a limit becomes free, merged with its free neighbours.
+#![tactic(auto)]
+
 ghost use Rattle.std.specs.Prelude.{◌≡◌};
 ghost use Rattle.format.specs.WellFormed.{first_field};
 ghost use Rattle.structure.specs.Structure.{encode, decode_zone};

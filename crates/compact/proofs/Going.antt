@@ -8,7 +8,6 @@ use lib.ListN.{length, drop}
 use lib.Seq.{drop-drop, drop_at}
 use Rattle.block_type.specs.Limits.{longest_zone}
 use Rattle.structure.specs.Structure.{Block, cell, fixed, Structure, sizes, start, join, encode}
-use Rattle.structure.specs.Valid as Valid
 use Rattle.structure.specs.Valid.{Valid}
 use Rattle.structure.proofs.Round.{rest-is, length-is}
 use Rattle.structure.proofs.Append.{sizes-append}

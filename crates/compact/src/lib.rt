@@ -1,4 +1,6 @@
 // Compact: every bay, its relocatable blocks and pages at its start and one free block behind them.
+#![tactic(auto)]
+
 ghost use Rattle.std.specs.Prelude.{◌≡◌, max, take};
 ghost use Rattle.format.specs.WellFormed.{first_field};
 ghost use Rattle.compact.specs.Next.{goes_on, next_after, Ended, BayNext, BayCompacted};

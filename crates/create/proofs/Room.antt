@@ -1,8 +1,8 @@
 -- Room for a page: where the site was found no page goes; else, once the pages that go are gone, the zone is one again and a bay of it has room.
 use mathlib.Core.Path.{◌≡◌, refl, sym, ap, ◌∙◌, subst}
-use mathlib.Core.Bool.{Bool, true, false, false≢true}
+use mathlib.Core.Bool.{true, false, false≢true}
 use mathlib.Core.List.{List}
-use Prim.Native.Nat.{ℕ, ◌<◌, ◌≤◌}
+use Prim.Native.Nat.{ℕ, ◌<◌}
 use native.Mathlib.Omega.{arith}
 use mir.Val.{Fits}
 use mir.Syntax.{w8}
@@ -15,7 +15,7 @@ use Rattle.kinds.specs.Kinds.{Key, of_handle, of_name, key_is, Item, is}
 use Rattle.bay.specs.Bay.{release}
 use Rattle.calls.specs.Bays.{map_s}
 use Rattle.calls.specs.State.{with_bays}
-use Rattle.structure.specs.Structure.{Block, Structure, start, len, encode, decode_zone}
+use Rattle.structure.specs.Structure.{Block, Structure, start, encode, decode_zone}
 use Rattle.structure.specs.Valid.{Valid}
 use Rattle.structure.specs.IsZone.{IsZone}
 use Rattle.structure.proofs.Sound.{valid-zone}

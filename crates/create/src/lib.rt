@@ -1,4 +1,6 @@
 // Create a page: a block with a name, in the lowest bay whose sum reaches its size. Where none does, unlocked pages go first, in their turn.
+#![tactic(auto)]
+
 ghost use Rattle.std.specs.Prelude.{◌≡◌, [], ◌∷◌, ◌-◌, ◌<◌, ◌≤◌, length, take};
 ghost use Rattle.block_type.specs.Limits.{page_header, page_limit, page_need, clock_at};
 ghost use Rattle.bigendian.specs.BigEndian.{overwrite};

@@ -1,4 +1,6 @@
 // A block that becomes free: where it lies with its free neighbours.
+#![tactic(auto)]
+
 ghost use Rattle.std.specs.Prelude.{◌<◌, ◌≤◌, length, drop, ◌≡◌, cond, ◌+◌};
 ghost use Rattle.format.specs.WellFormed.{is_free};
 ghost use Rattle.access.specs.row.Row.{Row, blocks_of};

@@ -1,4 +1,6 @@
 // Initialize: header, masters chained upwards, and one free block or none. Each byte of the zone is written once.
+#![tactic(auto)]
+
 ghost use Rattle.std.specs.Prelude.{◌≡◌, cond, ◌-◌, ◌%◌, ◌<◌, ◌≤◌, length, eqb};
 ghost use Rattle.block_type.specs.Limits.{longest_zone, zone_header, argument_range};
 ghost use Rattle.bigendian.specs.BigEndian.{overwrite};

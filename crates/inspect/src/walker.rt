@@ -8,7 +8,7 @@ ghost use Rattle.structure.specs.IsZone.{IsZone};
 
 use access::row;
 
-#[derive(Drop)]
+#[derive(Clone, Copy)]
 pub struct Walker {
     pub at: usize,
 }

@@ -1,1 +1,2 @@
 // The kinds of movable blocks: definitions and laws alone.
+#![tactic(auto)]

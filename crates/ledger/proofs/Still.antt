@@ -1,7 +1,7 @@
 -- No step of the ledger but free-pointer takes a fixed block away, and none moves it or changes its size.
 use mathlib.Core.Path.{◌≡◌, refl, ap, ap₂, sym, ◌∙◌, subst}
 use mathlib.Core.Bool.{Bool, true, false, cond}
-use mathlib.Core.List.{List, ◌∷◌}
+use mathlib.Core.List.{List, ◌∷◌, ◌++◌}
 use Prim.Native.Nat.{ℕ, zero, suc, ◌+◌, ◌-◌}
 use lib.ListN.{length, take}
 use lib.Seq.{sets, length-sets}
@@ -71,30 +71,33 @@ resize-spots h a d l =
 same : {x : Spot} {a b : List Spot} → a ≡ b → Has x b → Has x a
 same {x = x} e h = subst (Has x) (sym e) h
 
-high-has : {x : Spot} (f : Bay → Bay) (e : Bay) (n end : ℕ) (l : Layout) → Has x (fixed_spots l) → Has x (fixed_spots (cut_high sum_of f e n end l).1)
-high-has {x} f e n end (more b y l) first =
-    either (λ (r : Fixed × Layout). Has x (fixed_spots r.1)) (leb n (max_s sum_of l)) ((cut_high sum_of f e n end l).0, more b y (cut_high sum_of f e n end l).1)
+high-has : (f : Bay → Bay) (e : Bay) (n end : ℕ) (l : Layout) {x : Spot} → Has x (fixed_spots l) → Has x (fixed_spots (cut_high sum_of f e n end l).1)
+high-has f e n end (more b y l) first =
+    either (λ (r : Fixed × Layout). Has (spot y.place (fsize y)) (fixed_spots r.1)) (leb n (max_s sum_of l)) ((cut_high sum_of f e n end l).0, more b y (cut_high sum_of f e n end l).1)
     (new_fixed n y.place, more (f b) (new_fixed n y.place) (more e y l)) first (later first)
-high-has {x} f e n end (more b y l) (later h) =
+high-has f e n end (more b y l) {x} (later h) =
     either (λ (r : Fixed × Layout). Has x (fixed_spots r.1)) (leb n (max_s sum_of l)) ((cut_high sum_of f e n end l).0, more b y (cut_high sum_of f e n end l).1)
     (new_fixed n y.place, more (f b) (new_fixed n y.place) (more e y l)) (later (high-has f e n end l h)) (later (later h))
+high-has f e n end (last _) h = elim h [ ]
 
 -- the bays beside a freed block are one
 joined-has : {x : Spot} (j : Bay → ℕ → Bay → Bay) (b : Bay) (y : Fixed) (l : Layout) → Has x (fixed_spots l) → Has x (fixed_spots (join_over j b y l))
 joined-has j b y (more c z l) h = h
+joined-has j b y (last _) h = elim h [ ]
 
 -- another fixed block is freed
-strike-has : {x : Spot} (j : Bay → ℕ → Bay → Bay) (p : ℕ) (l : Layout) → (p ≡ x.place + fixed_header → ⊥) → Has x (fixed_spots l) → Has x (fixed_spots (join_at j p l))
+strike-has : (j : Bay → ℕ → Bay → Bay) (p : ℕ) (l : Layout) {x : Spot} → (p ≡ x.place + fixed_header → ⊥) → Has x (fixed_spots l) → Has x (fixed_spots (join_at j p l))
 strike-has j p (more b y l) ne first = go (eqb p (pointer y)) refl
   where
     go : (t : Bool) → eqb p (pointer y) ≡ t → Has (spot y.place (fsize y)) (fixed_spots (cond t (join_over j b y l) (more b y (join_at j p l))))
     go true e = absurd (ne (eqb-true p (pointer y) e))
     go false e = first
-strike-has {x} j p (more b y l) ne (later h) = go (eqb p (pointer y)) (strike-has j p l ne h)
+strike-has j p (more b y l) {x} ne (later h) = go (eqb p (pointer y)) (strike-has j p l ne h)
   where
     go : (t : Bool) → Has x (fixed_spots (join_at j p l)) → Has x (fixed_spots (cond t (join_over j b y l) (more b y (join_at j p l))))
     go true k = joined-has j b y l h
     go false k = later k
+strike-has j p (last _) ne h = elim h [ ]
 
 -- ---- pages
 
@@ -110,7 +113,7 @@ work-has : {x : Spot} (c : Call) (l : Ledger) → (c ≡ free_pointer (x.place +
 work-has (allocate_relocatable c) l ne h = same (lowest-spots _ _ (with_master l).bays ∙ with-spots l) h
 work-has (allocate_fixed c) l ne h = high-has _ _ (fixed_need c) l.len l.bays h
 work-has (free_handle g) l ne h = same (map-spots _ l.bays) h
-work-has (free_pointer p) l ne h = strike-has _ p l.bays (λ e. ne (ap free_pointer e)) h
+work-has (free_pointer p) l ne h = strike-has (λ (x : Bay) (y : ℕ) (z : Bay). bay (x.capacity + y + z.capacity) (x.entries ++ z.entries)) p l.bays (λ e. ne (ap free_pointer e)) h
 work-has (resize g c) l ne h = same (resize-spots g (up4 c) (data_of entries_of (by_handle g) l) l.bays) h
 work-has (size t) l ne h = h
 work-has (read t i n second) l ne h = h

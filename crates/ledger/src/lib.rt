@@ -1,1 +1,2 @@
 // The ledger of document 01: definitions alone.
+#![tactic(auto)]

@@ -1,4 +1,6 @@
 // A zone's masters: how they are made, and eight more where none is free, from the first bay's bytes.
+#![tactic(auto)]
+
 pub mod chain;
 
 ghost use Rattle.std.specs.Prelude.{◌≡◌, ◌≤◌, length};

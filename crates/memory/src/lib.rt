@@ -1,4 +1,6 @@
 // Work on many bytes: a test for zeros, a fill, a copy, slides in place.
+#![tactic(auto)]
+
 ghost use Rattle.std.specs.Prelude.{◌≡◌, ◌+◌, ◌-◌, ◌<◌, ◌≤◌, length, replicate, eqb};
 ghost use Rattle.bigendian.specs.BigEndian.{slice, overwrite};
 ghost use Rattle.memory.specs.Zeros.{all_zero};

@@ -1,5 +1,7 @@
 // The zone's calls. Each takes any buffer and any numbers, and promises its answer and every byte that it leaves: `Promise` is what
 // the list theorem asks of a call. Census and walker, which the ledger does not know, promise equations to their definitions.
+#![tactic(auto)]
+
 ghost use Rattle.std.specs.Prelude.{◌≡◌, cond, ◌+◌, length};
 ghost use Rattle.calls.specs.Calls.{allocate_relocatable, allocate_fixed, free_handle, free_pointer, resize, size, read, write, view, compact, sums, check, length_of, enlarge, shrink, roster, on_page, create_page, use_page, mark_page, drop_page, set_dirty, clear_dirty, set_lock, clear_lock, told, shows, told_two, told_with};
 ghost use Rattle.zone.specs.Promise.{Promise, InitPromise};

@@ -2,6 +2,8 @@
 // offset and not a slice). In C a slice is a pointer and a length. Numbers and pointers alone go in and out, so that one declaration is right for every target: a call
 // answers the refusal number (but check: yes or no; view: an offset; walker_start: a walker), and its values go through pointers, which are always written.
 // nafelode.h is made from this file: its declarations, and the comments of the exported functions.
+#![tactic(auto)]
+
 ghost use Rattle.std.specs.Prelude.{◌≡◌, ◌+◌, ◌≤◌};
 ghost use Rattle.std.proofs.Math.ListN as ListN;
 ghost use Rattle.format.specs.WellFormed.{length_field};

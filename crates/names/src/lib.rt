@@ -1,4 +1,6 @@
 // The names of a zone's pages, and whether they are distinct: `seen` is certain of it in most zones where they are distinct, `rounds` tells it of any zone.
+#![tactic(auto)]
+
 ghost use Rattle.std.specs.Prelude.{◌≡◌, ◌+◌, ◌<◌, ◌≤◌, length, drop};
 ghost use Rattle.block_type.specs.Limits.{page_header, argument_range};
 ghost use Rattle.format.specs.WellFormed.{name_of};

@@ -1,4 +1,6 @@
 // A run of call records: each record of 16 bytes is a call on the zone, and each prints a line.
+#![tactic(auto)]
+
 ghost use Rattle.std.specs.Prelude.{◌≡◌, [], ◌∷◌, ◌+◌, ◌<◌, ◌≤◌, ◌%◌, length, get_or};
 ghost use Rattle.calls.specs.Calls.{by_handle, write};
 ghost use Rattle.records.specs.Records.{actions, nothing, act, read_byte, call, ran, run_record, decimal, text, line as shownLine, skip as shownSkip};

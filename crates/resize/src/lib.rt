@@ -1,4 +1,6 @@
 // Resize: a block gets another data size, where it stands, in its own bay laid out anew, or in another bay.
+#![tactic(auto)]
+
 pub mod relocate;
 pub mod reshape;
 

@@ -1,7 +1,7 @@
 -- What compaction keeps of a bay: sound cells, their size, and masters that lie low.
 use mathlib.Core.Path.{◌∙◌}
 use mathlib.Core.List.{List, [], ◌∷◌}
-use Prim.Native.Nat.{ℕ, zero, suc, ◌-◌, ◌≤◌}
+use Prim.Native.Nat.{ℕ, zero, suc, ◌≤◌}
 use native.Mathlib.Omega.{arith}
 use Rattle.block_type.specs.Limits.{master_size, longest_zone}
 use Rattle.bay.specs.Bay.{Cell, free, held, bay_sum, items, gap, packed, compact_bay}

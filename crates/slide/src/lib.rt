@@ -1,4 +1,6 @@
 // Compacts a bay in place: its held blocks go to its start in old order, one free block holds the rest, and its masters follow.
+#![tactic(auto)]
+
 pub mod blank;
 pub mod run;
 pub mod way;

@@ -1,4 +1,6 @@
 // Size, read and view of a block that is named by handle, by pointer or by name.
+#![tactic(auto)]
+
 pub mod write;
 
 ghost use Rattle.std.specs.Prelude.{◌≡◌, ◌+◌, ◌≤◌, length};
@@ -13,7 +15,7 @@ use access::locate::Target;
 use calls::Told;
 
 // `count` bytes of a block from an offset on.
-#[derive(Drop)]
+#[derive(Clone, Copy)]
 pub struct Stretch {
     pub block: Target,
     pub offset: u32,

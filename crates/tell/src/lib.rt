@@ -1,4 +1,6 @@
 // The calls that only tell: the sums of the bays, the length of the zone, and whether it is well-formed.
+#![tactic(auto)]
+
 pub mod roster;
 
 ghost use Rattle.std.specs.Prelude.{◌≡◌, cond, ◌≤◌, max, length, drop};

@@ -1,10 +1,19 @@
 // A walk by a walker that is lent: over the zone on standard input, a line for each step to standard output. Nobody else runs
 // `Walker::advance`, so this program is its test.
-ghost use Rattle.std.specs.Prelude.{◌≡◌};
+#![tactic(auto)]
+
+ghost use Rattle.std.specs.Prelude.{◌≡◌, ◌≤◌, length, IfOk, OnOk};
+ghost use Rattle.std.specs.Io.KnownBytes.{Appends};
 ghost use Rattle.zone.specs.Walker.{walked, walk_step};
+ghost use Rattle.walker_run.specs.Lines.{line, walk_lines};
 
 use inspect::walker::{Moved, Walker};
-use libc::{STDIN_FILENO, STDOUT_FILENO};
+use std::io;
+use std::io::{Read, Write};
+
+const LONGEST: usize = 65536;
+
+const MOST_STEPS: usize = 16384;
 
 // A walker at `at` is lent for a step. It comes back as the step left it.
 fn step(zone: &[u8], at: usize) -> Moved
@@ -15,41 +24,54 @@ fn step(zone: &[u8], at: usize) -> Moved
     Moved { next: w, report }
 }
 
-fn put(n: u64, after: &[u8]) {
-    let printed = io::print_decimal(STDOUT_FILENO, n);
-    let ended = io::write_all(STDOUT_FILENO, after);
-}
-
 // The refusal number, the block's type, offset and size, and where the walker is then.
-fn show(m: Moved) {
-    put(m.report.number as u64, b" ");
-    put(m.report.block.kind as u64, b" ");
-    put(m.report.block.offset as u64, b" ");
-    put(m.report.block.size as u64, b" ");
-    put(m.next.at as u64, b"\n");
+#[tactic(auto, unfolding(crate::specs::Lines::line))]
+fn show<W: Write>(m: &Moved, out: &mut W) -> io::Result<()>
+    ensures { OnOk result (Appends (W.contents out.old) (W.contents out.new) (line (walked m.now.report.number m.now.report.block.kind m.now.report.block.offset m.now.report.block.size m.now.next.at))) }
+{
+    let block = &m.report.block;
+    writeln!(
+        out,
+        "{} {} {} {} {}",
+        m.report.number, block.kind, block.offset, block.size, m.next.at
+    )
 }
 
 // A step at 17, where no block starts, and then from the start on until a step leaves the walker where it is. A zone of 65,536 bytes
 // has fewer than 16,384 blocks.
-fn walk(zone: &[u8]) {
-    show(step(zone, 17));
-    let first = Walker::start(zone);
-    let mut at = first.at;
-    let mut turns = 16384usize;
-    while turns > 0 {
+fn walk<W: Write>(zone: &[u8], out: &mut W) -> io::Result<()>
+    ensures { OnOk result (Appends (W.contents out.old) (W.contents out.new) (walk_lines zone.now)) }
+{
+    show(&step(zone, 17), out)?;
+    let mut at = Walker::start(zone).at;
+    for _ in 0..MOST_STEPS {
         let m = step(zone, at);
-        show(m);
-        let next = m.next.at;
-        if next == at {
-            return;
+        show(&m, out)?;
+        if m.next.at == at {
+            return Ok(());
         }
-        at = next;
-        turns -= 1;
+        at = m.next.at;
     }
+    Ok(())
 }
 
-fn main() {
-    let mut zone = io::large_buffer();
-    let got = io::read_full(STDIN_FILENO, &mut zone);
-    walk(&zone[..got]);
+// Reads until the zone is full or the input ends. Answers how many bytes it put at its start.
+fn read_zone(reader: &mut impl Read, zone: &mut [u8]) -> io::Result<usize>
+    ensures { IfOk result (λ n. n ≤ length zone.new) }
+{
+    let mut got = 0;
+    while got < zone.len() {
+        let n = reader.read(&mut zone[got..])?;
+        if n == 0 {
+            break;
+        }
+        got += n;
+    }
+    Ok(got)
+}
+
+fn main(rt: HostRuntime) -> io::Result<()> {
+    let mut zone = [0; LONGEST];
+    let got = read_zone(&mut rt.stdin(), &mut zone)?;
+    walk(&zone[..got], &mut rt.stdout())
 }

@@ -2,7 +2,6 @@
 use mathlib.Core.Path.{◌≡◌}
 use Prim.Native.Nat.{ℕ, ◌≤◌}
 use native.Mathlib.Omega.{arith}
-use lib.ListN.{drop}
 use Rattle.bay.proofs.Each.{each_weaken}
 use Rattle.block_type.specs.Limits.{longest_zone}
 use Rattle.calls.specs.State.{new_item}

@@ -10,7 +10,7 @@ use lib.Dec.{eqb, leb}
 use borrow.Author.Tests.{leb-true, ne_eqb}
 use Rattle.block_type.specs.Limits.{up4, reloc_need, added_bytes}
 use Rattle.calls.specs.Calls.{Target, by_handle, by_pointer, allocate_relocatable}
-use Rattle.calls.specs.Bays.{Bays, last, more, over, or_else, on_lowest, on_first, find_f, max_s, find_s}
+use Rattle.calls.specs.Bays.{Bays, last, more, over, or_else, on_lowest, on_first, find_f, max_s}
 use Rattle.kinds.specs.Kinds.{Item, item_size, is}
 use Rattle.calls.specs.State.{get, new_item, top, Fixed, fsize, pointer, content}
 use Rattle.calls.specs.Table.{below, is_none, is_empty, refusal_of}

@@ -6,7 +6,6 @@ use mathlib.Core.List.{List, []}
 use Prim.Native.Nat.{ℕ, zero, suc, ◌+◌, ◌≤◌}
 use native.Mathlib.Omega.{arith}
 use lib.ListN.{length}
-use Rattle.bigendian.specs.BigEndian.{Bytes}
 use Rattle.format.specs.WellFormed.{masters_field}
 use Rattle.calls.specs.Calls.{Call, allocate_relocatable, Answer, beside, Given}
 use Rattle.calls.specs.State.{master_count}

@@ -8,7 +8,6 @@ use native.Mathlib.Omega.{arith}
 use native.Mathlib.Nat.{add-zero, add_assoc}
 use lib.ListN.{replicate}
 use lib.Dec.{eqb}
-use Rattle.format.specs.Occurs.{occurs}
 use Rattle.format.specs.WellFormed.{offsets}
 use Rattle.block_type.specs.Limits.{master_size, type_unit, zone_header, fixed_code, free_header}
 use Rattle.bigendian.specs.BigEndian.{to_be}

@@ -6,7 +6,6 @@ use mathlib.Core.List.Permᴰ
 use mathlib.Core.List.{List, [], ◌∷◌, ◌++◌, map, Permᴰ}
 use Prim.Native.Nat.{ℕ, ◌+◌, ◌%◌, ◌≤◌}
 use native.Mathlib.Omega.{arith}
-use lib.ListN.{length}
 use Rattle.kinds.specs.Kinds.{Item, item_size, is, on_data}
 use Rattle.calls.specs.State.{alter, get, sized, Fixed, fsize}
 use Rattle.calls.proofs.Counted.{alter-none}

@@ -16,7 +16,6 @@ use Rattle.calls.specs.State.{Fixed, master_count, with_bays}
 use Rattle.bay.specs.Bay.{Cell, free, held, items, release}
 use Rattle.bay.proofs.Sound as Sound
 use Rattle.bay.proofs.Sound.{Sound, s-nil, s-end, s-free, s-held}
-use Rattle.bigendian.specs.BigEndian.{Bytes}
 use Rattle.calls.specs.Calls.{Call, beside, Given}
 use Rattle.calls.specs.Table.{refusal_of}
 use Rattle.bay.specs.Counted.{live}

@@ -1,34 +1,29 @@
 -- Every master is either a live block's or in the chain, and once: kept by each call.
 use mathlib.Core.Path.{◌≡◌, refl, ap, ◌∙◌}
 use mathlib.Core.Bool.{Bool, true, false, cond}
-use mathlib.Core.Option.{Option, none, some}
-use mathlib.Core.List.{List, [], ◌∷◌, ◌++◌, map, append-nil}
+use mathlib.Core.List.{List, [], ◌∷◌, ◌++◌}
 use Prim.Native.Nat.{ℕ, zero, suc, ◌+◌, ◌*◌, ◌≤◌, ◌<◌}
 use native.Mathlib.Nat.{zero-add, suc-add}
 use native.Mathlib.Omega.{arith}
 use lib.Dec.{eqb}
 use lib.ListN.{length}
-use borrow.Author.Tests.{leb-true, eqb-true, eqb-false, eq-eqb, ne_eqb}
+use borrow.Author.Tests.{eqb-true, eqb-false, eq-eqb, ne_eqb}
 use Rattle.block_type.specs.Limits.{zone_header, master_size}
-use Rattle.calls.specs.Bays.{Bays, last, more, map_s, last_s}
-use Rattle.zone.specs.PickBays.{on_low, AllS}
-use Rattle.kinds.specs.Kinds.{Item, item_size, is, holding, on_data}
+use Rattle.calls.specs.Bays.{Bays, last, more, map_s}
+use Rattle.zone.specs.PickBays.{AllS}
+use Rattle.kinds.specs.Kinds.{Item, is}
 use Rattle.kinds.proofs.KindLaws.{is-other, is_same}
-use Rattle.calls.specs.State.{alter, get, sized, alter_fixed, Fixed, fsize, new_item, handles_from}
-use Rattle.bay.specs.Bay.{Cell, bay_sum, items, gap, join_bays, compact_bay, take_high, release, edit, reshape, resized}
-use Rattle.bay.specs.Counted.{remove, count, live}
-use Rattle.bay.proofs.Each.{Each, nothing, just, each-some, each-cond, each_weaken, each_and, each-or_else}
-use Rattle.bay.proofs.Perm.{perm-count}
-use Rattle.bay.proofs.Holes.{put_keeps}
-use Rattle.bay.proofs.Laws.{cut-less, tidy-items, items-weld, items-gap, release-items, edit-items}
-use Rattle.zone.proofs.Sums.{find-each, on_low-sum, on_high-sum, on_join-sum, map_s-sum, map_s-zero, on_fixed-sum, on_last-sum, sum-parts, find-sum}
-use Rattle.zone.proofs.HowMany.{count-append, get-count, get-its, each_all, cond-add, low-many, high-many, join-many, edit-many, own-many, fixed-many, compact-many, grow-many, cut-many, release_other, release-gone}
+use Rattle.calls.specs.State.{get, Fixed, new_item, handles_from}
+use Rattle.bay.specs.Bay.{Cell, items, release, resized}
+use Rattle.bay.specs.Counted.{count, live}
+use Rattle.bay.proofs.Each.{Each, each_weaken, each_and, each-or_else}
+use Rattle.zone.proofs.Sums.{find-each, sum-parts, find-sum}
+use Rattle.zone.proofs.HowMany.{get-count, get-its, each_all, cond-add, low-many, high-many, join-many, edit-many, own-many, fixed-many, compact-many, grow-many, cut-many, release_other, release-gone}
 use Rattle.zone.proofs.Walk.{Closed}
 use Rattle.calls.specs.Pages.{new_page}
 use Rattle.format.proofs.Bool.{is_false, not-both}
-use Rattle.zone.proofs.Own.{own-shaped}
 use Rattle.zone.specs.Work.{Zone}
-use Rattle.zone.specs.Search.{lookup, own, reaches, place_low, place_high, join_at}
+use Rattle.zone.specs.Search.{lookup}
 
 abbrev pub occurs : ℕ → List ℕ → ℕ
 occurs h [] = 0

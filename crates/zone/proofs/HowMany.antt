@@ -3,28 +3,22 @@ use mathlib.Core.Path.{◌≡◌, refl, ap, ◌∙◌}
 use mathlib.Core.Bool.{Bool, true, false, cond}
 use mathlib.Core.Option.{Option, none, some}
 use mathlib.Core.List.{List, [], ◌∷◌, ◌++◌, map, append-nil}
-use Prim.Native.Nat.{ℕ, zero, suc, ◌+◌, ◌*◌, ◌≤◌, ◌<◌}
-use native.Mathlib.Nat.{zero-add, suc-add}
+use Prim.Native.Nat.{ℕ, suc, ◌+◌, ◌≤◌}
 use native.Mathlib.Omega.{arith}
-use lib.Dec.{eqb}
-use lib.ListN.{length}
-use borrow.Author.Tests.{leb-true, eqb-true, eqb-false, eq-eqb, ne_eqb}
-use Rattle.block_type.specs.Limits.{zone_header, master_size}
+use borrow.Author.Tests.{leb-true}
 use Rattle.calls.specs.Bays.{Bays, last, more, map_s, on_fixed, on_last, sum_s, last_s}
-use Rattle.zone.specs.PickBays.{on_low, AllS}
-use Rattle.kinds.specs.Kinds.{Item, item_size, is, holding, on_data}
-use Rattle.kinds.proofs.KindLaws.{is-other, is_same}
-use Rattle.calls.specs.State.{alter, get, sized, alter_fixed, Fixed, fsize, new_item, handles_from}
-use Rattle.bay.specs.Bay.{Cell, bay_sum, items, gap, join_bays, compact_bay, take_high, release, edit, reshape, resized}
-use Rattle.bay.specs.Counted.{remove, count, live}
-use Rattle.bay.proofs.Each.{Each, nothing, just, each-some, each-cond, each_weaken, each_and, each-or_else}
+use Rattle.zone.specs.PickBays.{on_low}
+use Rattle.kinds.specs.Kinds.{Item, item_size, is, on_data}
+use Rattle.calls.specs.State.{new_fixed, alter, get, sized, alter_fixed, Fixed, fsize}
+use Rattle.bay.specs.Bay.{Cell, bay_sum, items, gap, join_bays, compact_bay, take_high, release, edit, reshape}
+use Rattle.bay.specs.Counted.{remove, count}
+use Rattle.bay.proofs.Each.{Each, nothing, just, each-some, each-cond, each_weaken}
 use Rattle.bay.proofs.Perm.{perm-count}
 use Rattle.bay.proofs.Holes.{put_keeps}
 use Rattle.bay.proofs.Laws.{cut-less, tidy-items, items-weld, items-gap, release-items, edit-items}
-use Rattle.zone.proofs.Sums.{find-each, on_low-sum, on_high-sum, on_join-sum, map_s-sum, map_s-zero, on_fixed-sum, on_last-sum, sum-parts, find-sum}
+use Rattle.zone.proofs.Sums.{on_low-sum, on_high-sum, on_join-sum, map_s-sum, map_s-zero, on_fixed-sum, on_last-sum}
 use Rattle.zone.proofs.Own.{own-shaped}
-use Rattle.zone.specs.Work.{Zone}
-use Rattle.zone.specs.Search.{lookup, own, reaches, place_low, place_high, join_at}
+use Rattle.zone.specs.Search.{own, reaches, place_low, place_high, join_at}
 
 -- counts after each change of a bay
 pub count-append : (ok : Item → Bool) (a b : List Item) → count ok (a ++ b) ≡ count ok a + count ok b
@@ -108,7 +102,7 @@ module _ (p : Item → Bool) where
   low-many i s = on_low-sum (λ (b : List Cell). count p (items b)) _ _ _ (λ b e. perm-count p (put_keeps i b (leb-true (item_size i) (bay_sum b) e)).perm ∙ cond-add (p i) (count p (items b))) s
 
   pub high-many : (n end : ℕ) (s : Bays (List Cell) Fixed) → Each (λ (r : Fixed × Bays (List Cell) Fixed). many p r.1 ≡ many p s) (place_high n end s)
-  high-many n end s = on_high-sum (λ (b : List Cell). count p (items b)) (reaches n) (take_high n) _ [] _ end refl (λ b e. ap (count p) (cut-less n b (leb-true n (bay_sum b) e)).same) s
+  high-many n end s = on_high-sum (λ (b : List Cell). count p (items b)) (reaches n) (take_high n) (new_fixed n) [] (λ (x : Fixed). x.place) end refl (λ b e. ap (count p) (cut-less n b (leb-true n (bay_sum b) e)).same) s
 
   pub join-many : (q : ℕ) (s : Bays (List Cell) Fixed) → Each (λ (u : Bays (List Cell) Fixed). many p u ≡ many p s) (join_at q s)
   join-many q s = on_join-sum (λ (b : List Cell). count p (items b)) _ (λ (b : List Cell) (x : Fixed) (c : List Cell). join_bays b (gap (fsize x) c)) (λ b c x. ap (count p) (items-weld b (gap (fsize x) c) ∙ ap (items b ++◌) (items-gap (fsize x) c)) ∙ count-append p (items b) (items c)) s

@@ -49,6 +49,7 @@ met-line x at (b ∷ bs) q e h =
     go : (t : Bool) → (Has x (fixed_met (at + size_of b) bs) → OnLine x) → Has x (cond t (spot at (size_of b) ∷ fixed_met (at + size_of b) bs) (fixed_met (at + size_of b) bs)) → OnLine x
     go true behind k = one_of {y = spot at (size_of b)} (omega arith) behind k
     go false behind k = behind k
+met-line x at mathlib.Core.List.[] q e h = elim h [ ]
 
 pub fixed-lines : (bs : List ℕ) → well_formed bs ≡ true → (x : Spot) → Has x (fixed_in bs) → (x.place + fixed_header) % 4 ≡ 0
 fixed-lines bs w x h =

@@ -1,12 +1,11 @@
 -- No name stands twice, and the clock is a byte: kept by each call.
-use mathlib.Core.Path.{◌≡◌, refl, ap, sym, ◌∙◌}
+use mathlib.Core.Path.{◌≡◌, refl}
 use mathlib.Core.Bool.{Bool, true, false, cond}
-use mathlib.Core.Option.{Option}
 use mathlib.Core.List.{List}
 use Prim.Native.Nat.{ℕ, ◌+◌, ◌≤◌, ◌<◌}
 use native.Mathlib.Omega.{arith}
 use lib.Dec.{eqb}
-use borrow.Author.Tests.{eqb-true, eqb-false, ne_eqb}
+use borrow.Author.Tests.{eqb-true}
 use Rattle.block_type.specs.Limits.{stamp_range}
 use Rattle.calls.specs.Bays.{Bays, map_s}
 use Rattle.kinds.specs.Kinds.{Item, has_name, is}
@@ -14,10 +13,10 @@ use Rattle.kinds.proofs.KindLaws.{is-no-page}
 use Rattle.calls.specs.State.{Fixed, new_item}
 use Rattle.calls.specs.Pages.{new_page}
 use Rattle.bay.specs.Bay.{Cell, release, resized}
-use Rattle.bay.proofs.Each.{Each, each_weaken, each-or_else}
+use Rattle.bay.proofs.Each.{each_weaken, each-or_else}
 use Rattle.zone.specs.Work.{Zone}
 use Rattle.zone.specs.Search.{lookup, place_low, place_high, join_at, resize_in}
-use Rattle.zone.proofs.HowMany.{many, each_all, low-many, high-many, join-many, edit-many, own-many, fixed-many, compact-many, grow-many, cut-many, release_other, release-le}
+use Rattle.zone.proofs.HowMany.{many, each_all, low-many, high-many, join-many, edit-many, own-many, fixed-many, compact-many, grow-many, cut-many, release-le}
 use Rattle.zone.proofs.Handles.{Found, found}
 use Rattle.zone.proofs.Walk.{Closed, any}
 

@@ -70,6 +70,7 @@ met-stamped n k (y ∷ l) {x} m q = met-case (x.stamp ≡ k) m (λ e. go (eqb n 
     go : (t : Bool) → eqb n y.name ≡ t → x ≡ cond t (stamped_with k y) y → x.stamp ≡ k
     go true d e = ap (λ (p : PageCard). p.stamp) e
     go false d e = absurd (eqb-false n y.name d (sym q ∙ ap (λ (p : PageCard). p.name) e))
+met-stamped n k [] {x = x} m q = elim m [ ]
 
 module _ (bs : List ℕ) (z : Zone) (w : Whole z) (s : Stored bs z) (n : ℕ) (here : 1 ≤ many (has_name n) z.bays) where
   -- ---- drop

@@ -70,6 +70,7 @@ stay-by bs after z u w s w' s' l c m f g k = record {
     same : (t : Target) → NoPage t → content items t u.bays ≡ content items t z.bays
     same (by_handle h) o = ap (over (λ (i : Item). i.bytes)) (g h)
     same (by_pointer p) o = ap (over (λ (x : Fixed). x.bytes)) (k p)
+    same (Rattle.calls.specs.Calls.by_name _) o = elim o [ ]
 
 -- every bay changed
 pub spots-map : (f : List Cell → List Cell) (s : Bays (List Cell) Fixed) → spots_s (map_s f s) ≡ spots_s s

@@ -4,7 +4,7 @@ use mathlib.Core.Path.{◌≡◌, refl, ap, ap₂, sym, ◌∙◌, subst}
 use mathlib.Core.Bool.{Bool, true, false, cond, not, true≢false}
 use mathlib.Core.Option.{none, some}
 use mathlib.Core.List.{List, [], ◌∷◌, ◌++◌}
-use Prim.Native.Nat.{ℕ, ◌+◌, ◌-◌, ◌≤◌, ◌<◌, max}
+use Prim.Native.Nat.{ℕ, ◌-◌, ◌≤◌, ◌<◌, max}
 use native.Mathlib.Omega.{arith}
 use lib.Dec.{eqb, leb}
 use lib.ListN.{drop, replicate}
@@ -68,6 +68,7 @@ meets-leaving {x} k (y ∷ l) (further m) n = go (eqb k y.name) (meets-leaving k
     go : (t : Bool) → Meets x (leaving k l) → Meets x (cond t (leaving k l) (y ∷ leaving k l))
     go true m = m
     go false m = further m
+meets-leaving {x = x} k [] x3 n = elim x3 [ ]
 
 pub leaving-meets : {x : PageCard} (k : ℕ) (l : List PageCard) → Meets x (leaving k l) → Meets x l
 leaving-meets {x} k (y ∷ l) m = go (eqb k y.name) m (λ i. leaving-meets k l i)
@@ -79,6 +80,7 @@ leaving-meets {x} k (y ∷ l) m = go (eqb k y.name) m (λ i. leaving-meets k l i
     go : (t : Bool) → Meets x (cond t (leaving k l) (y ∷ leaving k l)) → (Meets x (leaving k l) → Meets x l) → Meets x (y ∷ l)
     go true m f = further (f m)
     go false m f = one y m f
+leaving-meets {x = x} k [] m = elim m [ ]
 
 pub leaving-other : {x : PageCard} (k : ℕ) (l : List PageCard) → Meets x (leaving k l) → x.name ≡ k → ⊥
 leaving-other {x} k (y ∷ l) m e = go (eqb k y.name) refl m (λ i. leaving-other k l i e)
@@ -86,6 +88,7 @@ leaving-other {x} k (y ∷ l) m e = go (eqb k y.name) refl m (λ i. leaving-othe
     go : (t : Bool) → eqb k y.name ≡ t → Meets x (cond t (leaving k l) (y ∷ leaving k l)) → (Meets x (leaving k l) → ⊥) → ⊥
     go true q m f = f m
     go false q m f = met-case ⊥ m (λ p. eqb-false k y.name q (sym e ∙ ap (λ (c : PageCard). c.name) p)) f
+leaving-other {x = x} k [] m e = elim m [ ]
 
 -- ---- a zone that can have the page, but for a dirty one
 

@@ -73,6 +73,7 @@ stamp-small {x} (b ∷ l) m = go (eqb (type_of b) page_code) m (λ k. stamp-smal
     go : (t : Bool) → Meets x (cond t (card_in b ∷ pages_met l) (pages_met l)) → (Meets x (pages_met l) → x.stamp < stamp_range) → x.stamp < stamp_range
     go true k f = one (card_in b) (pages_met l) (omega arith) k f
     go false k f = f k
+stamp-small {x = x} [] m = elim m [ ]
 
 -- ---- candidates are the unlocked cards
 

@@ -64,6 +64,7 @@ get-met {x} (e ∷ es) m l = go e.key m l (λ k o. get-met es k o)
         → (Meets x (page_cards es) → count (has_name x.name) es ≤ 1 → over (λ (e : Item). e.bytes) (get (has_name x.name) es) ≡ some x.bytes) → over (λ (e : Item). e.bytes) (cond (key_named x.name k) (some e) (get (has_name x.name) es)) ≡ some x.bytes
     go (of_handle h) m l f = f m l
     go (of_name n s) m l f = one (record { name = n; dirty = s.dirty; lock = s.lock; stamp = s.stamp; bytes = e.bytes }) n refl refl m l f
+get-met {x = x} [] m l = elim m [ ]
 
 -- the movable blocks of a line
 abbrev held_in : List Block → List Item

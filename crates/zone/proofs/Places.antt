@@ -9,7 +9,7 @@ use lib.Dec.{leb, eqb}
 use borrow.Author.Tests.{leb-true}
 use Rattle.calls.specs.Bays.{Bays, last, more, on_first, map_s, on_fixed, on_last, first_s, last_s}
 use Rattle.zone.specs.PickBays.{on_low}
-use Rattle.kinds.specs.Kinds.{Item, item_size, is, on_data}
+use Rattle.kinds.specs.Kinds.{Item, item_size, is}
 use Rattle.calls.specs.State.{alter_fixed, pointer, Fixed, fsize, new_item, new_fixed}
 use Rattle.calls.specs.Pages.{new_page}
 use Rattle.bay.specs.Bay.{Cell, bay_size, bay_sum, gap, join_bays, compact_bay, put, take_high, release, edit, reshape, resized}

@@ -6,7 +6,7 @@ use lib.ListN.{length-replicate}
 use borrow.Author.Tests.{leb-true}
 use Rattle.block_type.specs.Limits.{fixed_header, up4}
 use Rattle.calls.specs.Bays.{Bays}
-use Rattle.kinds.specs.Kinds.{Item, item_size, is, on_data}
+use Rattle.kinds.specs.Kinds.{Item, item_size, is}
 use Rattle.calls.specs.State.{Fixed, fsize, new_item, new_fixed, alter_fixed}
 use Rattle.calls.specs.Pages.{new_page}
 use Rattle.bay.specs.Bay.{Cell, bay_sum, compact_bay, put, take_high, release, edit, resized, reshape}

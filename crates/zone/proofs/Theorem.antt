@@ -7,7 +7,6 @@ use Prim.Native.Nat.{ℕ, zero, suc, ◌-◌, ◌≤◌}
 use native.Mathlib.Omega.{arith}
 use lib.ListN.{length, drop}
 use lib.Dec.{eqb-suc-zero}
-use Rattle.bigendian.specs.BigEndian.{Bytes}
 use Rattle.block_type.specs.Limits.{first_block}
 use Rattle.structure.specs.Structure.{encode}
 use Rattle.calls.specs.Calls.{Call, Answer, beside, Given}
@@ -17,7 +16,7 @@ use Rattle.calls.specs.Table.{refusal_of, first, order, bad_initialize}
 use Rattle.calls.proofs.Never.{never-one, told-one}
 use Rattle.ledger.specs.Ledger as Book
 use Rattle.ledger.specs.Ledger.{Ledger, Bay, run, ledger_after, initial, step_with, step, sorted_by_handle}
-use Rattle.ledger.specs.Space.{Spot, spot, fixed_spots, bay_sums, Request, relocatable, fixed, resized, call_of}
+use Rattle.ledger.specs.Space.{Spot, spot, fixed_spots, bay_sums, call_of}
 use Rattle.ledger.specs.Still.{Has, NotFreed, a_call}
 use Rattle.ledger.proofs.Space.{live_in, space, Roomy}
 use Rattle.ledger.proofs.Still.{step-has}
@@ -28,7 +27,7 @@ use Rattle.zone.specs.Work.{Zone, work, fresh}
 use Rattle.zone.specs.Call.{in_line, Result, call, initialize_with}
 use Rattle.zone.specs.Promise.{Promise}
 use Rattle.bay.proofs.Each.{Each, nothing, just}
-use mathlib.Core.Bool.{Bool, true, false, true≢false}
+use mathlib.Core.Bool.{true, false, true≢false}
 use Prim.Native.Nat.{◌≤◌}
 use lib.ListN.{length-replicate}
 use borrow.Author.Tests.{eq-eqb}
@@ -239,6 +238,8 @@ module _ (n : ℕ) (z : Zone) (w : Whole z) where
       present : (o : Option Item) → page_of n z ≡ o → is_none (over length (over (λ (i : Item). i.bytes) o)) ≡ false → 1 ≤ many (has_name n) z.bays
       present none q x = absurd (true≢false x)
       present (some i) q x = each-some (subst (Each (λ (i : Item). 1 ≤ many (has_name n) z.bays)) q (find-sum (λ (b : List Cell). get (has_name n) (items b)) (λ (b : List Cell). count (has_name n) (items b)) (λ b. get-count (has_name n) (items b)) z.bays))
+  page-there (mark_page _) x3 e = elim x3 [ ]
+  page-there drop_page x3 e = elim x3 [ ]
 
 offset : {bs next : List ℕ} {l : Ledger} (n : ℕ) (c : PageCall) {a : Answer} → Given (beside (on_page n c)) → Promise (on_page n c) bs a next → AnswersPlace c → a.number ≡ 0 → Point bs l → page_at n next ≡ some a.value
 offset {bs} {next} n c {a} y k x d p = go (refusal_of (on_page n c) (Work.facts true p.zone)) refl

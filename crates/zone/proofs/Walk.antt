@@ -12,7 +12,7 @@ use borrow.Author.Tests.{leb-true, eqb-true, not-false}
 use Rattle.bigendian.specs.BigEndian.{Bytes}
 use Rattle.bigendian.proofs.Bytes.{bytes_take, bytes-sets}
 use Rattle.block_type.specs.Limits.{reloc_header, reloc_limit, fixed_limit, page_limit, up4, fixed_header, fixed_need, reloc_need, page_need, longest_zone, argument_range, stamp_range}
-use Rattle.calls.specs.Calls.{Call, allocate_relocatable, allocate_fixed, free_handle, free_pointer, read, write, size, compact, sums, enlarge, shrink, Target, by_handle, by_pointer, view, roster, check, length_of, resize, by_name, PageCall, create_page, use_page, mark_page, drop_page, on_page, of_page, Mark, set_dirty, clear_dirty, set_lock, clear_lock, beside, Given}
+use Rattle.calls.specs.Calls.{Call, allocate_relocatable, allocate_fixed, free_handle, free_pointer, read, write, size, compact, sums, enlarge, shrink, Target, by_handle, by_pointer, view, roster, check, length_of, resize, by_name, PageCall, create_page, use_page, mark_page, drop_page, on_page, of_page, beside, Given}
 use Rattle.calls.specs.Bays.{Bays, over, map_s, on_fixed, on_last, find_f, last_s, max_s}
 use Rattle.kinds.specs.Kinds.{Item, item_size, is, has_name, on_data, on_status, key_on_status, Status, Key, of_handle, of_name, KeyFits, Written}
 use Rattle.kinds.proofs.KindLaws.{data-size, status-size, status-is, status-name, is-no-page}

@@ -54,6 +54,7 @@ use Rattle.zone.proofs.Once.{Named, unnamed, named, often, count-get}
 both-got : {A B : Type 0} {R : A → B → Type 0} {a : A} {b : B} {t u : Bool} {o : Option A} {p : Option B} → Found a t o → t ≡ false → Found b u p → Both R o p → R a b
 both-got lost e g q = absurd (true≢false e)
 both-got got e got (present r) = r
+both-got {A = A} {B = B} {R = R} {a = a} {b = b} got e lost q = elim q [ ]
 
 module _ {s : Bays (List Cell) Fixed} {t : Bays Bay Fixed} (l : Paired s t) where
   -- a block comes into the lowest bay whose sum reaches n

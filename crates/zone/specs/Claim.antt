@@ -2,7 +2,7 @@
 -- ledger does, and the zone holds what the ledger holds.
 use Rattle.std.specs.Prelude.{◌≡◌, Bool, true, cond, ◌&&◌, List, [], ◌∷◌, ℕ, ◌+◌, ◌-◌, ◌%◌, length, drop, eqb, leb}
 use Rattle.std.proofs.Math.Option.{Option, none, some}
-use Rattle.bigendian.specs.BigEndian.{Bytes, slice}
+use Rattle.bigendian.specs.BigEndian.{slice}
 use Rattle.block_type.specs.Limits.{free_code, fixed_code, fixed_header, reloc_code, reloc_header, page_code, page_header, dirty_bit, lock_bit, stamp_range}
 use Rattle.format.specs.WellFormed.{length_field, first_field, clock_field, type_of, size_of, handle_of, name_of, status_of, split_blocks, master_at, zone_of, well_formed}
 use Rattle.calls.specs.Calls.{PageCall, create_page, use_page, mark_page, drop_page, Call, on_page, Answer, Beside, alone, lends, part, of_page, beside, Given}

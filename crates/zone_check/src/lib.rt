@@ -1,4 +1,6 @@
 // Whether a zone is well-formed, and where in it the page of a name starts.
+#![tactic(auto)]
+
 ghost use Rattle.std.specs.Prelude.{◌≡◌, true, cond, ◌&&◌, ◌+◌, ◌-◌, ◌*◌, ◌%◌, ◌<◌, ◌≤◌, length, eqb};
 ghost use Rattle.block_type.specs.Limits.{longest_zone, argument_range};
 ghost use Rattle.format.specs.WellFormed.{header_ok, distinct, well_formed, count_of};

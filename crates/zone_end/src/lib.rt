@@ -1,3 +1,5 @@
 // The zone's end: enlarge and shrink.
+#![tactic(auto)]
+
 pub mod enlarge;
 pub mod shrink;

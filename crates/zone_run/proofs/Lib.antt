@@ -1,1 +1,3 @@
+pub mod Streams
 pub mod Loop
+pub mod Whole

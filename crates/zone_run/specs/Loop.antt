@@ -1,7 +1,10 @@
--- zone-run's loop: what is run on the buffer in a turn, what is handed over to be written, and when there is another turn.
-use Rattle.std.specs.Prelude.{◌≡◌, Bool, false, ◌&&◌, List, ◌++◌, ℕ, ◌+◌, ◌*◌, ◌-◌, ◌^◌, ◌≤◌, length, take, replicate, leb, ltb}
-use Rattle.records.specs.Records.{output, after_input}
-use Rattle.records.specs.Book.{buffer_length}
+-- zone-run's loop: what is run on the buffer in a turn, what is handed over to be written, and when there is another turn; and what all of it comes to.
+use Rattle.std.specs.Prelude.{◌≡◌, Option, Bool, true, false, ◌&&◌, List, ◌++◌, ℕ, ◌+◌, ◌*◌, ◌-◌, ◌^◌, ◌≤◌, length, take, replicate, leb, ltb}
+use Rattle.std.specs.Io.{StartsWith}
+use Rattle.std.specs.Io.KnownBytes.{Consumes, Appends}
+use Rattle.std.proofs.Math.Option.{none}
+use Rattle.records.specs.Records.{records_of, output, after_input}
+use Rattle.records.specs.Book.{buffer_length, book_lines}
 use Rattle.records.specs.Shown.{Run}
 
 -- "65,536 zero bytes as buffer"
@@ -43,3 +46,34 @@ pub record Ended (buffer : List ℕ) (full got : ℕ) (written : Bool) : Type 0 
   pub most : got ≤ chunk_size
   pub seen : Seen (full * chunk_size + got) buffer
   pub stops : goes_on got written full ≡ false
+
+-- ---- what a reader gave and a writer got, where a clause can name that
+
+-- a writer got these lines; or, if not all were written, the first of their bytes
+pub record Wrote (had has : Option (List ℕ)) (lines : List ℕ) (written : Bool) : Type 0 where
+  pub bytes : List ℕ
+  pub got : Appends had has bytes
+  pub first : StartsWith lines bytes
+  pub whole : written ≡ true → bytes ≡ lines
+
+-- n bytes of input were read, which leave the buffer so from the fresh one on, and the writer got their lines
+pub record Served (before after had has : Option (List ℕ)) (n : ℕ) (buffer : List ℕ) (written : Bool) : Type 0 where
+  pub input : List ℕ
+  pub size : length input ≡ n
+  pub taken : Consumes before after input
+  pub leaves : buffer ≡ after_input input fresh_buffer
+  pub lines : Wrote had has (output input fresh_buffer) written
+
+-- an input that is no longer than this has no more full chunks than can be counted, and is read to its end
+abbrev pub longest_input : ℕ
+longest_input = (most_chunks + 1) * chunk_size - 1
+
+-- the ledger's lines for an input: of a book that is fed its records and never sees a zone
+abbrev pub ledger_lines : List ℕ → List ℕ
+ledger_lines input = book_lines (records_of input) none
+
+-- whatever became of the run: this was read, and the writer got the ledger's lines of it
+pub record Faithful (before after had has : Option (List ℕ)) (done : Bool) : Type 0 where
+  pub input : List ℕ
+  pub taken : Consumes before after input
+  pub lines : Wrote had has (ledger_lines input) done

@@ -1,5 +1,5 @@
 -- What a step of the walker says, and where a walker that starts at the first block comes.
-use mathlib.Core.Path.{◌≡◌, refl, ap, ap₂, sym, ◌∙◌}
+use mathlib.Core.Path.{◌≡◌, refl, ap, ap₂, sym, ◌∙◌, subst}
 use mathlib.Core.Bool.{Bool, true, false, cond}
 use mathlib.Core.List.{List, [], ◌∷◌, ◌++◌, append_assoc}
 use Prim.Native.Nat.{ℕ, zero, suc, ◌+◌, ◌<◌}
@@ -79,8 +79,10 @@ behind : (p : ℕ) (b : Block) (bs pre : List Block) → Sized (pre ++ b ∷ bs)
 unfolding describe sizes
 behind p b bs [] z = let e : p + 0 ≡ p = omega arith in rw (e, eq-eqb p p refl)
 behind p b bs (c ∷ pre) z =
-    let q : p + (size c + sizes pre) ≡ p + size c + sizes pre = omega arith in
-    rw (q, ne_eqb (p + size c + sizes pre) p (λ x. omega (arith, z.0))) (behind (p + size c) b bs pre z.1)
+    let q : p + sizes (c ∷ pre) ≡ p + size c + sizes pre = omega arith in
+    let r : describe (p + sizes (c ∷ pre)) (p + size c) (pre ++ b ∷ bs) ≡ record { kind = code b; offset = p + size c + sizes pre; size = size b } =
+    subst (λ (o : ℕ). describe o (p + size c) (pre ++ b ∷ bs) ≡ record { kind = code b; offset = p + size c + sizes pre; size = size b }) (sym q) (behind (p + size c) b bs pre z.1) in
+    rw (q, ne_eqb (p + size c + sizes pre) p (λ x. omega (arith, z.0))) r
 
 module _ (s : List ℕ) (h : well_formed s ≡ true) where
   -- from the end of the blocks pre on, a step for each block behind them

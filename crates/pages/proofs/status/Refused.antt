@@ -1,5 +1,5 @@
 -- The calls on a page whose only cause of refusal, in a well-formed zone, is that no page has the name.
-use Rattle.std.proofs.Common.{◌≡◌, ℕ, ◌-◌, Bool, true, false, List, [], ◌∷◌, sym, refl, ap, ◌∙◌, ne_eqb}
+use Rattle.std.proofs.Common.{◌≡◌, ℕ, Bool, true, false, List, [], ◌∷◌, sym, refl, ap, ◌∙◌, ne_eqb}
 use Rattle.format.specs.WellFormed.{well_formed, zone_of}
 use Rattle.structure.specs.Structure.{decode}
 use Rattle.calls.specs.Calls.{Mark, PageCall, use_page, mark_page, by_name, told, on_page}

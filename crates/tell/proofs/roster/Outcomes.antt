@@ -68,6 +68,7 @@ cards-only f h n (k ∷ hs) i = go (f k) refl i (λ j. cards-only f h n hs j)
     go none q j r = r j
     go (some e) q (in_here p a) r = (e, ap f (sym p) ∙ q, a)
     go (some e) q (in_there j) r = r j
+cards-only f h n [] i = elim i [ ]
 
 cards-small : (z : List ℕ) → IsZone z → (k n : ℕ) → k + master_size * n ≤ argument_range → Small (cards_of (block_in z) (offsets k n))
 unfolding offsets

@@ -37,6 +37,7 @@ every_items (e-more i q r) = items-append i (every_items r)
 items_of : {P : Item → Type 0} {es : List Item} {e : Item} → Items P es → Of e es → P e
 items_of (i-cons p i) of-here = p
 items_of (i-cons p i) (of-there o) = items_of i o
+items_of {P = P} {e = e} Rattle.zone.proofs.Clean.i-nil x3 = elim x3 [ ]
 
 zone-named : (z : List ℕ) → IsZone z → Named (concat_s items (bays_of (decode_zone z)))
 zone-named z i =

@@ -1,0 +1,18 @@
+use Rattle.access.proofs.Checked.{has-length, has-zone, has-whole, take_len, bytes_of}
+use Rattle.call_laws.proofs.Frame.{plan-ill, plan-well}
+use Rattle.free.proofs.pointer.free_plan.Goals as goal
+
+pub returns-then-not-ok : goal.returns-then-not-ok
+returns-then-not-ok c = search plan-ill
+
+pub get4-l-requires : goal.get4-l-requires
+get4-l-requires c = search has-length
+
+pub slice_bounds-plan_in-end : goal.slice_bounds-plan_in-end
+slice_bounds-plan_in-end c = search (take_len, has-zone)
+
+pub plan_in-f-requires : goal.plan_in-f-requires
+plan_in-f-requires c = search (has-whole, bytes_of)
+
+pub returns : goal.returns
+returns c = search plan-well

@@ -1,0 +1,5 @@
+use Rattle.nafelode_c.proofs.Laws.{size-named}
+use Rattle.nafelode_c.proofs.nafelode_size.Goals as goal
+
+pub returns : goal.returns
+returns c = search size-named

@@ -1,0 +1,9 @@
+use Prim.Native.Nat.{◌-◌}
+use Rattle.slide.proofs.run.Walk.{Walked}
+use Rattle.slide.proofs.compact_bay.Given as goal
+
+abbrev pub invariant-loop-at : goal.invariant-loop-at
+invariant-loop-at l = Walked l.initial.z l.a l.e l.z l.w.to l.w.from l.w.hole l.at
+
+abbrev pub decreases-loop-at : goal.decreases-loop-at
+decreases-loop-at l = l.e - l.at

@@ -1,0 +1,8 @@
+use Rattle.turn.proofs.search.Halves.{halve-low, halve-high}
+use Rattle.turn.proofs.search.halve.Goals as goal
+
+pub returns-then-need-w : goal.returns-then-need-w
+returns-then-need-w c = search halve-low
+
+pub returns : goal.returns
+returns c = search halve-high
