@@ -53,7 +53,7 @@ def disassemble(archive):
         elif m := re.match(r'[0-9a-f]+ <(.*)>:', line):
             current = functions.setdefault(m[1], [])
             functions.setdefault(section, current)  # a relocation may name the section
-        elif m := re.match(r'\s+[0-9a-f]+: R_X86_64_\w+\s+(\S+?)([-+]0x[0-9a-f]+)?$', line):
+        elif m := re.match(r'\s+[0-9a-f]+: R_X86_64_\w+\s+(.+?)([-+]0x[0-9a-f]+)?$', line):
             current[-1][1] = m[1]
         elif m := re.match(r'\s+[0-9a-f]+:\s+(.*?)\s*$', line):
             current.append([m[1], None])
@@ -64,7 +64,7 @@ def aliases(archive, functions):
     """Two names of one place: the code stands under one of them."""
     places = {}
     for line in say('objdump', '-t', archive).splitlines():
-        if m := re.match(r'([0-9a-f]+) .{5}.F (\S+)\s+\S+ (?:\.hidden )?(\S+)$', line):
+        if m := re.match(r'([0-9a-f]+) .{5}.F (\S+)\s+\S+ (?:\.hidden )?(.+)$', line):
             places.setdefault((m[2], m[1]), []).append(m[3])
     for names in places.values():
         for code in [functions[n] for n in names if n in functions]:
@@ -94,10 +94,12 @@ class Stack:
                 own += int(m[1], 16)
             elif re.match(r'(add +\$0x|lea +0x|pop|mov +%rbp,%rsp|leave)', text):
                 pass
-            elif re.search(r',%rsp$', text) and not word.startswith(('cmp', 'test')):
+            elif re.search(r',%rsp$', text) and word.startswith('cmp'):
+                fail(f'{name}: `{text}` ends a loop that takes the stack piece by piece, which is not read here')
+            elif re.search(r',%rsp$', text) and not word.startswith('test'):
                 fail(f'{name}: `{text}` moves the stack in a way that is not read here')
             elif word.startswith('call') or word.startswith('j') and (symbol or '<' in text):
-                callee = symbol or re.search(r'<([^+>]*)(?:\+.*)?>', text)[1]
+                callee = symbol or re.search(r'<(.*?)(?:\+0x[0-9a-f]+)?>$', text)[1]
                 inside = not symbol and self.functions.get(callee) is self.functions[name] and word != 'call'
                 if '*' in text and not symbol:
                     fail(f'{name}: an indirect call, `{text}`')

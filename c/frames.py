@@ -18,7 +18,7 @@ def functions(text):
 
 def callees(text):
     """The symbols that a function refers to. Each has a section of its own, by which it may be named."""
-    return {name.removeprefix('.text.').removesuffix('+0') for name in re.findall(r'^\s+[0-9a-f]+:\s+R_\w+\s+(\S+)', text, re.M)}
+    return {name.removeprefix('.text.').removesuffix('+0') for name in re.findall(r'^\s+[0-9a-f]+:\s+R_\w+\s+(.+)', text, re.M)}
 
 
 def taken(name, text):
@@ -31,7 +31,7 @@ def taken(name, text):
 def frames(kit, archive, code):
     if any('R_WASM_' in text for text in code.values()):
         return {name: taken(name, text) for name, text in code.items()}
-    rows = re.findall(r'^ +(\d+) +(\S+)$', kit.run('llvm-readelf', '--stack-sizes', archive), re.M)
+    rows = re.findall(r'^ +(\d+) +(.+)$', kit.run('llvm-readelf', '--stack-sizes', archive), re.M)
     return {name: int(size) for size, name in rows}
 
 

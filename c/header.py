@@ -14,7 +14,7 @@ NUMBER = {'u32': 'uint32_t'}  # what is passed and answered alone
 IN_SLICES = {'u8': 'uint8_t'}
 LENGTH = 'uint64_t'  # of a slice, on every machine: the proved module's
 COMMENT = r'(?P<comment>(?:^//[^\n]*\n)*)'
-FUNCTION = re.compile(COMMENT + r'^#\[no_mangle\]\n^pub extern "C" fn (?P<name>\w+)\((?P<args>[^)]*)\) -> (?P<result>\w+)$', re.M)
+FUNCTION = re.compile(COMMENT + r'^#\[unsafe\(no_mangle\)\]\n^pub extern "C" fn (?P<name>\w+)\((?P<args>[^)]*)\) -> (?P<result>\w+)$', re.M)
 REFERENCE = re.compile(r'&(?P<mut>mut )?(?:(?P<slice>\[(?P<of_slice>\w+)\])|\[(?P<of_array>\w+); (?P<count>[\w:]+)\]|(?P<of_one>\w+))')
 CONSTANT = re.compile(r'^(?P<own>    )?pub const (?P<name>\w+): \w+ = (?P<number>\d+);', re.M)
 

@@ -8,8 +8,8 @@ clang's own C makes of nafelode.h for that target: C's convention there, as LLVM
 - x86-64, AArch64: an i32 is in the lower half of a register, and the upper half is anybody's; callers do not look at it. Nothing to add.
 - RISC-V 64: C wants each i32, also an unsigned one, sign-extended to 64 bits, and callers rely on it: clang's compare the whole register
   (gcc 12's extend it once more). LLVM extends a result only where it is told to: `signext`. C's declarations have it there, and it is put
-  on the module's functions, results and parameters. Without it a nafelode_length that is done is taken for a refused one by clang's
-  callers: the upper half of its register holds L (test_target.py).
+  on the module's functions, results and parameters. Without it the offset that nafelode_view answers is a sum of 64 bits
+  (test_target.py).
 - WebAssembly: i32, i64 and pointers (i32) are types of the machine; a call that disagrees is refused when it is linked or loaded.
 - ARM (AAPCS): an i32 or a pointer is in one register, an i64 in two, the first of them with an even number, or on the stack at a multiple
   of 8. The back end does that for each i64, whoever wrote it: the header's lengths have 64 bits everywhere, so that C passes i64, too.

@@ -53,8 +53,7 @@ class Kit:
         found = subprocess.run([HERE / 'kit'], stdout=subprocess.PIPE, text=True, check=False)
         if found.returncode:
             sys.exit(1)  # it has said what is missing
-        machine = subprocess.run(['uname', '-m'], stdout=subprocess.PIPE, text=True, check=True).stdout.strip()
-        self.clang = pathlib.Path(found.stdout.rstrip('\n')) / 'on' / machine / 'toolchain' / 'bin' / 'clang'
+        self.clang = pathlib.Path(found.stdout.rstrip('\n')) / 'toolchain' / 'bin' / 'clang'
         self.module, self.work = pathlib.Path(module), pathlib.Path(work)
         words = self.module.with_suffix('.words')
         for file in (self.module, words):

@@ -16,27 +16,27 @@ DEFINITIONS = "crates/block_type/"
 
 # each number of the papers, with the names that it has in crates/block_type/specs/Limits.antt
 NUMBERS = {
-    2: "tagAt or relocCode",
-    4: "freeHeader, fixedHeader, relocHeader, smallestBlock, masterSize, firstAt, amountAt or limitSize",
-    8: "mastersAt, recordSize, addedMasters or pageHeader",
-    12: "chainAt",
-    14: "clockAt",
-    15: "zeroAt",
-    16: "zoneHeader",
+    2: "tag_at or reloc_code",
+    4: "free_header, fixed_header, reloc_header, smallest_block, master_size, first_at, amount_at or limit_size",
+    8: "masters_at, record_size, added_masters or page_header",
+    12: "chain_at",
+    14: "clock_at",
+    15: "zero_at",
+    16: "zone_header",
     19: "strata",
-    32: "addedBytes",
-    64: "typeByteUnit",
-    76: "limitsLength",
-    8188: "mostMasters",
-    16384: "typeUnit or lockBit",
-    32756: "pageLimit",
-    32760: "fixedLimit or relocLimit",
-    32764: "largestBlock",
-    32768: "relocCode * typeUnit, firstBlock mostMasters or dirtyBit",
-    65536: "handleRange",
-    524288: "highestLimit",
-    1048576: "longestZone",
-    4294967296: "argumentRange",
+    32: "added_bytes",
+    64: "type_byte_unit",
+    76: "limits_length",
+    8188: "most_masters",
+    16384: "type_unit or lock_bit",
+    32756: "page_limit",
+    32760: "fixed_limit or reloc_limit",
+    32764: "largest_block",
+    32768: "reloc_code * type_unit, first_block most_masters or dirty_bit",
+    65536: "handle_range",
+    524288: "highest_limit",
+    1048576: "longest_zone",
+    4294967296: "argument_range",
 }
 
 # an argument: a name, or what stands in parentheses
@@ -44,35 +44,34 @@ ATOM = r"(?:[^\s()]+|\((?:[^()]|\((?:[^()]|\((?:[^()]|\((?:[^()]|\([^()]*\))*\))
 
 # smaller numbers that have a name where they stand in such a form: the form, whose group is the number, and the name
 FORMS = [
-    (rf"\b(?:typeOf|code) {ATOM} (?:≡|=) ([013])\b", "freeCode, fixedCode or pageCode"),
-    (rf"\beqb \((?:typeOf|code) {ATOM}\) ([013])\b", "freeCode, fixedCode or pageCode"),
-    (rf"\bk ≡ typeOf {ATOM} → .*\beqb k ([01])\b", "freeCode or fixedCode"),
-    (rf"\bslice {ATOM} (0) 4\b", "lengthAt"),
-    (r"(?:\boverwrite [^\s()]+|\)) (0) \(toBE 4\b", "lengthAt"),
+    (rf"\b(?:type_of|code) {ATOM} (?:≡|=|==) ([013])\b", "free_code, fixed_code or page_code"),
+    (rf"\beqb \((?:type_of|code) {ATOM}\) ([013])\b", "free_code, fixed_code or page_code"),
+    (rf"\bk ≡ type_of {ATOM} → .*\beqb k ([01])\b", "free_code or fixed_code"),
+    (rf"\bslice {ATOM} (0) 4\b", "length_at"),
+    (r"(?:\boverwrite [^\s()]+|\)) (0) \(to_be 4\b", "length_at"),
     (r"\b(?:get4|put4)\(\w+, (0)\b", "block_type::LENGTH_AT"),
 ]
 
 # what such a number means wherever it stands in such a form: the form (its group, if it has one), and why it needs no name
 MEANINGS = [
-    (r"(?<![\w-])(?:length-|be-)?toBE [24]\b", "the width of a number that is written, in bytes"),
+    (r"(?<![\w-])(?:length-|be-)?to_be [24]\b", "the width of a number that is written, in bytes"),
     (r"(?<![\w-])(?:big|big-is) [24]\b", "the same, in a second definition of the bytes"),
-    (r"(?<![\w-])(?:take|take-take|part-bytes|be-front|peel) [24]\b", "the width of a number that stands in front, in bytes"),
+    (r"(?<![\w-])(?:take|take[-_]take|part[-_]bytes|be[-_]front|peel) [24]\b", "the width of a number that stands in front, in bytes"),
     (rf"\bslice {ATOM} {ATOM} ([24])\b", "the width of a number that is read, in bytes"),
     (rf"\bslice-take {ATOM} {ATOM} {ATOM} ([24])\b", "the width of a number that is read, in bytes"),
-    (r"\b(?:length|first|masters|chain|tag)At \+ ([24])\b", "the end of a field: its place and its width"),
+    (r"\b(?:length|first|masters|chain|tag)_at \+ ([24])\b", "the end of a field: its place and its width"),
     (r"% 4\b", "a multiple of 4"),
-    (r"/ (?:handleRange|BlockType::HANDLE_RANGE) % 2\b", "the same of a size in words"),
+    (r"/ (?:handle_range|BlockType::HANDLE_RANGE) % 2\b", "the same of a size in words"),
     (r"/ 4 \* 4\b", "rounding to a multiple of 4"),
     (r"/ 2\b", "bytes to words"),
     (r"\* 2\b", "words to bytes"),
     (r"(?<![\w.])2 \^", "a power of 2"),
-    (r"(?<![\w-])(?:cause|counted|told|shows|refused|holdsIn|number(?: ≡|:| =)|numberOf c entry ≡|stretchNumber [\w ]+ ≡) ([248]|1[24])\b", "a refusal number"),
+    (r"(?<![\w-])(?:cause|counted|told|shows|refused|holds_in|number(?: ≡|:| =)|number_of c entry ≡|stretch_number [\w ]+ ≡) ([248]|1[24])\b", "a refusal number"),
     (r"\bno_growth\([248]\)", "a refusal number"),
 ]
 
 # where such a number means something else: the file (or what its name begins with), the form (its group, if it has one), and why
-CALLS = r"(?<![\w-])(?:allocate-(?:relocatable|fixed)|free-handle|enlarge|by-handle) \d+\b"
-WALKED = "the walk by hand: how many facts are passed over, or where one stands among them"
+CALLS = r"(?<![\w-])(?:allocate_(?:relocatable|fixed)|free_handle|enlarge|by_handle) \d+\b"
 ALLOWED = [
     # widths, and bytes within a number
     ("crates/bigendian/", r"\bat \+ [24] ≤", "the width of the number that is read or written"),
@@ -80,31 +79,31 @@ ALLOWED = [
     ("crates/bigendian/", r"[*/] 65536\b", "what the second of four bytes counts"),
     ("crates/memory/", r"\bat \+ [248]\b", "a byte of a word, the second of two words, and where a word or two end"),
     ("crates/memory/", r"\* (?:65536|4294967296)\b", "what the third of four bytes counts, and the second of two words"),
-    ("crates/memory/src/lib.rt", r"\br < (4294967296)\b", "a word is below"),
+    ("crates/memory/src/lib.rt", r"\bresult < (4294967296)\b", "a word is below"),
     ("crates/memory/", r"\b8 (?:\*|\+ \(m)", "a double word's bytes"),
     ("crates/memory/", rf"\bslice {ATOM} {ATOM} (8)\b", "the same"),
     ("crates/memory/", r"\* i \+ (8)\b", "the same"),
     ("crates/memory/proofs/Words.antt", r"\bslice-add s at 4 4\b", "the bytes of two words"),
     ("crates/memory/proofs/Words.antt", rf"\bslice-add s {ATOM} (8)\b", "a double word's bytes"),
-    ("crates/kinds/proofs/KindLaws.antt", r"\b(?:drop-drop|take-append-drop|part-small) [24]\b|\(drop [24]\)", "the width of a handle or a status word, and of a name"),
-    ("crates/kinds/proofs/KindLaws.antt", r"(?:\bu|\bd|\(e \.bytes\)) ([24])\b(?= \(length-toBE)", "the same"),
-    ("crates/turn/proofs/rank/Page.antt", r"\bstatusAt \+ (2)\b", "the status word's width"),
+    ("crates/kinds/proofs/KindLaws.antt", r"\b(?:drop[-_]drop|take[-_]append[-_]drop|part[-_]small) [24]\b|\(drop [24]\)", "the width of a handle or a status word, and of a name"),
+    ("crates/kinds/proofs/KindLaws.antt", r"(?:\bu|\bd|\(e \.bytes\)) ([24])\b(?= \(length-to_be)", "the same"),
+    ("crates/turn/proofs/rank/Page.antt", r"\bstatus_at \+ (2)\b", "the status word's width"),
     ("crates/structure/proofs/Back.antt", rf"\bat-seam {ATOM} {ATOM} (4)\b", "the width of a master's number"),
-    ("crates/calls/specs/Roster.antt", r"handle = fromBE \(slice bs 0 4", "the handle is the first number of a record"),
+    ("crates/calls/specs/Roster.antt", r"handle = from_be \(slice bs 0 4", "the handle is the first number of a record"),
     ("crates/slide/src/blank.rt", r"\bput4\(s, (0)\b", "a free block begins with the part that is lent"),
-    ("crates/slide/proofs/blank/Whole.antt", r"\boverwrite s (0) \(toBE 4\b", "the same"),
+    ("crates/slide/proofs/blank/Whole.antt", r"\boverwrite s (0) \(to_be 4\b", "the same"),
     # trees of names
-    ("crates/names/specs/Tree.antt", r"^(?:branches|nameBits) = \d+$", "the names of what a tree of names goes by"),
+    ("crates/names/specs/Tree.antt", r"^(?:branches|name_bits) = \d+$", "the names of what a tree of names goes by"),
     ("crates/names/src/trees.rt", r"^(?:pub )?const (?:BRANCHES|NAME_BITS): usize = (\d+);$", "the same names in code"),
-    ("crates/names/specs/Seen.antt", r"^(?:probes|printRange) = \d+$", "the names of what a table of fingerprints goes by"),
+    ("crates/names/specs/Seen.antt", r"^(?:probes|print_range) = \d+$", "the names of what a table of fingerprints goes by"),
     ("crates/names/src/seen.rt", r"^const (?:PROBES: usize|PRINT_RANGE: u64) = (\d+);$", "the same names in code"),
     # a search by halving
-    ("crates/turn/specs/Limit.antt", r"\b2 \* \(high′ - low′\)", "half as far"),
+    ("crates/turn/specs/Limit.antt", r"\b2 \* \(high' - low'\)", "half as far"),
     # the census
     ("crates/zone/specs/Formula.antt", r"% 2\b", "an even number"),
     ("crates/zone/specs/Formula.antt", r"^bits = 32$", "the bits of a number in code, which are named here"),
-    ("crates/calls/", r"(?:\beqb (?:n|\(getD ls 0 0\))|\((?:n|getD ls 0 0) ≡|\beqb-true n) (2)\b", "the first limit is 1 or 2"),
-    ("crates/zone/specs/Strata.antt", r"\blimitAt lent 0 ≡ (2)\b", "the same"),
+    ("crates/calls/", r"(?:\beqb (?:n|\(get_or ls 0 0\))|\((?:n|get_or ls 0 0) ≡|\beqb-true n) (2)\b", "the first limit is 1 or 2"),
+    ("crates/zone/specs/Strata.antt", r"\blimit_at lent 0 ≡ (2)\b", "the same"),
     ("crates/zone/specs/Strata.antt", r"\bat \+ (2)\b", "the third byte of a limit"),
     ("crates/zone/proofs/Strata.antt", r"\bn ≡ (2)\b", "the same"),
     ("crates/inspect/", r"(?:\beqb first|\bfirst ==|\bv ≡) (2)\b", "the same"),
@@ -113,54 +112,53 @@ ALLOWED = [
     ("crates/calls/specs/Table.antt", r"\beqb n (12)\b", "a refusal number"),
     ("crates/calls/proofs/Order.antt", r"(?<![\w.])(?:[248]|1[24]) ∷", "the order of the refusal numbers"),
     ("crates/calls/proofs/Order.antt", r"\bcond s 0 (12)\b", "a refusal number"),
-    ("crates/calls/proofs/Order.antt", r"\bcond (?:l|\(lentOk lent\)) 0 (14)\b", "a refusal number"),
-    ("crates/zone/proofs/Strata.antt", r"\bcond \(lentOk lent\) 0 (14)\b", "a refusal number"),
-    ("crates/inspect/", r"(?:\bcond may 0|\bnumberBy ok may ≡|\breturn) (14)\b", "a refusal number"),
-    ("crates/nafelode/proofs/Demands.antt", r"\b(?:n ≡|ne-eqb n) (12)\b", "a refusal number"),
-    ("crates/turn/", r"(?:\(isNone \w+\)\)|\beqb number|\bInTurn z need) (12)\b", "a refusal number"),
+    ("crates/calls/proofs/Order.antt", r"\bcond (?:l|\(lent_ok lent\)) 0 (14)\b", "a refusal number"),
+    ("crates/zone/proofs/Strata.antt", r"\bcond \(lent_ok lent\) 0 (14)\b", "a refusal number"),
+    ("crates/inspect/", r"(?:\bcond may 0|\bnumber_by ok may ≡|\breturn) (14)\b", "a refusal number"),
+    ("crates/nafelode/proofs/Demands.antt", r"\b(?:n ≡|ne[-_]eqb n) (12)\b", "a refusal number"),
+    ("crates/turn/", r"(?:\(is_none \w+\)\)|\beqb number|\bnumber ==|\bInTurn z need) (12)\b", "a refusal number"),
     ("crates/zone/proofs/PageDrops.antt", r" 0 (12)$", "a refusal number"),
-    ("crates/zone/proofs/PageSays.antt", r"(?:\bcreateNumber a l e s ≡|\bcond t 0|\bne-eqb \(suc k\)|\bnumberTold \(suc k\) b ≡|\bsuc k ≡) (12)\b", "a refusal number"),
+    ("crates/zone/proofs/PageSays.antt", r"(?:\bcreate_number a l e s ≡|\bcond t 0|\bne[-_]eqb \(suc k\)|\bnumber_told \(suc k\) b ≡|\bsuc k ≡) (12)\b", "a refusal number"),
     ("crates/zone/proofs/PageSays.antt", r"\bc (12) q\b", "the refusal number 13 less one"),
     ("crates/zone/proofs/PageRead.antt", r"\(facts true z\) ≡ (8)$", "a refusal number"),
     ("crates/stretch/specs/Stretch.antt", r"\(cond \(leb n have\) 0 10\) (8)\b", "a refusal number"),
     ("crates/stretch/proofs/Laws.antt", r"\bIsPart .* have (8)\b", "a refusal number"),
-    ("crates/zone/proofs/Initial.antt", r"\bclear \(badInitialize .*\) (2)\b", "a refusal number"),
-    ("crates/zone/proofs/Passed.antt", r"\bpassed \(allocate-relocatable c\) z e (4)\b", "a refusal number"),
+    ("crates/zone/proofs/Initial.antt", r"\bclear \(bad_initialize .*\) (2)\b", "a refusal number"),
+    ("crates/zone/proofs/Passed.antt", r"\bpassed \(allocate_relocatable c\) z e (4)\b", "a refusal number"),
     ("crates/calls/proofs/Order.antt", r" 0 5\) (4)$", "a refusal number"),
     ("crates/zone/specs/Growth.antt", r"^ +4\)$", "a refusal number"),
     ("crates/allocate/proofs/growth/Laws.antt", r" 0 5\) (4)(?:$|\))", "a refusal number"),
     ("crates/records/", r"\bline 2 0\b", "a refusal number, in a line that zone-run prints"),
     # zone-run
-    ("crates/records/specs/Records.antt", r"^(?:recordLength|aAt|bAt|dAt) = \d+$", "the names of zone-run's records"),
+    ("crates/records/specs/Records.antt", r"^(?:record_length|a_at|b_at|d_at) = \d+$", "the names of zone-run's records"),
     ("crates/records/src/lib.rt", r"^const (?:RECORD_LENGTH|A_AT|B_AT|D_AT): usize = (\d+);$", "the same names in code"),
-    ("crates/records/specs/Book.antt", r"^bufferLength = 65536$", "the name of zone-run's buffer length"),
-    ("crates/zone_run/specs/Loop.antt", r"^chunkSize = 65536$", "the name of how much zone-run reads at a time"),
+    ("crates/records/specs/Book.antt", r"^buffer_length = 65536$", "the name of zone-run's buffer length"),
+    ("crates/zone_run/specs/Loop.antt", r"^chunk_size = 65536$", "the name of how much zone-run reads at a time"),
     ("crates/zone_run/specs/Loop.antt", r"\b2 \^ 64\b", "what 64 bits hold"),
     ("crates/zone_run/src/main.rt", r"^const (?:ZONE|CHUNK): usize = (65536);$", "the same names in code"),
+    ("crates/zone_run/src/main.rt", r"^ +left: (4),$", "a test: how many writes are done before one fails"),
     ("crates/records/src/lib.rt", r"^ +[248] => ", "a record's code"),
     ("crates/records/proofs/Acts.antt", r"\b(?:code ≡|beyond|asks) [248]\b", "a record's code"),
     ("crates/records/", r"(?<![\w.])32\b", "a space in a line that zone-run prints"),
     ("crates/records/", r"\(length \(decimal \w+\) \+ (2)\)", "the space and the end of a line"),
-    ("crates/records/proofs/Decimal.antt", r"\bdigits-more 8\b", "how many digits are left"),
+    ("crates/records/proofs/Decimal.antt", r"\bdigits[-_]more 8\b", "how many digits are left"),
     ("crates/records/proofs/Example.antt", r"^example = .*", "document 01's example of zone-run"),
     # pages, C and a walker that is the caller's own
     ("crates/create/", r"(?:\bnumber|≡|\bcond s 0|\(not s\)) (12)\b", "a refusal number"),
     ("crates/nafelode_c/", r"\bby (?:== |≡ )?(2)\b", "how C says that a number is a page's name"),
-    ("crates/walker_run/src/main.rt", r"\bturns = (16384)usize\b", "more steps than a zone of 65,536 bytes has blocks"),
-    ("crates/walker_run/proofs/walk/Proof.antt", r"\bturns ≤ 16384\b", "the same"),
-    ("crates/inspect/proofs/walker/Walker/advance/Proof.antt", r"! \d+\b|! \([\d ∷]+\[\]\)", WALKED),
-    ("crates/inspect/proofs/walker/Walker/advance/Proof.antt", r"\bgoes-[\w-]+ 𝓤 H A W 2\b", "how many lifetimes the function has"),
-    ("crates/walker_run/proofs/step/Proof.antt", r"! \d+\b|! \([\d ∷]+\[\]\)", WALKED),
-    ("crates/walker_run/proofs/step/Proof.antt", r"\b2 \^ 64\b", "what 64 bits hold"),
+    ("crates/walker_run/specs/Lines.antt", r"\b32 ∷", "a space in a line that walker_run prints"),
+    ("crates/walker_run/specs/Lines.antt", r"^most_steps = 16384$", "the name of how many steps walker_run makes"),
+    ("crates/walker_run/src/main.rt", r"^const MOST_STEPS: usize = (16384);$", "the same name in code"),
+    ("crates/walker_run/src/main.rt", r"^const LONGEST: usize = (65536);$", "the name of how long a zone walker_run takes"),
     # examples that are computed: their bytes, arguments and answers are the rig sheet's own, and the customer's
     ("crates/zone/specs/RigSheet.antt", r"^fresh = .*", "the rig sheet: a zone of 64 bytes with 4 masters"),
     ("crates/zone/specs/RigSheet.antt", r"\bcalls = [^;]*;", "the rig sheet: what is asked"),
     ("crates/zone/specs/RigSheet.antt", r"\btold = [^;]*;", "the rig sheet: what is answered"),
     ("crates/zone/specs/RigSheet.antt", r"\bpieces = .*|^ +(?:∷ )?piece .*", "the rig sheet: the bytes after it"),
-    ("crates/zone/specs/GrowthSheet.antt", r"^ +(?:∷ )?(?:allocate|resize|write)\b.*|^(?:loose|beyond) = .*", "the growth by example: what is asked"),
+    ("crates/zone/specs/GrowthSheet.antt", r"^ +(?:∷ )?(?:allocate_\w+|resize|write)\b.*|^(?:loose|beyond) = .*", "the growth by example: what is asked"),
     ("crates/zone/specs/GrowthSheet.antt", r"^ +(?:\+\+ )?[(]?(?:word \d|\d).*", "the growth by example: the bytes after it"),
-    ("crates/zone/specs/GrowthSheet.antt", r"\b(?:answered \d+ \d+ \d+|zone \d+ [12]\)+(?: zoneHeader \d+)?|crowded \d+\)) ≡ .*|\bzone 112 2\b", "the growth by example: the zone, and what is answered"),
-    ("crates/zone/specs/PageSheet.antt", r"^(?:vacant|round|sides|flaggedPages|filled|between|atEnd|growing|brokenZone) = .*", "the pages by example: the zone, and what is asked"),
+    ("crates/zone/specs/GrowthSheet.antt", r"\b(?:answered \d+ \d+ \d+|zone \d+ [12]\)+(?: zone_header \d+)?|crowded \d+\)) ≡ .*|\bzone 112 2\b", "the growth by example: the zone, and what is answered"),
+    ("crates/zone/specs/PageSheet.antt", r"^(?:vacant|round|sides|flagged_pages|filled|between|calls_at_end|growing|broken_zone) = .*", "the pages by example: the zone, and what is asked"),
     ("crates/zone/specs/PageSheet.antt", r"^ +(?:\+\+ )?[(]?(?:word \d|\d).*", "the pages by example: the bytes after it"),
     ("crates/zone/specs/PageSheet.antt", r"^ +pub [\w-]+ : .*", "the pages by example: what is asked, what is answered, and bytes"),
     ("crates/zone/specs/FixedSheet.antt", r"^(?:vacant|older d) = .*", "fixed blocks by example: the zone"),
@@ -176,7 +174,7 @@ ALLOWED = [
 ]
 
 # an antt name may hold digits and marks; a number stands alone, or with a type's name in code
-NUMBER = re.compile(r"(?:(?<![^\s(){}\[\],;!])|(?<=\.\.)|(?<=\.\.=))(0x[\da-fA-F_]+|\d[\d_]*)(?:u8|u32|u64|usize)?(?![^\s(){}\[\],;.])")
+NUMBER = re.compile(r"(?:(?<![^\s(){}\[\],;!])|(?<=\.\.)|(?<=\.\.=))(0x[\da-fA-F_]+|0o[0-7_]+|0b[01_]+|\d[\d_]*)(?:[ui](?:8|16|32|64|128|size))?(?![^\s(){}\[\],;.])")
 
 
 def text_of(root, name):
@@ -199,7 +197,8 @@ def files(root):
 def found(line):
     """The numbers of a line that have a name: where each stands, its text and the name."""
     for number in NUMBER.finditer(line):
-        value = int(number[1].replace("_", ""), 16 if number[1].startswith("0x") else 10)
+        digits = number[1].replace("_", "")
+        value = int(digits, 0 if digits[:2] in ("0x", "0o", "0b") else 10)
         if value in NUMBERS:
             yield *number.span(1), number[0], NUMBERS[value]
     for form, named in FORMS:

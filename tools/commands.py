@@ -1,7 +1,7 @@
 #!/usr/bin/env python3
 """Tests zone-run, c-library and examples/make as their users meet them: what they say, and where, and their exit status.
 
-It needs the proved program target/bin/zone_run. The wrappers are tried in a folder of their own, with another rt, so that nothing is proved here.
+It needs the proved program crates/zone_run/out/zone_run. The wrappers are tried in a folder of their own, with another rt, so that nothing is proved here.
 """
 import os
 import pathlib
@@ -13,13 +13,18 @@ import tempfile
 import unittest
 
 ROOT = pathlib.Path(__file__).resolve().parent.parent
-PROVED = ROOT / "target" / "bin" / "zone_run"
+PROVED = ROOT / "crates" / "zone_run" / "out" / "zone_run"
 RECORDS = (ROOT / "examples" / "first.records").read_bytes()
 LINES = (ROOT / "examples" / "first.expected").read_bytes()
 CHUNK = 65536  # the program reads so many bytes before it writes
 SECONDS = 60
 
-UNCHANGED = "echo 'rt: memory proved (unchanged since it was last proved)'\necho 'rt: ok, 1 crates proved'\n"
+UNCHANGED = "echo 'rt: nothing has changed since the last proved build, by out/zone_run.stamp, so nothing is checked now' >&2\n"
+
+
+def proved(*crates):
+    """What rt says as it proves crates."""
+    return "".join(f"echo 'fn {crate}::call: proved' >&2\necho 'crate {crate}: modules loaded=0 checked=9' >&2\necho 'logic=proved functions=1 sum=0' >&2\n" for crate in crates)
 
 
 class Trial(unittest.TestCase):
@@ -63,9 +68,10 @@ class ZoneRun(Trial):
     def setUp(self):
         super().setUp()
         self.command = shutil.copy(ROOT / "zone-run", self.place)
-        self.program = self.place / "target" / "bin" / "zone_run"
+        self.program = self.place / "crates" / "zone_run" / "out" / "zone_run"
         self.program.parent.mkdir(parents=True)
         self.program.symlink_to(PROVED)
+        (self.place / "tools" / "proved.py").symlink_to(shutil.which("false"))
         self.script(self.tools / "rt", UNCHANGED)
 
     def instead(self, text):
@@ -147,18 +153,28 @@ class ZoneRun(Trial):
     def test_crates_are_shown_as_they_are_proved(self):
         seen, unseen = self.place / "seen", self.place / "unseen"
         wait = f"for i in {'. ' * 100}; do [ -e '{seen}' ] && break; sleep 0.1; done\n[ -e '{seen}' ] || : >'{unseen}'\n"  # not for ever
-        self.script(self.tools / "rt", f"{UNCHANGED}echo 'fn zone::call: proved'\necho 'rt: zone proved (9 s)'\n{wait}echo 'rt: zone_run proved (1 s)'\n")
+        self.script(self.tools / "rt", f"{proved('memory', 'zone')}{wait}{proved('zone_run')}")
         with subprocess.Popen([self.command], stdin=subprocess.PIPE, stdout=subprocess.PIPE, stderr=subprocess.PIPE, env=self.environment) as running:
-            self.assertEqual(running.stderr.readline(), b"rt: zone proved (9 s)\n")
+            self.assertEqual([running.stderr.readline() for _ in range(2)], [b"zone-run: memory is proved\n", b"zone-run: zone is proved\n"])
             seen.touch()
             out, said = running.communicate(RECORDS, timeout=SECONDS)
-        self.assertEqual((out, said, unseen.exists()), (LINES, b"rt: zone_run proved (1 s)\n", False))
+        self.assertEqual((out, said, unseen.exists()), (LINES, b"zone-run: zone_run is proved\n", False))
+
+    def test_what_the_gate_proved_is_not_proved_again(self):
+        (self.place / "tools" / "proved.py").unlink()
+        self.script(self.place / "tools" / "proved.py", f"[ \"$*\" = zone_run ] && [ \"$PWD\" = '{self.place}' ]\n")
+        self.script(self.tools / "rt", "echo 'rt was asked' >&2\nexit 1\n")
+        self.silent(self.run_it(self.command, data=RECORDS), LINES)
+
+    def test_it_is_built_where_the_program_stands(self):
+        self.script(self.tools / "rt", f"[ \"$*\" = run ] && [ \"$PWD\" = '{self.program.parent.parent}' ] && [ -z \"$(cat)\" ]\n")
+        self.silent(self.run_it(self.command, data=RECORDS), LINES)
 
     def test_not_proved(self):
-        self.script(self.tools / "rt", f"{UNCHANGED}echo 'fn zone::call: not proved'\necho 'rt: zone is not proved' >&2\nexit 1\n")
+        self.script(self.tools / "rt", f"{proved('memory')}echo 'fn zone::call: not proved'\necho 'rt: the library zone did not build' >&2\nexit 1\n")
         done = self.run_it(self.command, data=RECORDS)
         self.assertEqual((done.returncode, done.stdout), (1, b""))
-        for words in (b"fn zone::call: not proved\n", b"rt: zone is not proved\n"):
+        for words in (b"fn zone::call: not proved\n", b"rt: the library zone did not build\n", b"zone-run: memory is proved\n"):
             self.assertEqual(done.stderr.count(words), 1)
 
 
@@ -204,5 +220,5 @@ class Make(Trial):
 
 if __name__ == "__main__":
     if not PROVED.is_file():
-        sys.exit("tools/commands.py: target/bin/zone_run is not there: ./zone-run proves and builds it")
+        sys.exit("tools/commands.py: crates/zone_run/out/zone_run is not there: ./zone-run proves and builds it")
     unittest.main()

@@ -56,9 +56,9 @@ def number(root, name, file=LIMITS):
 
 def rules(root):
     """The names of the rules of a well-formed zone."""
-    tests = set(re.findall(r"^(?:abbrev |unfoldable )pub (\w+) : .*→ Bool$", sources.uncommented(sources.read(root, RULES)), re.M))
-    whole = ("wellFormed", "zoneRules", "blockRules")
-    named = {word for name in whole for word in re.findall(r"\w+", body(root, RULES, name))}
+    tests = set(re.findall(r"^(?:(?:abbrev|unfoldable|pub) )*(\S+) :(?:.*\n[ \t]+)*.*→ Bool$", sources.uncommented(sources.read(root, RULES)), re.M))
+    whole = ("well_formed", "zone_rules", "block_rules")
+    named = {word for name in whole for word in sources.atoms(body(root, RULES, name))}
     return (named & tests) - {*whole, "every"}
 
 
@@ -74,10 +74,10 @@ def order(root, name="order"):
 def cause_numbers(root, term):
     """The numbers of a cause, or of a list of causes, as a call's clause names it; by its first argument, where that is a constructor's."""
     name, _, arguments = term.partition(" ")
-    asked = re.match(r"\(([\w-]+)", arguments)
+    asked = re.match(r"\((\w+)", arguments)
     found = set()
     for before, after in clauses(root, TABLE, name):
-        given = re.match(r"\(([\w-]+)", before)
+        given = re.match(r"\((\w+)", before)
         if not (asked and given) or asked[1] == given[1]:
             found.add(int(re.match(r"cause (\d+) ", after)[1]))
     return found
@@ -98,24 +98,24 @@ def clause_for(root, name, constructor):
 def marks(root):
     """The constructors of a mark."""
     block = re.search(r"^pub data Mark .*\n((?:[ \t]+.*\n)+)", sources.uncommented(sources.read(root, CALLS)), re.M)
-    return re.findall(r"^ *([\w-]+) :", block[1], re.M)
+    return re.findall(r"^ *(\w+) :", block[1], re.M)
 
 
 def refusals(root, call):
     """The numbers that a call, by its name in C, can be refused with."""
-    alone = {"initialize": "initRefusal", "census": "censusRefusal"}
+    alone = {"initialize": "init_refusal", "census": "census_refusal"}
     if call in alone:
         return of_terms(root, re.fullmatch(r"first order \((.*)\)", body(root, TABLE, alone[call]))[1])
     if call.startswith("walker_"):
-        return {int(n) for n in re.findall(r"\bwalked (\d+)", body(root, WALKER, {"walker_start": "walkStart", "walker_step": "walkStep"}[call]))}
-    constructor = {"sum": "sums", "length": "length-of"}.get(call, call.replace("_", "-"))
+        return {int(n) for n in re.findall(r"\bwalked (\d+)", body(root, WALKER, {"walker_start": "start_of_walk", "walker_step": "walk_step"}[call]))}
+    constructor = {"sum": "sums", "length": "length_of"}.get(call, call)
     said = clause_for(root, "causes", constructor)
     if said is not None:
         return of_terms(root, said)
-    of_page = clause_for(root, "pageCauses", "mark-page" if constructor in marks(root) else constructor)
+    of_page = clause_for(root, "page_causes", "mark_page" if constructor in marks(root) else constructor)
     if of_page is None:
         raise LookupError(f"{TABLE} has no causes of {call}")
-    every = [term for term in terms(clause_for(root, "causes", "on-page")) if not term.startswith("pageCauses")]
+    every = [term for term in terms(clause_for(root, "causes", "on_page")) if not term.startswith("page_causes")]
     return of_terms(root, of_page).union(*(cause_numbers(root, term) for term in every))
 
 
@@ -124,15 +124,15 @@ def refusals(root, call):
 
 def record_places(root):
     """How long a record is, and where its numbers stand."""
-    return {name: number(root, name, RECORDS) for name in ("recordLength", "aAt", "bAt", "dAt")}
+    return {name: number(root, name, RECORDS) for name in ("record_length", "a_at", "b_at", "d_at")}
 
 
 def actions(root):
     """What each code asks, in order: the call's name and the numbers that it takes."""
     plain = [re.sub(r"^call \(?", "", term) for term in terms(body(root, RECORDS, "actions"))]
-    names = [re.match(r"[\w-]+", term)[0].replace("-", "_") for term in plain]
+    names = [re.match(r"\w+", term)[0] for term in plain]
     return [("read" if name == "read_byte" else name, re.findall(r"\b[abd]\b", term)) for name, term in zip(names, plain)]
 
 
 def buffer_length(root):
-    return number(root, "bufferLength", BOOK)
+    return number(root, "buffer_length", BOOK)

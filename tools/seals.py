@@ -4,7 +4,7 @@ and type, of each program, and of the theorems that must be there. What a commen
 
 Usage: tools/seals.py writes tools/seals.txt and prints which seals moved, for the note on a landing.
        tools/seals.py --check tests the tree against it: each seal that differs, is missing or is superfluous is a line, and so is an exported function
-       that promises nothing, and a theorem that is not there.
+       that promises nothing, what the exported crates have that no seal reads, and a theorem that is not there.
 """
 import functools
 import hashlib
@@ -36,18 +36,22 @@ def sealed_files(root):
     return {**found, f"list {THEOREMS}": "\n".join(theorem_lines(root))}
 
 
+def is_program(root, crate):
+    return (root / f"crates/{crate}/src/main.rt").is_file()
+
+
 def programs(root):
     """The code of programs, bodies too: no contract says what is read and written."""
-    names = [name for crate in sources.EXPORTED if (root / f"crates/{crate}/src/main.rt").is_file() for name in sources.sources(root, crate)]
+    names = [name for crate in sources.EXPORTED if is_program(root, crate) for name in sources.sources(root, crate)]
     return {f"program {name}": " ".join(sources.masked(sources.read(root, name)).split()) for name in names}
 
 
 # ---- exported contracts and types
 
 
-def origins(root, text, declaration):
-    """Where the names that a declaration uses come from: a line for each."""
-    ghost, code = sources.imports(text), sources.code_imports(text)
+def origins(root, text, declaration, code):
+    """Where the names that a declaration uses come from, with those that code's own `use` lines bring: a line for each."""
+    ghost = sources.imports(text)
     from_ghost = [f"{name} = {sources.resolved(root, ghost[name])}" for name in sources.used(declaration, ghost)]
     words = set(re.findall(r"\w+", declaration))
     return sorted(from_ghost + [f"{name} = {code[name][0]}" for name in code if name in words])
@@ -58,17 +62,37 @@ def sealed_contracts(root):
     for name, places in sources.exported(root).items():
         item, text = places[0]
         said = " ".join(item.text.split())
-        found[name] = "\n".join([said, *origins(root, text, item.text)])
+        found[name] = "\n".join([said, *origins(root, text, item.text, sources.code_imports(text))])
     return found
 
 
-def contract_faults(root):
-    """Exported names that are declared twice, and functions that promise nothing."""
+# what gives a type or a contract another meaning, or declares something, and is no declaration of those that are sealed
+OTHER_FORMS = re.compile(r"^[ \t]*(?:unsafe )?(?:impl\b[^{;]*\bfor\b|extern \"C\" \{|union\b|(?:pub )?macro_rules!)[^{;]*", re.M)
+
+
+def form_faults(root):
+    """What the exported crates, and those whose declarations they pass on, have that no seal reads; programs are sealed as they stand."""
     faults = []
+    for crate, name, found, further in sources.exports(root):
+        faults += [f"passed on and not sealed: {crate}::{name} is no declaration"] if name and not found and not further else []
+        if name is None or found:
+            faults += [f"passed on under another name: {path} in {crate}" for path in sources.renamed(root, crate)]
+    crates = {crate for crate, _, found, _ in sources.exports(root) if found}
+    files = [file for crate in sorted(crates) if not is_program(root, crate) for file in sources.sources(root, crate)]
+    return faults + [f"no seal reads: {form.strip()} in {file}" for file in files for form in OTHER_FORMS.findall(sources.masked(sources.read(root, file)))]
+
+
+def contract_faults(root):
+    """Exported names that are declared twice, functions that promise nothing, and what is not read."""
+    faults, constants = form_faults(root), sources.constants(root)
     for name, places in sources.exported(root).items():
         function, (item, _) = name.split(" ", 1)[1], places[0]
         if len(places) > 1:
             faults.append(f"declared {len(places)} times: {name}")
+        for constant in sorted(constants & set(re.findall(r"\w+", " ".join(sources.clause_texts(item.text))))):
+            faults.append(f"not sealed: a clause of {name} names the code's constant {constant}")
+        if "unread" in item.clauses:
+            faults.append(f"cannot be read: {name} has a clause of another form")
         if item.kind == "fn" and "ensures" not in item.clauses and function not in PROMISE_NOTHING:
             faults.append(f"promises nothing: {name} has no `ensures`")
         if "ensures" in item.clauses and function in PROMISE_NOTHING:
@@ -84,13 +108,26 @@ def theorem_lines(root):
     return [line for line in lines if line and not line.startswith("#")]
 
 
+MARKS = r"(?:(?:pattern|axiom|unfoldable|abbrev|pub) )*"
+
+
 @functools.lru_cache(maxsize=None)
 def signatures(text):
     """Each name that a file declares at its top level, with its type as one line."""
     code = sources.said(text)
-    found = re.findall(rf"^(?:abbrev |unfoldable )*(?:pub )?({sources.NAME}) : (.*(?:\n .*)*)", code, re.M)
+    found = re.findall(rf"^{MARKS}({sources.NAME}) (?:\{{[^}}]*\}} )?: (.*(?:\n .*)*)", code, re.M)
     kinds = re.findall(rf"^(?:pub )?(?:data|record) ({sources.NAME})", code, re.M)
     return {**{name: " ".join(of.split()) for name, of in found}, **{name: "" for name in kinds}}
+
+
+@functools.lru_cache(maxsize=None)
+def named_in(text):
+    """All names that a file gives to something, wherever: in blocks, sections and `open` lines too."""
+    code = sources.bare(sources.said(text))
+    found = re.findall(rf"^ *{MARKS}((?:{sources.NAME} )+)(?:\{{[^}}]*\}} )?: ", code, re.M)
+    found += re.findall(rf"^ *{MARKS}(?:data|record) ({sources.NAME})", code, re.M)
+    found += [" ".join(item.split()[-1] for item in re.split(r"[,{{}}]", items) if item.strip()) for items in re.findall(r"^ *(?:pub )?open [^\n]*? use \{(.*)\}", code, re.M)]
+    return {name for group in found for name in group.split()}
 
 
 def bound(of):
@@ -108,13 +145,17 @@ def sealed_names(root):
 def name_faults(root, text, of, sealed):
     """What is wrong with where a file takes the names of a type from; nothing for the toolchain's names."""
     brought, own, names = sources.imports(text), signatures(text), set().union(*sealed.values())
-    for name in sorted(sources.used(of, own)):
+    for name in sorted(sources.used(of, own) | sources.used(of, named_in(text)) - bound(of)):
         yield f"`{name}` is defined in the same file"
+    for library in sorted(sources.covered(text)):
+        yield f"the library `{library}` is something else"
+    if any(origin.endswith(".*") for origin in brought.values()):
+        yield "names come by a glob"
     for name in sorted(sources.used(of, names) - bound(of) - {*brought, *own}):
         yield f"`{name}` is not imported"
     for name in sorted(sources.used(of, brought)):
         origin = brought[name]
-        if sources.of_crates(origin) and sources.file_of(root, origin) not in sealed:
+        if sources.of_crates(origin) and sources.file_of_brought(root, text, name) not in sealed:
             yield f"`{name}` comes from {origin}, which is not sealed"
         if not origin.endswith(f".{name}"):
             yield f"`{name}` is {origin} under another name"
@@ -130,7 +171,7 @@ def theorem_fault(root, sealed, file, name, of):
         return f"no theorem: {file} does not declare `pub {name} : {of}`"
     if "{-" in sources.uncommented(text):
         return f"no theorem: {file} has a comment other than by lines"
-    if re.search(rf"{sources.NAME}\.{sources.NAME}", of):
+    if set(re.findall(rf"({sources.NAME})\.{sources.NAME}", of)) - bound(of):  # `a.number` of a bound `a` is a field
         return f"no theorem: the type of {name} in {file} names something by a path"
     return next((f"no theorem: in the type of {name} in {file}, {fault}" for fault in name_faults(root, text, of, sealed)), None)
 
@@ -138,7 +179,7 @@ def theorem_fault(root, sealed, file, name, of):
 def statements(root):
     """The statements of the files to be believed: closed abbreviations and records that say an equation for all of something."""
     texts = [sources.said(sources.read(root, file)) for file in sources.believed(root) if (root / file).is_file()]
-    closed = re.compile(rf"^(?:abbrev pub ({sources.NAME}) : Type 0\n\1 =|pub record ({sources.NAME}) : Type 0 where)(.*(?:\n .*)*)", re.M)
+    closed = re.compile(rf"^(?:(?:unfoldable |abbrev )+pub ({sources.NAME}) : Type 0\n(?:unfolding .*\n)?\1 =|pub record ({sources.NAME}) : Type 0 where)(.*(?:\n .*)*)", re.M)
     return [one or other for text in texts for one, other, meaning in closed.findall(text) if "→" in meaning and "≡" in meaning]
 
 
@@ -150,7 +191,7 @@ def theorems(root):
 def sealed_theorems(root):
     """Each theorem's type, with where its names come from."""
     there = [line for line in theorems(root) if len(line) == 3 and (root / line[0]).is_file()]
-    return {f"theorem {file} {name}": "\n".join([of, *origins(root, sources.read(root, file), of)]) for file, name, of in there}
+    return {f"theorem {file} {name}": "\n".join([of, *origins(root, sources.read(root, file), of, {})]) for file, name, of in there}
 
 
 def theorem_faults(root):
@@ -190,7 +231,8 @@ def faults(root):
     """Everything that the gate holds against a tree."""
     found = [] if sources.believed(root) else ["docs/TRUST.md has no table"]
     found += [f"no file: {name}" for name in sources.believed(root) if not (root / name).is_file()]
-    found += [f"no example: {name}" for name in sources.EXAMPLES if not any(file.endswith(f"/{name}") for file in sources.examples(root))]
+    there = sources.examples(root)
+    found += [f"no example: {name}" for name in sources.EXAMPLES if not any(file.endswith(f"/{name}") for file in there)]
     return found + moved(stored(root), seals(root), ("seal differs", "no seal", "sealed and not there")) + contract_faults(root) + theorem_faults(root)
 
 

@@ -12,14 +12,19 @@ ROW = re.compile(r"^\| \d+ \| (crates/\S+) \| (\d+) \|", re.M)
 # an antt name is any run of other characters than these
 NAME = r"[^\s(){}.;,@\"«»]+"
 ATOM = re.compile(NAME)
-USE = re.compile(rf"^[ \t]*(?:(?:pub|unfoldable|ghost)\s+)*use\s+({NAME}(?:\.{NAME})*)(?:\.\{{([^}}]*)\}}|\s+as\s+({NAME}))?", re.M)
-CODE_USE = re.compile(r"^[ \t]*(pub )?use ([\w:]+?)(?:::\{([^}]*)\}| as (\w+))?;", re.M)
-CRATE_PATH = re.compile(r"Rattle·(\w+)(?:·specs\.specs|\.specs)\.(\S+)")
+USE = re.compile(rf"(?:^|[;{{}}])[ \t]*(?:(?:pub|unfoldable|ghost)\s+)*use\s+({NAME}(?:\.{NAME})*)(?:\.\{{([^}}]*)\}}|\s+as\s+({NAME}))?", re.M)
+CODE_USE = re.compile(r"^[ \t]*(pub(?:\([^)]*\))? )?use ([^;]*);", re.M)
+CRATE_PATH = re.compile(r"(?:package\.)?Rattle\.(\w+)\.specs\.(\S+)")
+# the libraries of the toolchain: whatever else a path begins with may lead into a crate
+TOOLCHAIN = re.compile(r"(?:mathlib|Prim|native|lib|Rattle\.std)(?![^.])")
+LIBRARIES = {"mathlib", "Prim", "native", "lib", "Rattle"}
+CHILD = re.compile(r"^[ \t]*(?:pub )?mod (\S+)", re.M)
 
-HEAD = re.compile(r"^[ \t]*(?:#\[[^\]\n]*\]\s*)*(pub )?(?:extern \"C\" )?(fn|struct|enum|const|type) (\w+)", re.M)
+HEAD = re.compile(r"^[ \t]*(?:#\[[^\]\n]*\]\s*)*(pub )?(?:(?:const|unsafe|final|extern \"C\") )*(fn|struct|enum|const|static|type|trait) (\w+)", re.M)
 OWNER = re.compile(r"^impl(?:<[^>]*>)? (\w+)", re.M)
-CLAUSES = ("ghost", "requires", "ensures")
-NO_CODE = re.compile(rf"^[ \t]*(?P<comment>//.*)$|\b(?:{'|'.join(CLAUSES)})\s*\{{", re.M)
+# where a text of antt's begins: a clause, which may have a name, or a ghost field
+CLAUSE = r"\b(?:(?P<kind>requires|ensures)\*?(?:\s+\w+)?|ghost(?:\s+\w+\s*(?::(?:\s*\w+)?|=))?)\s*\{"
+NO_CODE = re.compile(rf"^[ \t]*(?P<comment>//.*)$|{CLAUSE}", re.M)
 
 
 def read(root, name):
@@ -67,11 +72,29 @@ def bring(found, name, origin):
     found[name] = origin if found.get(name, origin) == origin else f"({found[name]}, {origin})"
 
 
+def bare(text):
+    """A text without the marks of escaped names."""
+    return re.sub("[«»]", "", text)
+
+
+@functools.lru_cache(maxsize=None)
+def use_lines(text):
+    """What the `use` lines of a file bring, of code those that begin with `ghost`: the path, the items, another name for the module."""
+    text = bare(uncommented(text))
+    ghost = re.findall(r"\bghost\s+use\b[^;]*", text)
+    return [line for line in USE.findall("\n".join(ghost) or text) if "::" not in line[0]]
+
+
+def modules(text):
+    """The names that a file's `use` lines bring for modules."""
+    return {alias or path.rsplit(".", 1)[-1] for path, items, alias in use_lines(text) if not items}
+
+
 @functools.lru_cache(maxsize=None)
 def imports(text):
     """Each name that the `use` lines of a file bring, with where it comes from."""
     found = {}
-    for path, items, alias in USE.findall(uncommented(text)):
+    for path, items, alias in use_lines(text):
         for item in items.split(","):
             words = item.split()
             if words:
@@ -90,39 +113,59 @@ def atoms(text):
 def used(text, brought):
     """The names of `brought` that a text uses; an operator by one of its parts."""
     there = atoms(text)
-    return {name for name in brought if name in there or any(part in there for part in name.split("_") if part and "_" in name)}
+    return {name for name in brought if name in there or any(part in there for part in name.split("◌") if part and "◌" in name)}
+
+
+def place_of(root, path, least):
+    """The file of definitions that a path goes into, the longest beginning that is one, and the parts that follow, `least` of them or more. The module of a crate's
+    definitions as a whole is specs/Lib.antt. Nothing for a path that is not a crate's."""
+    found = CRATE_PATH.match(path)
+    parts = found[2].split(".") if found else []
+    names = [("/".join(parts[:n]), parts[n:]) for n in range(len(parts) - least, 0, -1)] + ([("Lib", parts)] if least else [])
+    files = [(f"crates/{found[1]}/specs/{name}.antt", rest) for name, rest in names] if found else []
+    return next(((file, rest) for file, rest in files if (root / file).is_file()), (None, parts))
 
 
 def file_of(root, path):
-    """The file of definitions that a path goes into: the longest beginning that is one; none for a path that is not a crate's."""
-    found = CRATE_PATH.match(path)
-    if not found:
-        return None
-    parts = found[2].split(".")
-    names = ["/".join(parts[:n]) for n in range(len(parts), 0, -1)]
-    files = [f"crates/{found[1]}/specs/{name}.antt" for name in names]
-    return next((name for name in files if (root / name).is_file()), None)
+    """The file of definitions that a path to a module goes into; none for a path that is not a crate's."""
+    return place_of(root, path, 0)[0]
+
+
+def file_of_name(root, path):
+    """The file of definitions that has the name at the end of a path. A module of that spelling, which may stand beside it, is another thing."""
+    return place_of(root, path, 1)[0]
+
+
+def covered(text):
+    """The libraries whose names a file of definitions or proofs, or the clauses of a file of code, use for something else."""
+    return LIBRARIES & {*imports(text), *CHILD.findall(bare(uncommented(text)))}
+
+
+def file_of_brought(root, text, name):
+    """The file of definitions that a name which a text's `use` lines bring comes from."""
+    path = imports(text)[name]
+    return file_of(root, path) if name in modules(text) else file_of_name(root, path)
 
 
 def resolved(root, path):
-    """Where a name is defined that a path names: files that pass it on are followed."""
-    file = file_of(root, path)
+    """Where a name is defined that a path names: files that pass it on are followed, or pass on a module on its way."""
+    file, rest = place_of(root, path, 1)
     if file is None:
         return path
-    name = path.rsplit(".", 1)[-1]
     passing = "\n".join(re.findall(r"^[ \t]*(?:unfoldable )?pub use .*(?:\n[ \t].*)*", uncommented(read(root, file)), re.M))
-    further = imports(passing).get(name)
-    return resolved(root, further) if further else path
+    further = imports(passing).get(rest[0])
+    return resolved(root, ".".join([further, *rest[1:]])) if further else path
 
 
 def of_crates(path):
-    return "Rattle·" in path
+    """Whether a path leads into a crate, and not into one of the toolchain's libraries."""
+    return not TOOLCHAIN.match(path.removeprefix("package."))
 
 
-def declared(path):
+def declared(root, path):
     """Whether a path goes to what the code of a crate declares: its structs and enums."""
     found = CRATE_PATH.match(path)
-    return found is not None and found[2].split(".")[0] == "declared"
+    return found is not None and found[2].split(".")[0] == "declared" and not list(root.glob(f"crates/{found[1]}/specs/declared*"))
 
 
 # ---- Rattle
@@ -161,13 +204,14 @@ def masked(text):
 
 def function_at(code, start, at):
     """The text of a function from its head to its body, and the kinds of its clauses."""
-    clauses = []
+    clauses, head = [], re.compile(CLAUSE)
     while True:
         brace = code.find("{", at)
-        word = re.search(r"(\w*)\s*$", code[at:brace])[1]
-        if brace < 0 or word not in CLAUSES:
-            return code[start:brace], tuple(clauses)
-        clauses.append(word)
+        clause = head.search(code, at)
+        if brace < 0 or not clause or clause.end() - 1 != brace:
+            unread = re.search(r"\b(?:requires|ensures|ghost)\b", code[at:brace])
+            return code[start:brace], (*clauses, *(["unread"] if unread else []))
+        clauses.append(clause["kind"] or "ghost")
         at = closing(code, brace)
 
 
@@ -177,6 +221,11 @@ def whole_at(code, start, at):
     if end[0] == "{":
         return code[start : closing(code, end.start())]
     return code[start : re.compile(r";\s*$", re.M).search(code, at).start()]
+
+
+def clause_texts(text):
+    """What stands between the braces of a declaration's clauses."""
+    return [text[clause.end() : closing(text, clause.end() - 1) - 1] for clause in re.finditer(CLAUSE, text)]
 
 
 @functools.lru_cache(maxsize=None)
@@ -194,20 +243,36 @@ def items(text):
     return found
 
 
+def leaves(path):
+    """The paths of a `use` line, each with the name that it brings."""
+    head, group, rest = path.partition("{")
+    if not group:
+        whole, _, alias = path.strip().partition(" as ")
+        whole = whole.strip().removesuffix("::self")
+        return [(whole, alias.strip() or whole.rsplit("::", 1)[-1])]
+    depth, parts = 0, [""]
+    for letter in rest[: rest.rindex("}")]:
+        depth += {"{": 1, "}": -1}.get(letter, 0)
+        parts = [*parts, ""] if letter == "," and depth == 0 else [*parts[:-1], parts[-1] + letter]
+    return [leaf for part in parts if part.strip() for leaf in leaves(head.strip() + part.strip())]
+
+
 @functools.lru_cache(maxsize=None)
 def code_imports(text):
     """Each name that the code's `use` lines bring, with its path and whether it is passed on."""
-    found = {}
-    for public, path, group, alias in CODE_USE.findall(masked(text)):
-        for name in [n.strip() for n in group.split(",")] if group else [""]:
-            whole = f"{path}::{name}" if name else path
-            found[alias or whole.rsplit("::", 1)[-1]] = (whole, bool(public))
-    return found
+    lines = [(public == "pub ", path) for public, path in CODE_USE.findall(masked(text))]
+    return {name: (whole, public) for public, path in lines for whole, name in leaves(path)}
 
 
 def sources(root, crate):
     """The files of code of a crate."""
     return sorted(path.relative_to(root).as_posix() for path in root.glob(f"crates/{crate}/src/**/*.rt"))
+
+
+def constants(root):
+    """The names of all constants of code."""
+    files = sorted(root.glob("crates/*/src/**/*.rt"))
+    return {item.name.rsplit("::", 1)[-1] for file in files for item in items(file.read_text(encoding="utf-8")) if item.kind in ("const", "static")}
 
 
 # ---- what is exported
@@ -231,10 +296,23 @@ def passed_on(root, crate):
     return sorted((path[0], path[-1]) for path in paths)
 
 
+def renamed(root, crate):
+    """What a crate's `pub use` lines pass on under another name."""
+    brought = [pair for file in sources(root, crate) for pair in code_imports(read(root, file)).items()]
+    return sorted(f"{path} as {name}" for name, (path, public) in brought if public and path.split("::")[-1] != name)
+
+
+def exports(root):
+    """The exported crates, and what they pass on: pairs of a crate and a name, each with the declarations found there, and what that crate passes on of it."""
+    todo, found = [(crate, None) for crate in EXPORTED], []
+    for crate, name in todo:
+        items_of = public_items(root, crate, lambda n, name=name: name is None or n == name or n.startswith(name + "::"))
+        further = [pair for pair in passed_on(root, crate) if name is None or pair[1] == name]
+        found.append((crate, name, items_of, further))
+        todo += [pair for pair in further if pair not in todo]
+    return found
+
+
 def exported(root):
     """The declarations of the exported crates, and of what they pass on with its methods."""
-    found, todo = {}, [(crate, None) for crate in EXPORTED]
-    for crate, name in todo:
-        found.update(public_items(root, crate, lambda n, name=name: name is None or n == name or n.startswith(name + "::")))
-        todo += [pair for pair in passed_on(root, crate) if (name is None or pair[1] == name) and pair not in todo]
-    return found
+    return {name: places for _, _, items_of, _ in exports(root) for name, places in items_of.items()}

@@ -1,4 +1,5 @@
 """Tests of tools/zone_page.py: a number, a rule, a call, a refusal, a code, a byte or an answer that the page has otherwise is noticed, whichever side changed."""
+import re
 import unittest
 
 import definitions
@@ -26,14 +27,18 @@ class ZonePage(Trial):
     def test_numbers(self):
         self.page(r"^\| 12 \| 2 \| hFstFree", "| 10 | 2 | hFstFree", ["hFstFree", "10", "12"])
         self.page(r"\| 32,756 \|$", "| 32,760 |", ["blocks, page"])
-        self.page(r"\| 8,188 \|", "| 8,180 |", ["mostMasters", "8180", "8188"])
-        self.defined(definitions.LIMITS, r"^fixedHeader = 4", "fixedHeader = 2", ["blocks, fixed"])
-        self.defined(definitions.LIMITS, r"^addedMasters = 8", "addedMasters = 4", ["addedBytes", "32", "16"])
+        self.page(r"\| 8,188 \|", "| 8,180 |", ["most_masters", "8180", "8188"])
+        self.defined(definitions.LIMITS, r"^fixed_header = 4", "fixed_header = 2", ["blocks, fixed"])
+        self.defined(definitions.LIMITS, r"^added_masters = 8", "added_masters = 4", ["added_bytes", "32", "16"])
 
     def test_rules(self):
-        self.page(r"^\| the second word of a fixed block is 0 .*\n", "", ["rules", "secondOk"])
-        self.defined(definitions.RULES, r"^    && every secondOk bs\n", "", ["rules", "secondOk"])
-        self.defined(definitions.RULES, r"&& every tileOk bs", "&& every tileOk bs\n    && every isFixed bs", ["rules", "isFixed"])
+        self.page(r"^\| the second word of a fixed block is 0 .*\n", "", ["rules", "second_ok"])
+        self.defined(definitions.RULES, r"^    && every second_ok bs\n", "", ["rules", "second_ok"])
+        self.defined(definitions.RULES, r"&& every tile_ok bs", "&& every tile_ok bs\n    && every is_fixed bs", ["rules", "is_fixed"])
+        for signature in ("unfoldable pub more_ok :\n    List ℕ → Bool", "pub more_ok : List ℕ → Bool", "unfoldable abbrev pub more_ok' : List ℕ\n  → Bool"):
+            name = re.search(r"more_ok'?", signature)[0]
+            self.change(definitions.RULES, r"\Z", f"\n{signature}\n{name} b = true\n")
+            self.defined(definitions.RULES, r"&& every tile_ok bs", f"&& every tile_ok bs\n    && every {name} bs", ["rules", name])
 
     def test_calls(self):
         self.page(r"^### `compact\(\)`$", "### `pack()`", ["calls", "pack"])
@@ -45,9 +50,9 @@ class ZonePage(Trial):
         self.page(r"^- Refused: 1, 3, 4, 5\.$", "- Refused: 1, 3, 5.", ["allocate_relocatable's refusals"])
         self.page(r"^- Refused: 1, 6, 3, 5\.$", "- Refused: 1, 3, 5, 6.", ["resize's refusals"])
         self.page(r"^- Refused: 1, 10\.$", "- Refused: 1 and 10.", ["roster's refusals"])
-        self.defined(TABLE, r"^causes compact f = notWellFormed f ∷ \[\]", "causes compact f = []", ["compact's refusals"])
-        self.defined(TABLE, r"^causes \(size t\) f = notWellFormed f ∷ noBlock t f", "causes (size t) f = notWellFormed f ∷ noBlock (by-handle t) f", ["size's refusals"])
-        self.defined(TABLE, r"^pageCauses n drop-page f = noBlock", "pageCauses n drop-page f = present", ["drop_page's refusals"])
+        self.defined(TABLE, r"^causes compact f = not_well_formed f ∷ \[\]", "causes compact f = []", ["compact's refusals"])
+        self.defined(TABLE, r"^causes \(size t\) f = not_well_formed f ∷ no_block t f", "causes (size t) f = not_well_formed f ∷ no_block (by_handle t) f", ["size's refusals"])
+        self.defined(TABLE, r"^page_causes n drop_page f = no_block", "page_causes n drop_page f = present", ["drop_page's refusals"])
 
     def test_order(self):
         self.page(r"^(\| 4 \| .*\n)(\| 5 \| .*\n)", "| 5 | `X` | x |\n| 4 | `Y` | y |\n", ["the order of refusals"])
@@ -64,8 +69,8 @@ class ZonePage(Trial):
         self.page(r"00000000  → 6 0$", "00000000  → 7 0", ["lines of the example"])
         self.page(r"^03000000 00000014", "03000000 00000010", ["records of the example"])
         self.defined(definitions.RECORDS, r"∷ call compact\n", "∷ call (shrink a)\n", ["zone-run's codes"])
-        self.defined(definitions.RECORDS, r"^dAt = 12", "dAt = 14", ["a record"])
-        self.defined(definitions.BOOK, r"^bufferLength = 65536", "bufferLength = 65540", ["65,540"])
+        self.defined(definitions.RECORDS, r"^d_at = 12", "d_at = 14", ["a record"])
+        self.defined(definitions.BOOK, r"^buffer_length = 65536", "buffer_length = 65540", ["65,540"])
 
     def test_bytes(self):
         words = ["bytes on the page"]

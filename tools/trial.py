@@ -64,4 +64,4 @@ class Trial(unittest.TestCase):
     def commented(self, name):
         """A file with more comments and blank lines."""
         mark = "--" if name.endswith(".antt") else "//"
-        self.put(name, f'{mark} a comment, on "Rattle·zone.proofs.Run"\n\n' + sources.read(self.root, name).replace("\n\n", f"\n\n{mark} another\n\n"))
+        self.put(name, f'{mark} a comment, on "Rattle.zone.proofs.Run"\n\n' + sources.read(self.root, name).replace("\n\n", f"\n\n{mark} another\n\n"))

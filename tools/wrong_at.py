@@ -11,33 +11,43 @@ import concurrent.futures
 import os
 import pathlib
 import re
+import signal
 import subprocess
 import sys
 import tempfile
 
 import edits
+import proved
 import sources
 
 ROOT = pathlib.Path(__file__).resolve().parent.parent
 SAID = re.compile(r"(.*): (?:byte (\d+) is (\d+), not (\d+)|(.*), not (.*))")
 
 
+def derived(line):
+    """What Rust derives, too, beside what plain data is given here."""
+    left = [name for name in re.findall(r"\w+", line[1]) if name not in ("Drop", "Clone", "Copy")]
+    return f"#[derive({', '.join(left)})]\n" if left else ""
+
+
 def rust(text):
-    """Rattle's code as Rust: no contract, no private function, plain data is Copy, and a sum that wraps by Rust's name."""
+    """Rattle's code as Rust: no contract, nothing for the prover, no private function, plain data is Copy, and a sum that wraps by Rust's name."""
     code = re.sub(r"^[ \t]*ghost use [^;]*;\n", "", sources.masked(text), flags=re.M)
     code = re.sub(r"\bstd::num::wrapping_(add|sub)_(u\w+)\(", r"\2::wrapping_\1(", code)
+    code = re.sub(r"^[ \t]*#!?\[(?:tactic|cycle)\b[^\n]*\]\n", "", code, flags=re.M)
+    code = re.sub(r"^[ \t]*#\[derive\(([^)]*)\)\]\n", derived, code, flags=re.M)
     parts, at = [], 0
-    for clause in iter(lambda: re.compile(rf"\b(?:{'|'.join(sources.CLAUSES)})\s*\{{").search(code, at), None):
+    for clause in iter(lambda: re.compile(sources.CLAUSE).search(code, at), None):
         parts.append(code[at : clause.start()])
         at = sources.closing(code, clause.end() - 1)
+        at += not clause["kind"] and code.startswith(",", at)  # a ghost field's
     code = re.sub(r"^(\s*)fn ", r"\1pub fn ", "".join(parts) + code[at:], flags=re.M)
-    return re.sub(r"^(pub (?:struct|enum))", r"#[derive(Clone, Copy)]\n\1", code, flags=re.M)
+    return re.sub(r"^((?:pub )?(?:struct|enum) )", r"#[derive(Clone, Copy)]\n\1", code, flags=re.M)
 
 
 def libraries():
     """The crates that are libraries, lowest first, each with those that it stands on."""
-    rows = re.findall(r"^(\w+):(.*)$", (ROOT / "crates.txt").read_text(encoding="utf-8"), re.M)
-    return [(name, uses.split()) for name, uses in rows if (ROOT / "crates" / name / "src" / "lib.rt").is_file()]
+    return [(name, uses) for name, (_, uses) in proved.crates(ROOT).items() if not proved.is_program(ROOT, name)]
 
 
 def module(crate, file, uses, changed):
@@ -65,11 +75,12 @@ def built(folder, name, changed):
 def last_step(binary, calls):
     """What the last call answers, and the bytes after it."""
     text = "case\n" + "\n".join(calls) + "\n"
-    try:
-        output = subprocess.run([binary], input=text, capture_output=True, text=True, timeout=10, check=True).stdout
-    except subprocess.TimeoutExpired:
+    # ten seconds of processor time, which others that run beside do not take away
+    done = subprocess.run(["sh", "-c", 'ulimit -t 10 && exec "$0"', binary], input=text, capture_output=True, text=True, check=False)
+    if done.returncode in (-signal.SIGXCPU, -signal.SIGKILL):
         return "does not end", b""
-    answer, _, digits = output.rstrip("\n").split("\n")[-1].partition(" | ")
+    done.check_returncode()
+    answer, _, digits = done.stdout.rstrip("\n").split("\n")[-1].partition(" | ")
     return answer, bytes.fromhex(digits.replace("-", ""))
 
 

@@ -18,9 +18,9 @@ ROOT = pathlib.Path(__file__).resolve().parent.parent
 PAGE = "docs/ZONE.md"
 EXAMPLE = "examples/bytes.zone"
 
-FIELDS = {"L": "lengthAt", "bkFst": "firstAt", "m": "mastersAt", "hFstFree": "chainAt", "clock": "clockAt", "zero": "zeroAt"}
-BLOCKS = {"free": ("freeCode", "freeHeader", None), "fixed": ("fixedCode", "fixedHeader", "fixedLimit"),
-          "relocatable": ("relocCode", "relocHeader", "relocLimit"), "page": ("pageCode", "pageHeader", "pageLimit")}
+FIELDS = {"L": "length_at", "bkFst": "first_at", "m": "masters_at", "hFstFree": "chain_at", "clock": "clock_at", "zero": "zero_at"}
+BLOCKS = {"free": ("free_code", "free_header", None), "fixed": ("fixed_code", "fixed_header", "fixed_limit"),
+          "relocatable": ("reloc_code", "reloc_header", "reloc_limit"), "page": ("page_code", "page_header", "page_limit")}
 DUMPED = "([examples/bytes.zone](../examples/bytes.zone)):\n\n```\n"
 TAKEN_APART = "| at | bytes | what they say |\n|---:|---|---|\n"
 
@@ -108,7 +108,7 @@ def refusal_faults(root, page, said):
 def record_faults(root, page):
     places = definitions.record_places(root)
     fields = {row[2]: (int(row[0]), int(row[1])) for row in table(page, "at | bytes | field")}
-    a, b, d, end = (places[name] for name in ("aAt", "bAt", "dAt", "recordLength"))
+    a, b, d, end = (places[name] for name in ("a_at", "b_at", "d_at", "record_length"))
     yield from differ("a record", fields, {"code": (0, 1), "zero": (1, a - 1), "a": (a, b - a), "b": (b, d - b), "d": (d, end - d)})
     codes = [(row[0], *re.match(r"`(\w+)\(([^)]*)\)`", row[1]).groups()) for row in table(page, "code | call")]
     yield from differ("zone-run's codes", codes, [(str(code), name, ", ".join(numbers)) for code, (name, numbers) in enumerate(definitions.actions(root))])

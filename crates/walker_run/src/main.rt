@@ -2,7 +2,7 @@
 // `Walker::advance`, so this program is its test.
 #![tactic(auto)]
 
-ghost use Rattle.std.specs.Prelude.{◌≡◌, ◌≤◌, length, IfOk, OnOk};
+ghost use Rattle.std.specs.Prelude.{◌≡◌, ◌≤◌, length, OnOk};
 ghost use Rattle.std.specs.Io.KnownBytes.{Appends};
 ghost use Rattle.zone.specs.Walker.{walked, walk_step};
 ghost use Rattle.walker_run.specs.Lines.{line, walk_lines};
@@ -55,23 +55,25 @@ fn walk<W: Write>(zone: &[u8], out: &mut W) -> io::Result<()>
     Ok(())
 }
 
-// Reads until the zone is full or the input ends. Answers how many bytes it put at its start.
-fn read_zone(reader: &mut impl Read, zone: &mut [u8]) -> io::Result<usize>
-    ensures { IfOk result (λ n. n ≤ length zone.new) }
+// Reads until the zone is full, the input ends or a read fails. Answers how many bytes it put at its start.
+fn read_zone(reader: &mut impl Read, zone: &mut [u8]) -> (usize, io::Result<()>)
+    ensures { result.0 ≤ length zone.new }
 {
     let mut got = 0;
     while got < zone.len() {
-        let n = reader.read(&mut zone[got..])?;
-        if n == 0 {
-            break;
+        match reader.read(&mut zone[got..]) {
+            Ok(0) => return (got, Ok(())),
+            Ok(n) => got += n,
+            Err(e) => return (got, Err(e)),
         }
-        got += n;
     }
-    Ok(got)
+    (got, Ok(()))
 }
 
+// What was read before a read failed is walked, too.
 fn main(rt: HostRuntime) -> io::Result<()> {
     let mut zone = [0; LONGEST];
-    let got = read_zone(&mut rt.stdin(), &mut zone)?;
-    walk(&zone[..got], &mut rt.stdout())
+    let (got, read) = read_zone(&mut rt.stdin(), &mut zone);
+    walk(&zone[..got], &mut rt.stdout())?;
+    read
 }

@@ -72,7 +72,7 @@ longest_input = (most_chunks + 1) * chunk_size - 1
 abbrev pub ledger_lines : List ℕ → List ℕ
 ledger_lines input = book_lines (records_of input) none
 
--- whatever became of the run: this was read, and the writer got the ledger's lines of it
+-- whatever became of the run: this was read, and the writer got the ledger's lines of it, or, of a run that failed, the first of their bytes
 pub record Faithful (before after had has : Option (List ℕ)) (done : Bool) : Type 0 where
   pub input : List ℕ
   pub taken : Consumes before after input

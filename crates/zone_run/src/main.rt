@@ -2,6 +2,7 @@
 #![tactic(auto)]
 
 ghost use Rattle.std.specs.Prelude.{◌≡◌, ◌+◌, ◌*◌, ◌<◌, ◌≤◌, length, take, is_ok, OnOk, OnErr, IfSome};
+ghost use Rattle.std.specs.Counts.{IsPrefixLen};
 ghost use Rattle.std.specs.Io.KnownBytes.{Consumes, Appends, IsAtEnd};
 ghost use Rattle.zone_run.specs.Loop.{fresh_buffer, chunk_size, longest_input, Seen, Continues, Turned, goes_on, Ended, Wrote, Served, ledger_lines, Faithful};
 
@@ -52,7 +53,7 @@ fn lines_buffer() -> [u8; LINES]
 // Reads what comes next until the chunk is full, the input ends or a read fails. Answers how many bytes it put at the start of the chunk.
 fn read_chunk<R: Read>(reader: &mut R, chunk: &mut [u8]) -> (usize, io::Result<()>)
     requires { length chunk.old ≡ chunk_size }
-    ensures counts { result.0 ≤ length chunk.new }
+    ensures counts { IsPrefixLen result.0 chunk.new }
     ensures taken { Consumes (R.remaining reader.old) (R.remaining reader.new) (take result.0 chunk.new) }
     ensures end { OnOk result.1 (result.0 < chunk_size → IsAtEnd (R.remaining reader.new)) }
     ensures cut { OnErr result.1 (result.0 < chunk_size) }
