@@ -1,5 +1,5 @@
 -- Document 01, 'Bytes of a zone', with document 02's U5 and U6: the fields, the blocks, and what a well-formed zone is, rule by rule, as a test that computes.
--- A block is the list of its own bytes; `splitBlocks` cuts them out. Type, size, handle, name and status read a block's first bytes
+-- A block is the list of its own bytes; `split_blocks` cuts them out. Type, size, handle, name and status read a block's first bytes
 -- alone, so they can be asked of the bytes from a block on, too.
 use Rattle.std.specs.Prelude.{ℕ, zero, suc, ◌+◌, ◌*◌, ◌-◌, ◌/◌, ◌%◌, List, [], ◌∷◌, Bool, true, false, cond, not, ◌&&◌, ◌||◌, length, get_or, take, drop, eqb, leb, ltb}
 use Rattle.std.proofs.Math.Option.{Option, none, some}

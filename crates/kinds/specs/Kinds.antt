@@ -70,7 +70,7 @@ key_master (of_name n s) = 0
 abbrev pub master_of : Item → ℕ
 master_of e = key_master e.key
 
--- the same as a list, which is empty for a page: handles are counted and listed by it. (`masterOf` is for what writes a master, or passes a 0 over)
+-- the same as a list, which is empty for a page: handles are counted and listed by it. (`master_of` is for what writes a master, or passes a 0 over)
 abbrev pub key_masters : Key → List ℕ
 key_masters (of_handle h) = h ∷ []
 key_masters (of_name n s) = []

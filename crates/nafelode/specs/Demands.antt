@@ -1,6 +1,6 @@
 -- THE CUSTOMER'S THREE DEMANDS, each as one statement about what the exported functions promise in their contracts (crates/nafelode/src):
--- a function of a ledger's call promises `Promise`, initialize `InitPromise`, census and a walker's step equations to `census` and `walkStep`, a
--- view its place beside. There the numbers that a function returns are read as an answer by `told`, `toldTwo`, `shows` and `toldWith`.
+-- a function of a ledger's call promises `Promise`, initialize `InitPromise`, census and a walker's step equations to `census` and `walk_step`, a
+-- view its place beside. There the numbers that a function returns are read as an answer by `told`, `told_two`, `shows` and `told_with`.
 -- That each function returns, whatever it is given, and stays inside what it is lent, is proved with its contract, which requires nothing.
 use Rattle.std.specs.Prelude.{◌≡◌, true, false, cond, List, ◌++◌, ℕ, length, drop, replicate}
 use Rattle.bigendian.specs.BigEndian.{Bytes, slice}

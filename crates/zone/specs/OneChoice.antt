@@ -12,7 +12,7 @@ use Rattle.bay.specs.Bay.{Cell, bay_sum, items, put, release, reshape}
 use Rattle.bay.specs.Choice.{in_order}
 use Rattle.zone.specs.Work.{Zone, has, make_room, work}
 
--- the bays with the block e in its place (`placeLow`, spelt out here, so that it cannot mean anything else)
+-- the bays with the block e in its place (`place_low`, spelt out here, so that it cannot mean anything else)
 abbrev pub in_lowest : Item → Bays (List Cell) Fixed → Bays (List Cell) Fixed
 in_lowest e s = on_lowest (λ b. leb (item_size e) (bay_sum b)) (put e) s
 

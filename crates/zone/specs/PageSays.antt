@@ -136,7 +136,7 @@ pub record Made (n c : ℕ) (bs after : List ℕ) (v : ℕ) : Type 0 where
 
 -- "11: create of a present name, after 7. 12: the dropping would reach a dirty block, after 5; nothing is dropped, and its value, alone among refusals, is
 -- that block's name"; "Create gives 3 for c above 32,756, and 5 if dropping all unlocked blocks wouldn't do". (When 12 comes, and with
--- which value: `only-create` and `stopped` below)
+-- which value: `only_create` and `stopped` below)
 pub record CreateSays (n c : ℕ) (bs after : List ℕ) (a : Answer) : Type 0 where
   pub shape : a ≡ told a.number a.value
   pub eleven : (x : PageCard) → Meets x (pages_in bs) → x.name ≡ n → a.number ≡ 11

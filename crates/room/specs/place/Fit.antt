@@ -14,7 +14,7 @@ blank need h = item h (replicate (need - reloc_header) 0)
 abbrev pub blank_page : ℕ → ℕ → ℕ → Item
 blank_page need n stamp = page n (record { dirty = false; lock = false; stamp = stamp }) (replicate (need - page_header) 0)
 
--- the sizes that a movable block can have (a page has at least `pageHeader` bytes, which is asked beside this)
+-- the sizes that a movable block can have (a page has at least `page_header` bytes, which is asked beside this)
 pub record Size (need : ℕ) : Type 0 where
   pub low : reloc_header ≤ need
   pub high : need ≤ largest_block
