@@ -11,8 +11,8 @@ class Unknown(Exception):
 
 
 def functions(text):
-    """The text of each function of a disassembly."""
-    parts = re.split(r'^[0-9a-f]+ <(.*)>:$', text, flags=re.M)
+    """The text of each function of a disassembly, with the labels (`.L..`) that stand within it."""
+    parts = re.split(r'^[0-9a-f]+ <(?!\.L)(.*)>:$', text, flags=re.M)
     return dict(zip(parts[1::2], parts[2::2]))
 
 
@@ -39,11 +39,12 @@ def bound(kit, archive, names):
     """The most bytes that one of the functions takes, and which it is."""
     code = functions(kit.run('llvm-objdump', '-dr', '--no-show-raw-insn', archive))
     sizes = frames(kit, archive, code)
+    unknown = set(sizes) ^ set(code) | set(names) - set(sizes)
+    if unknown:
+        raise Unknown(f'{", ".join(sorted(unknown))}: no frame is known, or no code')
 
     def of(name, above=()):
         if name in above:
             raise Unknown(f'{name} calls itself')
-        if name not in sizes:
-            raise Unknown(f'{name}: no frame is known')
         return sizes[name] + max((of(callee, (*above, name)) for callee in callees(code[name]) & set(sizes)), default=0)
     return max((of(name), name) for name in names)

@@ -1,5 +1,6 @@
 /* Measures the stack that each function of nafelode.h uses: a random list of calls, each on a stack
- * that was painted before, of which the calls then have changed the upper part. Usage: stack; exit
+ * that was painted before, of which the calls then have changed the upper part. A call uses what lies
+ * below the stack pointer that it is made with, and x86-64's return address. Usage: stack; exit
  * status 0 if none used more than NAFELODE_STACK, every function was accepted at least once,
  * an allocation added masters, a create dropped pages, and a census went by lent limits. */
 #define _XOPEN_SOURCE 700
@@ -13,6 +14,23 @@ static uint8_t zone[LENGTH], second[4096], limits[NAFELODE_LIMITS_LENGTH], stack
 static uint32_t which, a, b, c, d, e, walker, number, counts[NAFELODE_STRATA];
 static uint32_t value, other, third; /* what a call answers beside its number */
 static ucontext_t here, there;
+
+/* The stack pointer that a call is made with. Paint does not show it: the caller's frame ends with
+ * places for arguments, which a call without any leaves as they are. */
+uintptr_t made_with(void);
+#if defined __x86_64__ /* what read, write and view are passed on the stack is pushed, and counts as theirs */
+#define MADE_WITH "lea 8(%rsp), %rax\n ret"
+#elif defined __aarch64__
+#define MADE_WITH "mov x0, sp\n ret"
+#elif defined __riscv
+#define MADE_WITH "mv a0, sp\n ret"
+#elif defined __arm__ && !defined __thumb__
+#define MADE_WITH "mov r0, sp\n bx lr"
+#else
+#error "the stack pointer of this processor is not read here"
+#endif
+__asm__(".text\n.globl made_with\n.type made_with, %function\nmade_with: " MADE_WITH);
+static uintptr_t pointer;
 
 static uint32_t random_below(uint32_t n) {
     static uint64_t state = 20260311;
@@ -62,11 +80,12 @@ static void call(void) {
         CASE(24, nafelode_set_lock(Z, e));
         CASE(25, nafelode_clear_lock(Z, e));
         CASE(26, nafelode_drop_page(Z, e));
-        default: number = 1; /* nothing: what the measuring itself uses */
+        default: pointer = made_with();
     }
 }
 
-static size_t used(void) {
+/* The lowest byte of the stack that a call has changed. */
+static size_t lowest(void) {
     size_t low = 0;
     memset(stack, 0xA5, STACK);
     getcontext(&there);
@@ -74,7 +93,7 @@ static size_t used(void) {
     makecontext(&there, call, 0);
     swapcontext(&here, &there);
     while (low < STACK && stack[low] == 0xA5) low++;
-    return STACK - low;
+    return low;
 }
 
 int main(void) {
@@ -85,7 +104,8 @@ int main(void) {
     unsigned accepted[CALLS] = {0}, grown = 0, dropped = 0, by_limits = 0;
     for (unsigned i = 0; i < NAFELODE_STRATA; i++) limits[4 * i + 3] = (uint8_t)(2 + 3 * i); /* in words */
     which = CALLS;
-    size_t own = used();
+    lowest();
+    size_t top = (size_t)(pointer - (uintptr_t)stack);
     for (unsigned i = 0; i < LIST; i++) {
         which = i % 1000 ? 1 + random_below(CALLS - 1) : 0;
         a = 16 + 4 * random_below(24), c = random_below(8) ? random_below(60) : random_below(33000);
@@ -98,11 +118,10 @@ int main(void) {
             if (k >= stop && b) break;
         }
         unsigned masters = zone[11], before = pages();
-        size_t n = used();
+        size_t low = lowest(), n = low < top ? top - low : 0;
         dropped += which == 20 && number == 0 && pages() <= before;
         grown += which == 1 && number == 0 && zone[11] > masters;
         by_limits += which == 17 && number == 0 && d % 2;
-        n = n > own ? n - own : 0;
         if (n > most[which]) most[which] = n;
         if (number == 0) accepted[which]++;
     }

@@ -110,6 +110,33 @@ def segments(said):
     return re.findall(r'^ +Segment \{\n +Name: (.*)$', said, re.M)
 
 
+class Said:
+    """A kit whose tools say what they are told to."""
+
+    def __init__(self, **said):
+        self.said = said
+
+    def run(self, tool, *_):
+        return self.said[tool.removeprefix('llvm-')]
+
+
+class Frames(unittest.TestCase):
+    CODE = ('0000000000000000 <outer>:\n       0:\taddi\tsp, sp, -0x10\n\n0000000000000002 <.Lpcrel_hi0>:\n       2:\tauipc\ta0, 0x0\n'
+            '\t\t0000000000000002:  R_RISCV_PCREL_HI20\t.Lswitch.table.outer\n       6:\tauipc\tra, 0x0\n\t\t0000000000000006:  R_RISCV_CALL_PLT\tinner\n'
+            '0000000000000000 <inner>:\n       0:\tret\n')
+
+    def bound(self, sizes):
+        return frames.bound(Said(objdump=self.CODE, readelf=sizes), 'archive', ['outer'])
+
+    def test_a_label_ends_no_function(self):
+        self.assertEqual(self.bound('           16     outer\n           32     inner\n'), (48, 'outer'))
+
+    def test_a_frame_that_is_not_noted(self):
+        for sizes in '           16     outer\n', '           32     inner\n', '':
+            with self.assertRaises(frames.Unknown):
+                self.bound(sizes)
+
+
 class Built(unittest.TestCase):
     @classmethod
     def setUpClass(cls):

@@ -1,7 +1,7 @@
 // Makes the calls of a .calls file (standard input) with nafelode.wasm and writes them with each answer and the zone's bytes (standard
 // output), as FORMAT.md says: what write.c does in C.
-// usage: node vectors/write.mjs FOLDER [--stack] < FILE.calls     FOLDER: with nafelode.wasm and nafelode.h, as ./c-library --target wasm32 makes it;
-//        --stack: the most bytes of stack that a call has used, to standard error
+// usage: node vectors/write.mjs FOLDER [--stack BYTES] < FILE.calls     FOLDER: with nafelode.wasm and nafelode.h, as ./c-library --target wasm32 makes it;
+//        --stack: the most bytes of stack that a call has used, to standard error; BYTES: those at memory's start that are stack
 import { readFileSync } from 'node:fs';
 
 const BUFFER = 2097152, GUARD = 64, GUARD_BYTE = 0xA5, RUN = 32, STRATA = 19;
@@ -13,14 +13,13 @@ const PLAIN = {
   set_lock: [1, 0], clear_lock: [1, 0], drop_page: [1, 0], size: [2, 1], length: [0, 1], sum: [0, 2],
 };
 
-const [folder, option] = process.argv.slice(2);
+const [folder, option, bytes] = process.argv.slice(2), depth = option === '--stack' ? Number(bytes) : 0;
 const library = new WebAssembly.Instance(new WebAssembly.Module(readFileSync(`${folder}/nafelode.wasm`))).exports;
 const version = readFileSync(`${folder}/nafelode.h`, 'ascii').match(/^#define NAFELODE_VERSION "(.*)"$/m)[1];
 
 // memory: values, zone and second buffer, each with bytes before and behind it that no call may change
 const rooms = { values: 4 * STRATA, zone: BUFFER, second: BUFFER }, start = {};
-const top = library.__heap_base.value; // the stack's end, from which on memory is free
-let end = top;
+let end = library.__heap_base.value; // behind the stack and the module's constants: from here on memory is free
 for (const room in rooms) {
   start[room] = end + GUARD;
   end = start[room] + rooms[room] + GUARD;
@@ -69,10 +68,11 @@ const tell = (what, before, room) => out.push(`${what} ${Buffer.compare(before, 
 function made(name, ...given) {
   memory.fill(GUARD_BYTE, start.values, start.values + rooms.values); // what a call does not write is seen
   for (const guard of guards()) memory.fill(GUARD_BYTE, guard, guard + GUARD);
-  memory.fill(GUARD_BYTE, 0, top);
+  memory.fill(GUARD_BYTE, 0, depth);
   const told = library[`nafelode_${name}`](start.zone, BigInt(lent.zone), ...given) >>> 0;
   for (const guard of guards()) if (memory.subarray(guard, guard + GUARD).some((byte) => byte !== GUARD_BYTE)) fail('a byte outside of what was lent has changed');
-  stack = Math.max(stack, top - memory.subarray(0, top).findIndex((byte, at) => byte !== GUARD_BYTE || at === top - 1));
+  const low = memory.subarray(0, depth).findIndex((byte) => byte !== GUARD_BYTE);
+  if (low >= 0) stack = Math.max(stack, depth - low);
   return told;
 }
 const value = (i) => start.values + 4 * i;
@@ -138,5 +138,5 @@ for (const line of readFileSync(0, 'ascii').split('\n').slice(0, -1)) {
   if (lineNumber > 1 && words.length) doLine();
 }
 if (lineNumber === 0) fail('nothing to read');
-if (option === '--stack') console.error(stack);
+if (depth) console.error(stack);
 process.stdout.write(out.join('\n') + '\n');

@@ -20,7 +20,7 @@ pub enum Target {
 }
 
 // Where a block's data begin, 0 for no block, and how many bytes they are.
-#[derive(Drop)]
+#[derive(Clone, Copy)]
 pub struct Span {
     pub at: usize,
     pub size: usize,
@@ -114,7 +114,7 @@ fn absent_number(block: Target) -> u32
 }
 
 // A refusal number, 0 for none, and then a block's data.
-#[derive(Drop)]
+#[derive(Clone, Copy)]
 pub struct Found {
     pub number: u32,
     pub at: usize,

@@ -25,7 +25,7 @@ fn place(z: &mut [u8], need: usize, a: usize, e: usize, sum: usize, tail: usize)
     );
 }
 
-#[derive(Drop)]
+#[derive(Clone, Copy)]
 pub struct Plan {
     pub number: u32,
     pub len: usize,

@@ -11,7 +11,7 @@ ghost use Rattle.allocate.specs.growth.Grows.{room_from, GrowsIn, ReadyIn};
 use room::place;
 
 // The refusal, 0 for none, and then the first bay's start and end.
-#[derive(Drop)]
+#[derive(Clone, Copy)]
 pub struct Growth {
     pub number: u32,
     pub first: usize,

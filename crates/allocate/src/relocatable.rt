@@ -22,7 +22,7 @@ use calls::Told;
 use room::place;
 
 // What the call is to write: the bay from start to end gets the block at `at`, or, where it grows, that bay is the first one, which gives up its bytes.
-#[derive(Drop)]
+#[derive(Clone, Copy)]
 pub struct Plan {
     pub number: u32,
     pub len: usize,

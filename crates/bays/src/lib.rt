@@ -11,7 +11,7 @@ use access::row;
 use block_type::BlockType;
 
 // A bay by its first offset, its end, its sum, and the free bytes at its end.
-#[derive(Drop)]
+#[derive(Clone, Copy)]
 pub struct Bay {
     pub found: bool,
     pub start: usize,
@@ -21,7 +21,7 @@ pub struct Bay {
 }
 
 // A bay that has been walked over; `next` is where the next one begins, or one more than the bytes' number behind the last.
-#[derive(Drop)]
+#[derive(Clone, Copy)]
 pub struct BayRead {
     pub end: usize,
     pub sum: usize,

@@ -215,7 +215,7 @@ fn reloc_size(z: &[u8], first: usize, at: usize, w: u32) -> usize
     0
 }
 
-#[derive(Drop)]
+#[derive(Clone, Copy)]
 pub struct Block {
     pub size: usize,
     pub free: bool,

@@ -6,7 +6,7 @@ ghost use Rattle.std.specs.Prelude.{◌≡◌};
 ghost use Rattle.block_type.specs.Limits.{free_code, fixed_code, reloc_code, page_code, free_header, fixed_header, reloc_header, page_header, tag_at, status_at, dirty_bit, lock_bit, stamp_range, handle_range, type_byte_unit, type_unit, smallest_block, fixed_limit, reloc_limit, page_limit};
 ghost use Rattle.block_type.specs.Limits.{zone_header, master_size, longest_zone, argument_range, most_masters, added_masters, added_bytes, length_at, first_at, masters_at, chain_at, clock_at, zero_at, record_size, amount_at, strata, limit_size, limits_length, highest_limit};
 
-#[derive(Drop)]
+#[derive(Clone, Copy)]
 pub enum BlockType {
     Free,
     Fixed,

@@ -2,7 +2,7 @@
 #![tactic(auto)]
 
 // A refusal number, 0 for done, and a value.
-#[derive(Drop)]
+#[derive(Clone, Copy)]
 pub struct Told {
     pub number: u32,
     pub value: u32,

@@ -51,7 +51,7 @@ fn next_after(z: &[u8], at: usize) -> usize
 }
 
 // A bay that has been compacted, by its sum, and where the next one begins.
-#[derive(Drop)]
+#[derive(Clone, Copy)]
 struct BayDone {
     sum: usize,
     next: usize,
@@ -96,7 +96,7 @@ fn compact_all(z: &mut [u8], first: usize) -> usize
     best
 }
 
-#[derive(Drop)]
+#[derive(Clone, Copy)]
 pub struct CompactPlan {
     pub number: u32,
     pub len: usize,

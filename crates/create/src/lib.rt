@@ -28,7 +28,7 @@ use room::place;
 use turn::search;
 
 // The refusal, 0 for none, with the name beside a 12; or the zone's length, the limit below which pages go, and the site, which is found where none has to.
-#[derive(Drop)]
+#[derive(Clone, Copy)]
 struct CreatePlan {
     number: u32,
     value: u32,

@@ -12,7 +12,7 @@ ghost use Rattle.structure.specs.IsZone.{IsZone};
 use block_type::BlockType;
 use slide::blank;
 
-#[derive(Drop)]
+#[derive(Clone, Copy)]
 pub struct FreePlan {
     pub number: u32,
     pub len: usize,

@@ -11,7 +11,7 @@ use block_type::BlockType;
 use calls::Told;
 use slide::blank;
 
-#[derive(Drop)]
+#[derive(Clone, Copy)]
 pub struct FreePlan {
     pub number: u32,
     pub len: usize,

@@ -10,7 +10,7 @@ ghost use Rattle.free_block.specs.Walk.{Stopped, Extended};
 use access::row;
 
 // Where a walk stops, and where the block before that starts, there too where no block is before.
-#[derive(Drop)]
+#[derive(Clone, Copy)]
 pub struct Stop {
     pub prev: usize,
     pub at: usize,
@@ -56,7 +56,7 @@ fn end_behind(z: &[u8], end: usize) -> usize
     end
 }
 
-#[derive(Drop)]
+#[derive(Clone, Copy)]
 pub struct Extent {
     pub from: usize,
     pub to: usize,

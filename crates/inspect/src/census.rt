@@ -11,7 +11,7 @@ use super::strata;
 use access::row;
 
 // The refusal number, 0 for done, and the number of free blocks of each stratum.
-#[derive(Drop)]
+#[derive(Clone, Copy)]
 pub struct Counts {
     pub number: u32,
     pub counts: [u32; block_type::STRATA],

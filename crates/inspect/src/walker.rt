@@ -14,7 +14,7 @@ pub struct Walker {
 }
 
 // A block's type code, offset and size; 0 for each where there is none.
-#[derive(Drop)]
+#[derive(Clone, Copy)]
 pub struct Described {
     pub kind: u8,
     pub offset: usize,
@@ -22,13 +22,13 @@ pub struct Described {
 }
 
 // What a step answers: the refusal number, 0 for done, and the block.
-#[derive(Drop)]
+#[derive(Clone, Copy)]
 pub struct Report {
     pub number: u32,
     pub block: Described,
 }
 
-#[derive(Drop)]
+#[derive(Clone, Copy)]
 pub struct Moved {
     pub next: Walker,
     pub report: Report,

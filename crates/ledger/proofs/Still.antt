@@ -1,4 +1,4 @@
--- No step of the ledger but free-pointer takes a fixed block away, and none moves it or changes its size.
+-- No step of the ledger but free_pointer takes a fixed block away, and none moves it or changes its size.
 use mathlib.Core.Path.{◌≡◌, refl, ap, ap₂, sym, ◌∙◌, subst}
 use mathlib.Core.Bool.{Bool, true, false, cond}
 use mathlib.Core.List.{List, ◌∷◌, ◌++◌}

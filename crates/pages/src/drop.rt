@@ -11,7 +11,7 @@ use access::locate;
 use block_type::BlockType;
 use slide::blank;
 
-#[derive(Drop)]
+#[derive(Clone, Copy)]
 pub struct DropPlan {
     pub number: u32,
     pub len: usize,

@@ -13,7 +13,7 @@ use block_type::BlockType;
 use calls::Told;
 
 // What is done to a flag.
-#[derive(Drop)]
+#[derive(Clone, Copy)]
 enum Mark {
     SetDirty,
     ClearDirty,

@@ -19,7 +19,7 @@ const B_AT: usize = 8;
 const D_AT: usize = 12;
 
 // The line of a record: `skip`, or the refusal number, 0 if done, and the value.
-#[derive(Drop)]
+#[derive(Clone, Copy)]
 pub struct Line {
     pub skip: bool,
     pub number: u32,

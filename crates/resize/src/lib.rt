@@ -17,7 +17,7 @@ use block_type::BlockType;
 use calls::Told;
 use room::place;
 
-#[derive(Drop)]
+#[derive(Clone, Copy)]
 pub enum Way {
     InPlace,
     OwnBay,
@@ -26,7 +26,7 @@ pub enum Way {
 
 // The block gets a data bytes for b: with `size` free bytes behind it, or in its bay from start to end with `size` free bytes, or in the
 // free block of `size` bytes at `at` of another bay.
-#[derive(Drop)]
+#[derive(Clone, Copy)]
 pub struct Plan {
     pub number: u32,
     pub len: usize,

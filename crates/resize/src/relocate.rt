@@ -43,7 +43,7 @@ fn move_block(
     blank::blank(z, from, to);
 }
 
-#[derive(Drop)]
+#[derive(Clone, Copy)]
 pub struct Old {
     pub place: usize,
     pub from: usize,

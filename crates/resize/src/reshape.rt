@@ -78,7 +78,7 @@ fn grow_part(s: &mut [u8], at: usize, o: usize, run: usize, more: usize)
     }
 }
 
-#[derive(Drop)]
+#[derive(Clone, Copy)]
 struct Place {
     at: usize,
     end: usize,

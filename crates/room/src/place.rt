@@ -15,7 +15,7 @@ use access::row;
 use block_type::BlockType;
 
 // A free block of a bay, where one is found.
-#[derive(Drop)]
+#[derive(Clone, Copy)]
 struct Hole {
     found: bool,
     at: usize,
@@ -41,7 +41,7 @@ fn tighter(w: Hole, need: usize, n: usize, at: usize) -> Hole
 }
 
 // A bay that has been walked over, as by bays::read_bay, with the free block of it that is chosen.
-#[derive(Drop)]
+#[derive(Clone, Copy)]
 struct RoomRead {
     end: usize,
     sum: usize,
@@ -98,7 +98,7 @@ fn read_room(z: &[u8], p: usize, need: usize) -> RoomRead
 }
 
 // A bay, and the free block in it for a new block: after compacting where `tidy` says so.
-#[derive(Drop)]
+#[derive(Clone, Copy)]
 pub struct Site {
     pub found: bool,
     pub start: usize,

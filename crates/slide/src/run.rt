@@ -13,7 +13,7 @@ use super::blank;
 use block_type::BlockType;
 
 // The run stands from `from` on and goes to `to`; before it stands a free block from `hole` on, or nothing.
-#[derive(Drop)]
+#[derive(Clone, Copy)]
 pub struct Run {
     pub to: usize,
     pub from: usize,

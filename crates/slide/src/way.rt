@@ -40,7 +40,7 @@ fn gather(s: &mut [u8], from: usize, first: usize) -> usize
 }
 
 // The held blocks passed so far end at `to`, the next block stands at `at`.
-#[derive(Drop)]
+#[derive(Clone, Copy)]
 struct Front {
     to: usize,
     at: usize,

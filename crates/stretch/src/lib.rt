@@ -33,7 +33,7 @@ pub fn size(zone: &[u8], block: Target) -> Told
 }
 
 // The refusal of a stretch, 0 for none, and then where it starts and ends in the zone.
-#[derive(Drop)]
+#[derive(Clone, Copy)]
 pub struct Part {
     pub number: u32,
     pub start: usize,

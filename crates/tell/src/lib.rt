@@ -22,7 +22,7 @@ fn larger(a: usize, b: usize) -> usize
     a
 }
 
-#[derive(Drop)]
+#[derive(Clone, Copy)]
 pub struct Sums {
     pub number: u32,
     pub total: usize,

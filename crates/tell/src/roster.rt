@@ -12,7 +12,7 @@ ghost use Rattle.structure.specs.IsZone.{IsZone};
 use calls::Told;
 
 // Where a handle's data lies, 0 where it is not live, and its data size.
-#[derive(Drop)]
+#[derive(Clone, Copy)]
 pub struct Entry {
     pub at: usize,
     pub size: u32,
@@ -64,7 +64,7 @@ fn fill(z: &[u8], out: &mut [u8])
     }
 }
 
-#[derive(Drop)]
+#[derive(Clone, Copy)]
 pub struct Plan {
     pub number: u32,
     pub count: u32,

@@ -68,7 +68,7 @@ fn counted(counts: bool, n: usize) -> usize
 
 // What a walk with a limit has seen: the largest sum of the bays that it has passed, the sum of the bay it is in, the least limit with which the same
 // pages go, and the least with which more go.
-#[derive(Drop)]
+#[derive(Clone, Copy)]
 struct Sums {
     best: usize,
     sum: usize,
@@ -110,7 +110,7 @@ fn pass(z: &[u8], at: usize, n: usize, clock: u8, t: u64, w: Sums) -> Sums
 
 // What a walk with a limit tells: the largest sum of a bay, were the pages below the limit gone, the least limit with which the same pages go, and the
 // least with which more go.
-#[derive(Drop)]
+#[derive(Clone, Copy)]
 struct Weight {
     sum: usize,
     under: u64,
@@ -157,7 +157,7 @@ fn first_dirty(z: &[u8], first: usize, clock: u8) -> u64
 }
 
 // Two limits between which the least one that is enough lies.
-#[derive(Drop)]
+#[derive(Clone, Copy)]
 struct Limits {
     low: u64,
     high: u64,
@@ -199,7 +199,7 @@ fn clock_of(z: &[u8]) -> u8
 }
 
 // Which pages go: every unlocked one of rank below the limit. Or the refusal, with the name of the page that a 12 is for.
-#[derive(Drop)]
+#[derive(Clone, Copy)]
 pub struct Turn {
     pub number: u32,
     pub name: u32,

@@ -11,7 +11,7 @@ ghost use Rattle.zone_check.specs.Body.{Walked, Found, Empty, Gone, Blocks, Body
 ghost use Rattle.names.specs.Pages.{Pages, names_at};
 ghost use Rattle.names.specs.Seen.{table_size, Noted};
 
-#[derive(Drop)]
+#[derive(Clone, Copy)]
 struct Tally {
     ok: bool,
     at: usize,
@@ -158,7 +158,7 @@ fn header_ok(s: &[u8]) -> bool
         & (first <= l)
 }
 
-#[derive(Drop)]
+#[derive(Clone, Copy)]
 struct Header {
     len: usize,
     first: usize,
@@ -191,7 +191,7 @@ fn names_ok(z: &[u8], first: usize, certain: bool) -> bool
 }
 
 // Whether a zone is well-formed; then the number of its relocatable blocks, and where the page of the name sought starts, 0 for none.
-#[derive(Drop)]
+#[derive(Clone, Copy)]
 pub struct Sought {
     pub ok: bool,
     pub count: usize,
@@ -259,7 +259,7 @@ pub fn check_for(zone: &[u8], name: u32) -> Sought
     body(z, h.first, h.masters, h.chain, name)
 }
 
-#[derive(Drop)]
+#[derive(Clone, Copy)]
 pub struct Checked {
     pub ok: bool,
     pub count: usize,

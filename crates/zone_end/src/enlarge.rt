@@ -34,7 +34,7 @@ fn last_free(z: &[u8]) -> usize
     end - tail
 }
 
-#[derive(Drop)]
+#[derive(Clone, Copy)]
 pub struct EnlargePlan {
     pub number: u32,
     pub len: usize,

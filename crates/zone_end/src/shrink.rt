@@ -29,7 +29,7 @@ fn lesser_of(a: usize, b: usize) -> usize
     b
 }
 
-#[derive(Drop)]
+#[derive(Clone, Copy)]
 pub struct Plan {
     pub number: u32,
     pub len: usize,
