@@ -24,6 +24,11 @@ EXTENDED = {'signext', 'zeroext'}
 NAME = r'@(?P<name>"[^"]*"|[\w.$]+)'
 
 
+# A constant of single bytes, as the code compares a block's type with: it holds no pointer and no number that a processor would order otherwise. What is built
+# has none of them left (test_target.py).
+BYTES = r'@static\.\d+ = private unnamed_addr constant \[\d+ x i8\] (?:c"[^"]*"|zeroinitializer), align 1'
+
+
 class Refused(Exception):
     pass
 
@@ -99,16 +104,17 @@ def functions(text):
 
 def check_pointers(text):
     """Nothing in the module needs a pointer to have 8 bytes."""
-    if found := re.search(r'.*\b(ptrtoint|inttoptr|addrspacecast)\b.*', text):
+    if found := re.search(r'.*\b(ptrtoint|ptrtoaddr|inttoptr|addrspacecast)\b.*', text):
         raise Refused(f'a pointer is no number here: {found[0].strip()}')
-    if found := re.search(r'^@.*', text, re.M):
-        raise Refused(f'data of its own: {found[0]}')
+    for line in re.findall(r'^@.*', text, re.M):
+        if not re.fullmatch(BYTES, line):
+            raise Refused(f'data of its own: {line}')
     for function in functions(text):
         name = re.search(NAME, function)['name']
         for cell in re.findall(r'^  (%\w+) = alloca ptr,', function, re.M):
             at = re.escape(cell)
             for line in re.findall(rf'^.*{at}\b.*$', function, re.M):
-                if not re.fullmatch(rf'  (?:{at} = alloca ptr|%\w+ = load ptr, ptr {at}|store ptr %\w+, ptr {at})(?:, align \d+)?(?:, !noundef !\d+)?', line):
+                if not re.fullmatch(rf'  (?:{at} = alloca ptr|%\w+ = load ptr, ptr {at}|store ptr (?:%\w+|@static\.\d+), ptr {at})(?:, align \d+)?(?:, !noundef !\d+)?', line):
                     raise Refused(f'{name}: a cell of one pointer is used otherwise: {line.strip()}')
 
 
@@ -120,7 +126,9 @@ def for_target(text, declared):
         text, times = line.subn(lambda _, new=new: new[0], text)
         if times != 1:
             raise Refused(f'the module has {times} lines `target {word}`')
-    text, times = re.subn(r' "target-cpu"="[^"]*"', '', text)
-    if times != 1:
-        raise Refused(f'the module names a processor {times} times')
+    processor = r' "target-cpu"="[^"]*"' # once for each set of attributes: a function that is inlined always, or never, has one of its own
+    names = set(re.findall(processor, text))
+    if len(names) != 1:
+        raise Refused(f'the module names {len(names)} processors')
+    text = re.sub(processor, '', text)
     return text

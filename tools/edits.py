@@ -33,7 +33,7 @@ NOT_MET = re.compile(
     r"|`simp`: no equation of the list has an instance in the goal"
     r"|(?:computed as far as they go|as printed), the two (?:types|indices|values) "
     r"|expected type `(?:mathlib\.Core\.Path\.)?(?:Path|◌≡◌) "
-    r"|expected type `(?!(?:\S+\.)?(?:List|Option) )(\S+) [^`]*`, but this has type `\1 "
+    r"|expected type `(?!(?:\S+\.)?(?:List|Option|Result) )(\S+) [^`]*`, but this has type `\1 "
     r"|on the face `\w+ = [01]` this λ's body is "
 )
 
@@ -72,6 +72,9 @@ def fact_of(goal, function):
         return f"the invariant of the loop of `{function}`"
     if re.fullmatch(r"\w+(?:-\w+)*?-smaller(?:-.*)?", goal):
         return f"that the loop of `{function}` ends"
+    held = re.fullmatch(r"invariant_of-(\w+)(?:-.*)?", goal)
+    if held:
+        return f"what the type of `{held[1]}` says of it, in `{function}`"
     return None
 
 

@@ -18,7 +18,7 @@ MENTION = re.compile(r"(?<![\w.])(?:package\.)?Rattle(?:\.[^\s{}();,@\"]*)?(?![\
 USED = re.compile(r"(?<![\w.])use\s+$")  # what stands before a path to a module
 
 # names that an exported contract takes from a file which only passes them on from one of the table: CONTRACT NAME
-PASSED_ON = {"inspect::census counted", "inspect::Walker::go walked", "inspect::Walker::advance walked"}
+PASSED_ON = set()
 
 
 def code_of(root, name):

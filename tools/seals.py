@@ -1,6 +1,6 @@
 #!/usr/bin/env python3
 """Seals what has to be believed: a digest of each file of docs/TRUST.md's table, of the examples that are computed over them, of each exported contract
-and type, of each program, and of the theorems that must be there. What a comment says moves no seal; everything else does.
+and type, of how a type is printed, of each program, and of the theorems that must be there. What a comment says moves no seal; everything else does.
 
 Usage: tools/seals.py writes tools/seals.txt and prints which seals moved, for the note on a landing.
        tools/seals.py --check tests the tree against it: each seal that differs, is missing or is superfluous is a line, and so is an exported function
@@ -68,18 +68,64 @@ def sealed_contracts(root):
 
 # what gives a type or a contract another meaning, or declares something, and is no declaration of those that are sealed
 OTHER_FORMS = re.compile(r"^[ \t]*(?:unsafe )?(?:impl\b[^{;]*\bfor\b|extern \"C\" \{|union\b|(?:pub )?macro_rules!)[^{;]*", re.M)
+# an impl of a trait for a type
+OF_TRAIT = re.compile(r"[ \t]*impl(?:<[^>]*>)? (?:\w+::)*(\w+)(?:<.*>)? for (\w+)(?:<.*>)?\s*")
+# traits that an exported type may have: the impl is sealed as it stands, its functions' bodies too. (A `Model` says what the contracts see of a type, so none may have one.)
+SEALED_TRAITS = ("Display", "Error", "From", "Iterator", "TryFrom")
+
+
+def exported_crates(root):
+    """The exported crates that are no programs, and those whose declarations they pass on: each with the names of the types that are exported of it."""
+    found = {}
+    for crate, _, items_of, _ in sources.exports(root):
+        if items_of and not is_program(root, crate):
+            found.setdefault(crate, set()).update(name.split("::", 1)[1] for name in items_of if name.startswith("type "))
+    return found
+
+
+def other_forms(root, exported):
+    """The forms of exported crates that are no declarations: the crate, the file, its text, where the form begins, and the form."""
+    for crate in sorted(exported):
+        for file in sources.sources(root, crate):
+            text = sources.read(root, file)
+            for form in OTHER_FORMS.finditer(sources.masked(text)):
+                yield crate, file, text, form.start(), form[0]
+
+
+def own_types(root, crate):
+    """The structs and enums that a crate declares."""
+    return {item.name for file in sources.sources(root, crate) for item in sources.items(sources.read(root, file)) if item.kind in ("struct", "enum")}
+
+
+def sealed_impls(root):
+    """The impls of exported types that are sealed: a name and a text for each."""
+    exported, found = exported_crates(root), {}
+    for crate, _, text, at, form in other_forms(root, exported):
+        trait = OF_TRAIT.fullmatch(form)
+        if trait and trait[1] in SEALED_TRAITS and trait[2] in exported[crate]:
+            code = sources.masked(text)
+            whole = " ".join(code[at : sources.closing(code, code.index("{", at))].split())
+            name = f"impl {crate}::{' '.join(form.split())}"
+            found[name] = "\n".join([*filter(None, [found.get(name)]), whole, *origins(root, text, whole, sources.code_imports(text))])
+    return found
+
+
+def is_read(root, crate, exported, form):
+    """Whether a form is an impl that is sealed, or one of a type of the crate's own that is not exported."""
+    trait = OF_TRAIT.fullmatch(form)
+    if not trait or trait[1] == "Model":
+        return False
+    return trait[1] in SEALED_TRAITS if trait[2] in exported else trait[2] in own_types(root, crate)
 
 
 def form_faults(root):
     """What the exported crates, and those whose declarations they pass on, have that no seal reads; programs are sealed as they stand."""
-    faults = []
+    faults, exported = [], exported_crates(root)
     for crate, name, found, further in sources.exports(root):
         faults += [f"passed on and not sealed: {crate}::{name} is no declaration"] if name and not found and not further else []
         if name is None or found:
             faults += [f"passed on under another name: {path} in {crate}" for path in sources.renamed(root, crate)]
-    crates = {crate for crate, _, found, _ in sources.exports(root) if found}
-    files = [file for crate in sorted(crates) if not is_program(root, crate) for file in sources.sources(root, crate)]
-    return faults + [f"no seal reads: {form.strip()} in {file}" for file in files for form in OTHER_FORMS.findall(sources.masked(sources.read(root, file)))]
+    return faults + [f"no seal reads: {form.strip()} in {file}" for crate, file, _, _, form in other_forms(root, exported) if not is_read(root, crate, exported[crate], form)]
 
 
 def contract_faults(root):
@@ -142,8 +188,13 @@ def sealed_names(root):
     return {file: set(signatures(sources.read(root, file))) for file in files}
 
 
+def is_constant(root, path):
+    """Whether a path goes to a constant that code declares: a theorem may say which number it is."""
+    return sources.declared(root, path) and ".declared.TheConstants." in path and path.rsplit(".", 1)[-1] in sources.constants(root)
+
+
 def name_faults(root, text, of, sealed):
-    """What is wrong with where a file takes the names of a type from; nothing for the toolchain's names."""
+    """What is wrong with where a file takes the names of a type from; nothing for the toolchain's names and for the code's constants."""
     brought, own, names = sources.imports(text), signatures(text), set().union(*sealed.values())
     for name in sorted(sources.used(of, own) | sources.used(of, named_in(text)) - bound(of)):
         yield f"`{name}` is defined in the same file"
@@ -155,7 +206,7 @@ def name_faults(root, text, of, sealed):
         yield f"`{name}` is not imported"
     for name in sorted(sources.used(of, brought)):
         origin = brought[name]
-        if sources.of_crates(origin) and sources.file_of_brought(root, text, name) not in sealed:
+        if sources.of_crates(origin) and sources.file_of_brought(root, text, name) not in sealed and not is_constant(root, origin):
             yield f"`{name}` comes from {origin}, which is not sealed"
         if not origin.endswith(f".{name}"):
             yield f"`{name}` is {origin} under another name"
@@ -208,7 +259,7 @@ def theorem_faults(root):
 
 
 def seals(root):
-    said = {**sealed_files(root), **programs(root), **sealed_contracts(root), **sealed_theorems(root)}
+    said = {**sealed_files(root), **programs(root), **sealed_contracts(root), **sealed_impls(root), **sealed_theorems(root)}
     return {name: digest(text) for name, text in said.items()}
 
 

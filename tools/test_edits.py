@@ -21,6 +21,10 @@ FACTS = [
     (PROOF, "step_used-n-requires-then-k-eq-FIXED_CODE", "`search`: no proof of `Row`", "what `step_used` requires, in `find_bay`"),
     (PROOF, "get4-first-requires-clause-low", "`search`: no proof of `Row`", "what `get4` requires, in `find_bay`"),
     (PROOF, "get4-requires-2", "`search`: no proof of `Row`", "what `get4` requires, in `find_bay`"),
+    (PROOF, "returns-in_err-len", "`search`: no proof of `mathlib.Core.Path.◌≡◌ c.get4.result (from_be", "what `find_bay` returns"),
+    (PROOF, "loop-bay-init-derived", "`search`: no proof of `CanRead`", "the invariant of the loop of `find_bay`"),
+    (PROOF, "read_bay-read-requires-in-Some", "`search`: no proof of `Row`", "what `read_bay` requires, in `find_bay`"),
+    (PROOF, "invariant_of-result-clause-fits", "`search`: no proof of `Bytes`", "what the type of `result` says of it, in `find_bay`"),
     ("proofs/find_bay/Proof.antt", "returns", "`search`: no proof of `Row`", "what `find_bay` returns"),
     (LAW, "six-first", "computed as far as they go, the two types differ only where one has `6` (expected)", "law `six-first` of `proofs/Order.antt`"),
     (LAW, "sorted-order", "expected type `NotFalling 0 (sorted_by_handle (c ∷ cs))`, but this has type `NotFalling 0 (insert c (sorted_b", "law `sorted-order` of `proofs/Order.antt`"),
@@ -40,6 +44,7 @@ NO_FACTS = [
     (LAW, "six-first", "expected type `Facts → List Cause`, but this has type `List Cause`"),
     (LAW, "six-first", "expected type `List Cause`, but this has type `List ℕ`"),
     (LAW, "six-first", "expected type `mathlib.Core.Option.Option Cause`, but this has type `mathlib.Core.Option.Option ℕ`"),
+    (LAW, "six-first", "expected type `mathlib.Core.Result.Result ℕ Refusal`, but this has type `mathlib.Core.Result.Result Unit Refusal`"),
     ("src/lib.rt", "ensures-1", "expected type `Prim.Native.Nat.ℕ`, but this has type `mathlib.Core.List.List`"),
     # a proof's text that does not fit
     (LAW, None, "module `Rattle.calls.specs.Table` has no `refusal_of` that can be named from here: it is private"),

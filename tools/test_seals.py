@@ -95,11 +95,12 @@ class Seals(Trial):
         self.noticed(seals, ["seal differs", "contract nafelode::"])
 
     def test_file_that_passes_on_something_else(self):
-        passing = [f for f in sources.public_items(self.root, "inspect", lambda n: n == "Walker::go").values()][0][0][1]
-        file = sources.file_of_brought(self.root, passing, "walked")
-        if file not in sources.believed(self.root):
-            self.change(file, r"^pub use (.*)walked.*$", "abbrev pub walked : Type 0")
-            self.noticed(seals, ["seal differs", "inspect::Walker::go"])
+        code, passing = "crates/inspect/src/walker.rt", "crates/inspect/specs/Passing.antt"
+        self.change(code, r"Rattle\.zone\.specs\.Walker\.\{", "Rattle.inspect.specs.Passing.{")
+        self.put(passing, "pub use Rattle.zone.specs.Walker.{start_of_walk, walk_step}\n")
+        self.assertEqual([fault for fault in seals.faults(self.root) if "Walker" in fault], [])
+        self.put(passing, "abbrev pub start_of_walk : Type 0\nabbrev pub walk_step : Type 0\n")
+        self.noticed(seals, ["seal differs", "inspect::Walker::start"])
 
     def test_name_that_the_root_of_the_definitions_passes_on(self):
         """A name may be spelled like a module beside it: a path to it goes to specs/Lib.antt, and on to what that passes on."""
@@ -146,17 +147,27 @@ class Seals(Trial):
         self.form(EXPORTS, r"\{ Promise compact ", "{ block_type::STRATA ≡ 0 → Promise compact ", ["not sealed", "nafelode::compact", "STRATA"])
 
     def test_what_a_contract_sees_of_a_type(self):
-        for form in ("impl Model for Told {", "impl<T> Model for Told\n{", "macro_rules! more {", 'extern "C" {'):
+        for form in ("impl Model for Refusal {", "impl<T> Model for Refusal\n{", "impl Clone for Refusal {", "impl From<u32> for u64 {", "macro_rules! more {", 'extern "C" {'):
             self.form("crates/calls/src/lib.rt", r"\Z", f"\n{form}\n}}\n", ["no seal reads", form.split("\n")[0].removesuffix(" {"), "crates/calls/src/lib.rt"])
+        self.form("crates/access/src/rows.rt", r"\Z", "\nimpl Model for Rows<'_> {\n}\n", ["no seal reads", "impl Model for Rows<'_>"])
+
+    def test_impls_of_exported_types(self):
+        """How a refusal is printed is sealed, and so is each further such impl; what a type has that is not exported is nobody's promise."""
+        file = "crates/calls/src/lib.rt"
+        self.form(file, r"f\.write_str\(text\)", 'f.write_str("")', ["seal differs", "impl calls::impl fmt::Display for Refusal"])
+        self.form(file, r"^use std::fmt;", "use other::fmt;", ["seal differs", "impl calls::impl fmt::Display for Refusal"])
+        self.form(file, r"^impl Error for Refusal \{\}", "", ["sealed and not there", "impl calls::impl Error for Refusal"])
+        self.form(file, r"\Z", "\nimpl From<u32> for Refusal {\n}\n", ["no seal", "impl calls::impl From<u32> for Refusal"])
+        self.assertEqual([name for name in seals.sealed_impls(self.root) if "Rows" in name], [])
 
     def test_passed_on_otherwise(self):
-        self.form(EXPORTS, r"^pub use calls::Told;", "pub use calls::Told as Answer;", ["passed on under another name", "calls::Told as Answer"])
-        self.form(EXPORTS, r"^pub use tell::Sums;", "pub use tell::{roster::{Listed as Sums}, Sums as Told};", ["passed on under another name", "tell::roster::Listed as Sums"])
+        self.form(EXPORTS, r"^pub use calls::Refusal;", "pub use calls::Refusal as Why;", ["passed on under another name", "calls::Refusal as Why"])
+        self.form(EXPORTS, r"^pub use tell::Sums;", "pub use tell::{roster::{Listed as Sums}, Sums as Refusal};", ["passed on under another name", "tell::roster::Listed as Sums"])
         self.form(EXPORTS, r"^pub use tell::Sums;", "pub use tell;", ["passed on and not sealed", "tell::tell"])
         self.form(EXPORTS, r"^pub use tell::Sums;", "pub use tell::roster;", ["sealed and not there", "type tell::Sums"])
 
     def test_type_of_code_under_another_name(self):
-        self.form(EXPORTS, r"^pub use calls::Told;", "pub use calls::{Told as Sums, Other as Told};", ["seal differs", "contract nafelode::shrink"])
+        self.form(EXPORTS, r"^pub use calls::Refusal;", "pub use calls::{Refusal as Sums, Other as Refusal};", ["seal differs", "contract nafelode::compact"])
 
     def test_function_and_type_gone_or_new(self):
         self.change("crates/nafelode/src/lib.rt", r"^pub fn shrink", "fn shrink")
@@ -241,6 +252,16 @@ class Seals(Trial):
         self.put(file, re.sub(r"\bPageSays(, |(?=\}))", "", sources.read(self.root, file), count=1))
         self.put(file, "use Rattle.zone.specs.{PageSays}\n" + sources.read(self.root, file))
         self.noticed(seals, ["no theorem", "page-says", "`PageSays` comes from Rattle.zone.specs.PageSays, which is not sealed"])
+
+    def test_theorem_on_a_constant_of_code(self):
+        """It is the code's own, and no other thing of that name."""
+        file, said = "crates/block_type/proofs/Constants.antt", ["no theorem", "zone_header-is", "`ZONE_HEADER` comes from", "which is not sealed"]
+        self.form(file, r"\.declared\.TheConstants\.\{(?=ZONE_HEADER)", ".Other.{", said)
+        self.form("crates/block_type/src/lib.rt", r"\bZONE_HEADER\b", "ZONE_HEADERS", said)
+        self.form(file, r"^pub zone_header-is : ZONE_HEADER ≡ zone_header$", "pub zone_header-is : zone_header ≡ zone_header", ["no theorem", "zone_header-is"])
+        self.put("crates/block_type/specs/declared.antt", "")
+        self.noticed(seals, said)
+        self.restore("crates/block_type/specs/declared.antt")
 
     def test_operator_of_its_own(self):
         """`≡` is something else in the theorem's file, whatever the form of its declaration."""

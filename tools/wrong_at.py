@@ -4,7 +4,7 @@
 Usage: tools/wrong_at.py [CRATE..]
 
 A line is CALLS: ANSWER, not ANSWER, or CALLS: byte N is X, not Y. The calls are vectors/FORMAT.md's, with `; ` between them, on a buffer of 70 bytes, each 9,
-unless a `buffer` says otherwise. The code is compiled as Rust, its contracts taken out, with tools/wrong_at.rs for its main. Nothing here is proved.
+unless a `buffer` says otherwise. The code is compiled as Rust 2024 (by rustc 1.88 or later), its contracts taken out, with tools/wrong_at.rs for its main. Nothing here is proved.
 What edits of definitions say is not tested here: the prover computed it.
 """
 import concurrent.futures
@@ -24,25 +24,65 @@ ROOT = pathlib.Path(__file__).resolve().parent.parent
 SAID = re.compile(r"(.*): (?:byte (\d+) is (\d+), not (\d+)|(.*), not (.*))")
 
 
-def derived(line):
-    """What Rust derives, too, beside what plain data is given here."""
-    left = [name for name in re.findall(r"\w+", line[1]) if name not in ("Drop", "Clone", "Copy")]
-    return f"#[derive({', '.join(left)})]\n" if left else ""
+# what no copy can be made of: it is lent to be changed, or owns what it holds
+NO_COPY = re.compile(r"&(?:'\w+ )?mut\b|\b(?:Vec|String|Box|Rc)\b")
+TYPE = re.compile(r"^((?:#\[derive\([^)]*\)\]\n)?)((?:pub(?:\([^)]*\))? )?(?:struct|enum) (\w+))", re.M)
+
+
+def derived(said):
+    """The names of a `derive` line that Rust has, too."""
+    return [name for name in re.findall(r"\w+", said.partition("(")[2]) if name != "Drop"]
+
+
+def whole(code, at):
+    """A struct or an enum from its head on."""
+    end = re.compile(r"[{;]").search(code, at)
+    return code[at : sources.closing(code, end.start()) if end[0] == "{" else end.end()]
+
+
+def copied(code):
+    """Each type derives what it did, and Copy where Rust can make one: a private type may be a part of one that a test copies."""
+    bodies = {head[3]: whole(code, head.start(2)) for head in TYPE.finditer(code)}
+    unlike = {name for name, body in bodies.items() if NO_COPY.search(body)}
+    while more := {name for name in set(bodies) - unlike if unlike & (set(re.findall(r"\w+", bodies[name])) - {name})}:
+        unlike |= more
+
+    def line(head):
+        names = list(dict.fromkeys([*(() if head[3] in unlike else ("Clone", "Copy")), *derived(head[1])]))
+        return (f"#[derive({', '.join(names)})]\n" if names else "") + head[2]
+
+    return TYPE.sub(line, code)
+
+
+def opened(code):
+    """The code with no private function. Those of a trait or of its impls are as public as the trait."""
+    parts, at = [], 0
+    for head in re.finditer(r"^[ \t]*(?:(?:pub )?trait \w|impl\b[^{;]*\bfor\b)[^{;]*\{", code, re.M):
+        if head.start() >= at:
+            end = sources.closing(code, head.end() - 1)
+            parts += [re.sub(r"^(\s*)((?:const )?fn )", r"\1pub \2", code[at : head.start()], flags=re.M), code[head.start() : end]]
+            at = end
+    return "".join(parts) + re.sub(r"^(\s*)((?:const )?fn )", r"\1pub \2", code[at:], flags=re.M)
+
+
+def bounded(code):
+    """Bounds as Rust has them: each type can be dropped there, and a formatter is one whatever it writes to."""
+    code = re.sub(r"\bDrop \+ |(?:: | \+ )Drop\b(?=[^;{}()]*[>,{\n])", "", code)
+    return re.sub(r"\bfn fmt<(\w+): fmt::Write>\(&self, (\w+): &mut fmt::Formatter<\1>\)", r"fn fmt(&self, \2: &mut fmt::Formatter<'_>)", code)
 
 
 def rust(text):
-    """Rattle's code as Rust: no contract, nothing for the prover, no private function, plain data is Copy, and a sum that wraps by Rust's name."""
+    """Rattle's code as Rust: no contract, nothing for the prover, no private function, data is Copy, and a sum that wraps by Rust's name."""
     code = re.sub(r"^[ \t]*ghost use [^;]*;\n", "", sources.masked(text), flags=re.M)
     code = re.sub(r"\bstd::num::wrapping_(add|sub)_(u\w+)\(", r"\2::wrapping_\1(", code)
     code = re.sub(r"^[ \t]*#!?\[(?:tactic|cycle)\b[^\n]*\]\n", "", code, flags=re.M)
-    code = re.sub(r"^[ \t]*#\[derive\(([^)]*)\)\]\n", derived, code, flags=re.M)
     parts, at = [], 0
     for clause in iter(lambda: re.compile(sources.CLAUSE).search(code, at), None):
-        parts.append(code[at : clause.start()])
+        before = code[at : clause.start()]
+        parts.append(before if clause["kind"] else re.sub(r"\bpub(?:\([^)]*\))?\s+$", "", before))
         at = sources.closing(code, clause.end() - 1)
-        at += not clause["kind"] and code.startswith(",", at)  # a ghost field's
-    code = re.sub(r"^(\s*)fn ", r"\1pub fn ", "".join(parts) + code[at:], flags=re.M)
-    return re.sub(r"^((?:pub )?(?:struct|enum) )", r"#[derive(Clone, Copy)]\n\1", code, flags=re.M)
+        at += not clause["kind"] and code.startswith((",", ";"), at)  # a ghost field's, or an impl's ghost member's
+    return copied(opened(bounded("".join(parts) + code[at:])))
 
 
 def libraries():
@@ -68,7 +108,7 @@ def program(changed):
 def built(folder, name, changed):
     source, binary = pathlib.Path(folder) / f"{name}.rs", pathlib.Path(folder) / name
     source.write_text(program(changed), encoding="utf-8")
-    subprocess.run(["rustc", "--edition", "2021", "-C", "overflow-checks=on", "-o", binary, source], check=True)
+    subprocess.run(["rustc", "--edition", "2024", "-C", "overflow-checks=on", "-o", binary, source], check=True)
     return binary
 
 
@@ -113,7 +153,11 @@ def tested(folder, without, path, number):
     crate, said, changed = path.parent.parent.name, edits.read_edit(path)["wrong"], edited(path)
     if not changed or not said:
         return None
-    wrong = fault(said, built(folder, f"edit_{number}", changed), without)
+    try:
+        with_edit = built(folder, f"edit_{number}", changed)
+    except subprocess.CalledProcessError:
+        return f"{crate}/{path.stem}: is no code"
+    wrong = fault(said, with_edit, without)
     return f"{crate}/{path.stem}: {wrong}: {said}" if wrong else None
 
 

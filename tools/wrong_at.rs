@@ -1,5 +1,6 @@
 // Carries out calls on a buffer, over the crates' code as Rust, and prints what each answers, a bar, and the buffer's bytes. Input: lines as tools/wrong_at.py
 // takes them from edits. `case` starts from a buffer of 70 bytes, each 9. A call that breaks down prints `breaks down`, and so do all after it.
+use calls::Refusal;
 use nafelode::Stretch;
 use std::io::Read;
 use std::panic::{catch_unwind, AssertUnwindSafe};
@@ -16,12 +17,30 @@ fn unhex(word: &str) -> Vec<u8> {
     (0..digits.len() / 2).map(|i| u8::from_str_radix(&digits[2 * i..2 * i + 2], 16).expect("hexadecimal")).collect()
 }
 
-fn told(answer: calls::Told) -> String {
-    format!("{} {}", answer.number, answer.value)
+/// What a call answers: its refusal number, 0 for none, and behind it what it tells, or what stands beside the refusal.
+trait Said {
+    fn said(self) -> String;
 }
 
-fn counts(number: u32, all: [u32; 19]) -> String {
-    format!("{number} {}", all.map(|count| count.to_string()).join(" "))
+impl Said for Result<u32, Refusal> {
+    fn said(self) -> String {
+        self.map_or_else(|refusal| format!("{} {}", refusal.number(), refusal.beside()), |value| format!("0 {value}"))
+    }
+}
+
+impl Said for Result<(), Refusal> {
+    fn said(self) -> String {
+        self.map(|()| 0).said()
+    }
+}
+
+fn told(answer: impl Said) -> String {
+    answer.said()
+}
+
+/// The refusal number alone, 0 for none.
+fn number<T>(answer: &Result<T, Refusal>) -> u32 {
+    answer.as_ref().map_or_else(|refusal| refusal.number(), |_| 0)
 }
 
 /// One record of zone-run, from its code and numbers.
@@ -72,10 +91,10 @@ fn call(zone: &mut Vec<u8>, words: &[&str]) -> String {
         "size" => told(nafelode::size(zone, stretch(words).block)),
         "read" => {
             let mut out = unhex(words[5]);
-            let number = nafelode::read(zone, stretch(words), &mut out);
+            let number = number(&nafelode::read(zone, stretch(words), &mut out));
             format!("{number} {}", hex(&out))
         }
-        "write" => nafelode::write(zone, stretch(words), &unhex(words[5])).to_string(),
+        "write" => number(&nafelode::write(zone, stretch(words), &unhex(words[5]))).to_string(),
         "view" => {
             let first = zone.as_ptr() as usize;
             let part = nafelode::view(zone, stretch(words));
@@ -91,11 +110,12 @@ fn call(zone: &mut Vec<u8>, words: &[&str]) -> String {
         "compact" => told(nafelode::compact(zone)),
         "sum" => {
             let sums = nafelode::sum(zone);
-            format!("{} {} {}", sums.number, sums.total, sums.largest)
+            let (total, largest) = sums.map_or((0, 0), |sums| (sums.total, sums.largest));
+            format!("{} {total} {largest}", number(&sums))
         }
         "check" => {
-            let checked = nafelode::check(zone);
-            format!("0 {} {}", u32::from(checked.ok), checked.count)
+            let handles = nafelode::check(zone);
+            format!("0 {} {}", u32::from(handles.is_some()), handles.unwrap_or(0))
         }
         "length" => told(nafelode::length(zone)),
         "enlarge" => told(nafelode::enlarge(zone, n(1))),
@@ -108,13 +128,14 @@ fn call(zone: &mut Vec<u8>, words: &[&str]) -> String {
         "census" => {
             let limits = words.get(1).map_or(vec![], |word| unhex(word));
             let census = nafelode::census(zone, &limits);
-            counts(census.number, census.counts)
+            format!("{} {}", number(&census), census.unwrap_or([0; 19]).map(|count| count.to_string()).join(" "))
         }
         "walker_start" => nafelode::Walker::start(zone).at.to_string(),
         "walker_step" => {
             let mut walker = nafelode::Walker { at: n(1) as usize };
             let step = walker.advance(zone);
-            format!("{} {} {} {}, walker {}", step.number, step.block.kind, step.block.offset, step.block.size, walker.at)
+            let (kind, offset, size) = step.ok().flatten().map_or((0, 0, 0), |block| (block.kind.code(), block.offset, block.size));
+            format!("{} {kind} {offset} {size}, walker {}", number(&step), walker.at)
         }
         // C's, with the caller's variable before the call
         "nafelode_allocate_relocatable" => {

@@ -1,5 +1,5 @@
 -- What is known of a buffer that the check has passed: its header is there, and the bytes up to its length are a zone.
-use mathlib.Core.Path.{◌≡◌, sym, ap, ◌∙◌}
+use mathlib.Core.Path.{◌≡◌, sym, ap, subst, ◌∙◌}
 use mathlib.Core.List.{List}
 use mathlib.Core.Bool.{Bool, true, false, not}
 use Prim.Native.Nat.{ℕ, ◌+◌, ◌<◌, ◌≤◌}
@@ -12,7 +12,12 @@ use Rattle.bigendian.specs.BigEndian.{Bytes}
 use Rattle.block_type.specs.Limits.{length_at, first_at, masters_at, chain_at, clock_at}
 use Rattle.format.specs.WellFormed.{well_formed, zone_of, length_field}
 pub use Rattle.format.proofs.Header.{fields-of, first_of}
-use Rattle.zone_check.specs.Sought.{page_in, page_of}
+use Rattle.std.specs.Prelude.{Option}
+use Rattle.zone_check.specs.Sought.{unless_zero, page_in, page_of}
+use Rattle.zone_check.specs.Checked.{IsChecked}
+use Rattle.zone_check.specs.declared.Checked.{Checked}
+use Rattle.access.specs.Checked.{HasZone, HasPage, OpenedFor}
+use Rattle.access.specs.declared.opened.Zone.{Zone}
 use Rattle.structure.specs.Structure.{decode, len}
 use Rattle.structure.proofs.Table.{whole, len_is}
 use Rattle.structure.specs.IsZone.{IsZone, is_zone}
@@ -53,9 +58,27 @@ module _ (s : List ℕ) (ok : Bool) (e : ok ≡ well_formed s) (q : not ok ≡ f
     pub has-whole : Bytes s → IsZone (take l s)
     has-whole y = is_zone s y is-well (ap (λ (k : ℕ). take k s) (sym el))
 
-    pub has-page : (name page : ℕ) → page ≡ page_of name s → page ≡ page_in name (take l s)
+    pub has-page : (name : ℕ) (page : Option ℕ) → page ≡ unless_zero (page_of name s) → page ≡ unless_zero (page_in name (take l s))
     unfolding page_of
     has-page name page ep = rw (ep, is-well, el)
+
+-- what the check says
+pub has-checked : (s : List ℕ) (name : ℕ) (k : Checked) → Bytes s → IsChecked name s k → HasPage name s k
+unfolding page_of
+has-checked s name k y i =
+    record {
+      has_zone = record { well = i.well; is_len = i.is_len; within = i.within; zone = is_zone s y i.well (ap (λ (l : ℕ). take l s) (sym i.is_len)) };
+      page_is = rw (i.page_is, i.well, i.is_len);
+    }
+
+-- the zone z of the bytes that the check has passed
+pub opened-for : (s : List ℕ) (name : ℕ) (z : Zone) (k : Checked) → z.bytes.now ≡ take k.len s → HasPage name s k → OpenedFor name s (record { zone = z; page = k.page })
+opened-for s name z k e p =
+    let n : k.len ≡ length z.bytes.now = rw e (take_len k.len s p.has_zone.within) in
+    record {
+      opened = record { has_zone = subst (HasZone s) n p.has_zone; there = ap (λ (l : ℕ). take l s) (sym n) ∙ sym e };
+      page_is = rw e p.page_is;
+    }
 
 -- ---- the zone
 
@@ -70,3 +93,8 @@ zone-12 z i = omega (arith, (whole_of z i).long)
 
 pub zone-8 : (z : List ℕ) → IsZone z → first_at + 4 ≤ length z
 zone-8 z i = omega (arith, (whole_of z i).long)
+
+-- ---- a zone by its type
+
+pub by_type : (z : Zone) → IsZone z.bytes.now
+by_type z = is_zone z.bytes.now z.fits z.well_formed z.whole

@@ -5,3 +5,4 @@ pub mod Data
 pub mod Pages
 pub mod Sought
 pub mod Offset
+pub mod Handle

@@ -1,39 +1,76 @@
 // Where the data of a block lie that is named by handle, by pointer or by name, and how many bytes they are.
-ghost use Rattle.std.specs.Prelude.{◌≡◌, ◌&&◌, ◌+◌, ◌<◌, ◌≤◌, length, drop, eqb};
+ghost use Rattle.std.specs.Prelude.{◌≡◌, ◌&&◌, ◌+◌, ◌<◌, ◌≤◌, length, drop, eqb, IfOk, IfErr, MatchOption};
 ghost use Rattle.block_type.specs.Limits.{fixed_code, fixed_header, smallest_block};
 ghost use Rattle.format.specs.WellFormed.{type_of};
-ghost use Rattle.calls.specs.Calls.{by_handle, by_pointer, by_name};
-ghost use Rattle.zone_check.specs.Sought.{page_in};
-ghost use Rattle.access.specs.locate.Locate.{target_place, target_data, name_in, absent_number, Located};
+ghost use Rattle.calls.specs.Calls.{by_pointer, by_name};
+ghost use Rattle.zone_check.specs.Sought.{unless_zero, page_in};
+ghost use Rattle.access.specs.locate.Locate.{name_in};
+ghost use Rattle.access.specs.locate.Found.{absence, NoData, IsData, NoSpan, IsSpan, IsFound, IsLost};
 ghost use Rattle.access.specs.locate.Named.{target_of};
-ghost use Rattle.structure.specs.IsZone.{IsZone};
 
-use super::row;
+use super::Zone;
 use block_type::BlockType;
+use calls::Refusal;
 
-// A block is named by its handle, by its pointer where it is fixed, by its name where it is a page.
-#[derive(Clone, Copy)]
+/// Which block is meant: each block that is not free has one of these three.
+#[derive(Clone, Copy, Debug, PartialEq, Eq)]
 pub enum Target {
+    /// A relocatable block by its handle, the number that `allocate_relocatable` answers: the place of its master, in bytes from the zone's first byte.
     Handle(u32),
+    /// A fixed block by its pointer, the number that `allocate_fixed` answers: the place of its first data byte, in bytes from the zone's first byte.
     Pointer(u32),
+    /// A page by its name, any number.
     Name(u32),
 }
 
-// Where a block's data begin, 0 for no block, and how many bytes they are.
+impl Target {
+    // The name that the check looks for. No page is sought by handle or pointer: whatever page it finds for 0 then, nobody asks for it.
+    fn name(self) -> u32
+        ensures { result ≡ name_in (target_of self) }
+    {
+        match self {
+            Target::Handle(_) | Target::Pointer(_) => 0,
+            Target::Name(n) => n,
+        }
+    }
+
+    // The refusal where no block is so named.
+    fn absence(self) -> Refusal
+        ensures { result ≡ absence (target_of self) }
+    {
+        match self {
+            Target::Handle(_) => Refusal::HandleNotLive,
+            Target::Pointer(_) => Refusal::PointerNotFixed,
+            Target::Name(_) => Refusal::NameAbsent,
+        }
+    }
+}
+
+// Where a block's data begin, and how many bytes they are.
 #[derive(Clone, Copy)]
 pub struct Span {
     pub at: usize,
     pub size: usize,
 }
 
-// The data of a handle, in the bytes of a well-formed zone with none beyond its length.
-fn by_handle(z: &[u8], h: u32) -> Span
-    requires { IsZone z.now }
-    ensures { (result.at ≡ target_place (by_handle h) z.now) × (result.size ≡ length (target_data (by_handle h) z.now)) }
+// The data of a handle.
+pub fn by_handle(z: Zone<'_>, handle: u32) -> Option<Span>
+    ensures { MatchOption result (NoData z.entry.bytes.now handle) (IsData z.entry.bytes.now handle) }
 {
-    let at = super::place(z, h as usize);
-    let size = super::data_size(z, h as usize);
-    Span { at, size }
+    let first = z.first_block();
+    let master = handle as usize;
+    if !block_check::is_master(first, master) {
+        return None;
+    }
+    let at = bigendian::get4(z.bytes, master) as usize;
+    if at < first {
+        return None;
+    }
+    let size = block_check::size_at(z.bytes, at - BlockType::RELOCATABLE_HEADER);
+    Some(Span {
+        at,
+        size: size - BlockType::RELOCATABLE_HEADER,
+    })
 }
 
 // Whether the block at `at` is fixed and has the pointer p.
@@ -41,59 +78,41 @@ pub fn is_pointer(z: &[u8], at: usize, p: usize) -> bool
     requires { at + smallest_block ≤ length z.now }
     ensures { result ≡ (eqb (type_of (drop at z.now)) fixed_code && eqb p (at + fixed_header)) }
 {
-    (block_check::type_at(z, at) == BlockType::FIXED_CODE) & (p == at + BlockType::FIXED_HEADER)
+    p == at + BlockType::FIXED_HEADER && block_check::block_type_at(z, at) == BlockType::Fixed
 }
 
 // The data of a pointer, found from block to block: only the start of a fixed block counts.
-fn by_pointer(z: &[u8], p: u32) -> Span
-    requires { IsZone z.now }
-    ensures { (result.at ≡ target_place (by_pointer p) z.now) × (result.size ≡ length (target_data (by_pointer p) z.now)) }
+fn by_pointer(z: Zone<'_>, p: u32) -> Option<Span>
+    ensures { MatchOption result (NoSpan z.entry.bytes.now (by_pointer p)) (IsSpan z.entry.bytes.now (by_pointer p)) }
 {
     let place = p as usize;
-    let mut at = bigendian::get4(z, block_type::FIRST_AT) as usize;
-    while at < z.len() {
-        let n = row::step(z, at);
-        if is_pointer(z, at, place) {
-            return Span {
+    for block in z.blocks() {
+        if is_pointer(z.bytes, block.at, place) {
+            return Some(Span {
                 at: place,
-                size: n - BlockType::FIXED_HEADER,
-            };
+                size: block.size - BlockType::FIXED_HEADER,
+            });
         }
-        at += n;
     }
-    Span { at: 0, size: 0 }
+    None
 }
 
-// The data of a page, where the check says that it starts, 0 for none. Its name is there for the contract alone.
-pub fn by_page(z: &[u8], name: u32, page: usize) -> Span
-    requires { (IsZone z.now) × (page ≡ page_in name z.now) }
-    ensures { (result.at ≡ target_place (by_name name) z.now) × (result.size ≡ length (target_data (by_name name) z.now)) }
+// The data of a page, where the check says that it starts, if there is one. Its name is there for the contract alone.
+pub fn by_page(z: Zone<'_>, name: u32, page: Option<usize>) -> Option<Span>
+    requires { page ≡ unless_zero (page_in name z.bytes.now) }
+    ensures { MatchOption result (NoSpan z.entry.bytes.now (by_name name)) (IsSpan z.entry.bytes.now (by_name name)) }
 {
-    if page == 0 {
-        return Span { at: 0, size: 0 };
-    }
-    let n = block_check::size_at(z, page);
-    Span {
-        at: page + BlockType::PAGE_HEADER,
-        size: n - BlockType::PAGE_HEADER,
-    }
+    let at = page?;
+    Some(Span {
+        at: at + BlockType::PAGE_HEADER,
+        size: block_check::size_at(z.bytes, at) - BlockType::PAGE_HEADER,
+    })
 }
 
-// The name that the check looks for: 0 where no page is sought.
-fn name_of(block: Target) -> u32
-    ensures { result ≡ name_in (target_of block) }
-{
-    match block {
-        Target::Handle(_) => 0,
-        Target::Pointer(_) => 0,
-        Target::Name(n) => n,
-    }
-}
-
-// The data of a block, in the bytes of a well-formed zone with none beyond its length; `page` is where the page starts that is sought.
-fn span_of(z: &[u8], block: Target, page: usize) -> Span
-    requires { (IsZone z.now) × (page ≡ page_in (name_in (target_of block)) z.now) }
-    ensures { (result.at ≡ target_place (target_of block) z.now) × (result.size ≡ length (target_data (target_of block) z.now)) }
+// The data of a block; `page` is where the page starts that is sought.
+fn span_of(z: Zone<'_>, block: Target, page: Option<usize>) -> Option<Span>
+    requires { page ≡ unless_zero (page_in (name_in (target_of block)) z.bytes.now) }
+    ensures { MatchOption result (NoSpan z.entry.bytes.now (target_of block)) (IsSpan z.entry.bytes.now (target_of block)) }
 {
     match block {
         Target::Handle(h) => by_handle(z, h),
@@ -102,54 +121,11 @@ fn span_of(z: &[u8], block: Target, page: usize) -> Span
     }
 }
 
-// The refusal where no block is so named.
-fn absent_number(block: Target) -> u32
-    ensures { result ≡ absent_number (target_of block) }
+// The data of a block in any buffer.
+pub fn find(zone: &[u8], block: Target) -> Result<Span, Refusal>
+    ensures ok { IfOk result (IsFound zone.now (target_of block)) }
+    ensures err { IfErr result (IsLost zone.now (target_of block)) }
 {
-    match block {
-        Target::Handle(_) => 6,
-        Target::Pointer(_) => 7,
-        Target::Name(_) => 13,
-    }
-}
-
-// A refusal number, 0 for none, and then a block's data.
-#[derive(Clone, Copy)]
-pub struct Found {
-    pub number: u32,
-    pub at: usize,
-    pub size: usize,
-}
-
-// The data of a block in any buffer: refused with 1, 6, 7 or 13.
-pub fn find(zone: &[u8], block: Target) -> Found
-    ensures { Located zone.now (target_of block) result.number result.at result.size }
-{
-    let name = name_of(block);
-    let k = zone_check::check_for(zone, name);
-    let ok = k.ok;
-    if !ok {
-        return Found {
-            number: 1,
-            at: 0,
-            size: 0,
-        };
-    }
-    let l = bigendian::get4(zone, block_type::LENGTH_AT) as usize;
-    let s = span_of(&zone[..l], block, k.page);
-    let at = s.at;
-    let size = s.size;
-    if at == 0 {
-        let number = absent_number(block);
-        return Found {
-            number,
-            at: 0,
-            size: 0,
-        };
-    }
-    Found {
-        number: 0,
-        at,
-        size,
-    }
+    let sought = Zone::open_for(zone, block.name())?;
+    span_of(sought.zone, block, sought.page).ok_or(block.absence())
 }

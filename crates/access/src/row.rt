@@ -4,7 +4,8 @@ ghost use Rattle.block_type.specs.Limits.{free_code};
 ghost use Rattle.block_check.specs.Word.{type_word, IsHeader};
 ghost use Rattle.access.specs.row.Row.{Row, Stepped};
 
-// The size of the block at p, with what a walk relies on.
+// The size of the block at p, with what a walk relies on. Other walks have such a function of one line too: what they go on with is another thing in each, of a row,
+// of a bay that is rewritten, of pages before there is a row, and a generic one would take that fact as a parameter.
 pub fn step(s: &[u8], p: usize) -> usize
     requires { Row (drop p s.now) × (p < length s.now) }
     ensures { Stepped s.now p result }

@@ -1,1 +1,2 @@
 pub mod Grows
+pub mod Ready

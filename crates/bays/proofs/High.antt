@@ -6,7 +6,7 @@ use mathlib.Core.Bool.{Bool, true, false, cond, ◌||◌}
 use Prim.Native.Nat.{ℕ, ◌+◌, ◌≤◌, max}
 use native.Mathlib.Omega.{arith}
 use lib.Dec.{leb, leb-zero}
-use borrow.Author.Tests.{leb-true}
+use borrow.Author.Tests.{leb-true, le-ltb}
 use Rattle.format.proofs.Bool.{not-both}
 use Rattle.structure.specs.Structure.{Block, cell, fixed}
 use Rattle.calls.specs.Bays.{Bays, last, more, max_s, last_s}
@@ -15,7 +15,7 @@ use Rattle.calls.proofs.Reach.{leb-max}
 use Rattle.bay.specs.Bay.{Cell, bay_size, bay_sum}
 use Rattle.zone.specs.Group.{flat_bay, flatten}
 use Rattle.zone.proofs.Places.{Tiled}
-use Rattle.bays.specs.Places.{BayN, bay_n, no_bay, bay_at, fit_at, or_bay, high_bay}
+use Rattle.bays.specs.Places.{BayN, bay_n, no_bay, bay_at, fit_at, or_bay, high_bay, own_bay}
 use Rattle.bays.specs.At.{at_last, at_later}
 use Rattle.bays.specs.Found.{FoundHigh, FoundLast}
 use Rattle.bays.proofs.At.{flat_later, tiled-place, tiled-rest, tiled-last, tiled-long, numbers-first, numbers-later}
@@ -105,3 +105,11 @@ module _ (end : ℕ) (f : List Cell → List Cell) (g : Bool) (a e sum tail : �
   last_found (more b x s) p t q =
       let w = last_found s (x.place + fsize x) (tiled-rest t) (q ∙ or-first (high_bay 0 (x.place + fsize x) s) (fit_at 0 p b) (high_is 0 (x.place + fsize x) s ∙ leb-zero (max_s bay_sum s))) in
       record { before = flat_bay b (fixed x.bytes ∷ w.before); at = at_later w.at; numbers = numbers-later p end b x s w.before (last_s s) t w.numbers; ends = w.ends }
+
+-- it is the one of a block beyond all bays
+pub own-last : (end : ℕ) (s : Bays (List Cell) Fixed) (p : ℕ) → Tiled p s end → own_bay end p s ≡ high_bay 0 p s
+own-last end (last b) p t = ap (λ (u : Bool). cond u (bay_at p b) no_bay) (sym (leb-zero (bay_sum b)))
+own-last end (more b x s) p t =
+    rw (le-ltb end x.place (omega (arith, tiled-long (tiled-rest t))))
+    (own-last end s (x.place + fsize x) (tiled-rest t)
+    ∙ sym (or-first (high_bay 0 (x.place + fsize x) s) (fit_at 0 p b) (high_is 0 (x.place + fsize x) s ∙ leb-zero (max_s bay_sum s))))

@@ -2,7 +2,7 @@
 use mathlib.Core.Path.{◌≡◌, refl, sym, ap, ap₂, ◌∙◌}
 use mathlib.Core.List.{List}
 use mathlib.Core.Bool.{Bool, true, false, cond}
-use Prim.Native.Nat.{ℕ, ◌+◌, ◌<◌, ◌≤◌}
+use Prim.Native.Nat.{ℕ, suc, ◌+◌, ◌<◌, ◌≤◌}
 use native.Mathlib.Omega.{arith}
 use lib.Dec.{leb}
 use borrow.Author.Tests.{le-leb, lt-leb, lt-ltb, le-ltb}
@@ -59,24 +59,24 @@ or-none need p (more b x s) = or-or (high_bay need (x.place + fsize x) s) (fit_a
 
 -- ---- the loops
 
-pub better-yes : (need : ℕ) (w : BayN) (start end sum tail : ℕ) → need ≤ sum → bay_n true start end sum tail ≡ better_bay need w start end sum tail
-better-yes need w start end sum tail m = rw (le-leb need sum m)
-
-pub better-no : (need : ℕ) (w : BayN) (start end sum tail : ℕ) → sum < need → w ≡ better_bay need w start end sum tail
-better-no need w start end sum tail m = rw (lt-leb need sum m)
-
 pub start-high : (need : ℕ) (z : List ℕ) (p : ℕ) → p ≤ length z → or_bay (from no_bay (high_bay need) z p) no_bay ≡ high_bay need p (bays_at z p)
 start-high need z p l = ap (λ (w : BayN). or_bay w no_bay) (from_in no_bay (high_bay need) z p l) ∙ or-none need p (bays_at z p)
 
-module _ (z : List ℕ) (p end sum tail next : ℕ) (r : Read z p end sum tail next) (need : ℕ) where
-  pub high-next : (best best' w : BayN) → p ≤ length z → or_bay (from no_bay (high_bay need) z p) best ≡ w → best' ≡ better_bay need best p end sum tail → or_bay (from no_bay (high_bay need) z next) best' ≡ w
-  high-next best best' w l inv eb =
+module _ (z : List ℕ) (p end sum tail next : ℕ) (r : Read z p end sum tail next) (need : ℕ) (best w : BayN) (l : p ≤ length z) (inv : or_bay (from no_bay (high_bay need) z p) best ≡ w) where
+  high-next : or_bay (from no_bay (high_bay need) z next) (better_bay need best p end sum tail) ≡ w
+  high-next =
       let e : from no_bay (high_bay need) z p ≡ or_bay (from no_bay (high_bay need) z next) (fit_at need p r.bay) = from_in no_bay (high_bay need) z p l ∙ cut_high_lem need z p next r.bay r.between.cut in
       let f : or_bay (fit_at need p r.bay) best ≡ better_bay need best p end sum tail = fit-or need p r.bay best ∙ ap₂ (λ (s : ℕ) (b : BayN). cond (leb need s) b best) (sym r.sum_is) (bay-is r) in
-      ap (or_bay (from no_bay (high_bay need) z next)) (eb ∙ sym f) ∙ sym (or-or (from no_bay (high_bay need) z next) (fit_at need p r.bay) best) ∙ ap (λ (b : BayN). or_bay b best) (sym e) ∙ inv
+      ap (or_bay (from no_bay (high_bay need) z next)) (sym f) ∙ sym (or-or (from no_bay (high_bay need) z next) (fit_at need p r.bay) best) ∙ ap (λ (b : BayN). or_bay b best) (sym e) ∙ inv
 
-pub high-done : (need : ℕ) (z : List ℕ) (at : ℕ) (best w : BayN) → length z < at → or_bay (from no_bay (high_bay need) z at) best ≡ w → best ≡ w
-high-done need z at best w l inv = sym (ap (λ (b : BayN). or_bay b best) (from_out no_bay (high_bay need) z at l)) ∙ inv
+  pub high-yes : need ≤ sum → or_bay (from no_bay (high_bay need) z next) (bay_n true p end sum tail) ≡ w
+  high-yes m = rw (le-leb need sum m) at high-next
+
+  pub high-no : sum < need → or_bay (from no_bay (high_bay need) z next) best ≡ w
+  high-no m = rw (lt-leb need sum m) at high-next
+
+pub high-done : (need : ℕ) (z : List ℕ) (best w : BayN) → or_bay (from no_bay (high_bay need) z (suc (length z))) best ≡ w → best ≡ w
+high-done need z best w inv = sym (ap (λ (b : BayN). or_bay b best) (from_out no_bay (high_bay need) z (suc (length z)) (omega arith))) ∙ inv
 
 -- ---- the bay of a block
 
@@ -88,7 +88,7 @@ module _ (z : List ℕ) (p end sum tail next : ℕ) (r : Read z p end sum tail n
       go b (at_end e d n) q i = sym i ∙ ap (own_bay t p) (sym e) ∙ inv
       go b (at_fixed x e q n l) q' i = sym i ∙ sym (rw (e, lt-ltb t x.place (omega arith)) at (sym inv))
 
-  pub own-last : length z < next → bay_n true p end sum tail ≡ w
+  pub own-last : next ≡ suc (length z) → bay_n true p end sum tail ≡ w
   own-last m = go r.bay r.between.cut (bay-is r)
     where
       go : (b : List Cell) → Cut z p next b → bay_at p b ≡ bay_n true p end sum tail → bay_n true p end sum tail ≡ w

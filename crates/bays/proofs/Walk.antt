@@ -2,7 +2,7 @@
 use mathlib.Core.Path.{◌≡◌, refl, sym, ap, ◌∙◌, subst}
 use mathlib.Core.List.{List, [], ◌∷◌, ◌++◌, append-nil, append_assoc}
 use mathlib.Core.Bool.{cond, Bool}
-use Prim.Native.Nat.{ℕ, ◌+◌, ◌/◌, ◌<◌, ◌≤◌}
+use Prim.Native.Nat.{ℕ, suc, ◌+◌, ◌/◌, ◌<◌, ◌≤◌}
 use native.Mathlib.Nat.{add-zero}
 use native.Mathlib.Omega.{arith}
 use lib.Dec.{eqb}
@@ -119,15 +119,15 @@ module _ (z : List ℕ) (p at n k : ℕ) (st : Stepped z at n) (ek : k ≡ type_
       }
 
 -- the bytes' end ends it
-pub ends-bytes : (z : List ℕ) (p at : ℕ) (cells : List Cell) → PassedCells z p at cells → length z ≤ at → at ≤ length z → BayBetween z p at (at + 1) cells
+pub ends-bytes : (z : List ℕ) (p at : ℕ) (cells : List Cell) → PassedCells z p at cells → length z ≤ at → at ≤ length z → BayBetween z p at (suc (length z)) cells
 unfolding join
 ends-bytes z p at cells ps l h = record {
-  cut = at_end (ps.bays ∙ ap (λ (bs : List Block). front cells (group at bs)) (row-end z at l) ∙ ap last (append-nil cells)) (omega (arith, ps.place)) (omega arith);
+  cut = at_end (ps.bays ∙ ap (λ (bs : List Block). front cells (group at bs)) (row-end z at l) ∙ ap last (append-nil cells)) (omega (arith, ps.place)) refl;
   end_is = ps.place;
   inside = h;
   forth = omega (arith, ps.place);
   near = omega arith;
-  row = row [] tt (drop_of_length-le z {i = at + 1} (omega arith));
+  row = row [] tt (drop_of_length-le z {i = suc (length z)} (omega arith));
 }
 
 -- ---- their sum
@@ -169,5 +169,5 @@ module _ (z : List ℕ) (p at n k w sum tail : ℕ) (st : Stepped z at n) (h : I
   pub read-fixed : k ≡ fixed_code → at < length z → Read z p at sum tail (at + n)
   read-fixed e l = record { bay = sn.cells; between = ends-fixed z p at n k st ek sn.cells sn.passed e l; sum_is = sn.sum_is; tail_is = sn.tail_is }
 
-pub read-end : (z : List ℕ) (p at sum tail : ℕ) → Seen z p at sum tail → length z ≤ at → at ≤ length z → Read z p at sum tail (at + 1)
+pub read-end : (z : List ℕ) (p at sum tail : ℕ) → Seen z p at sum tail → length z ≤ at → at ≤ length z → Read z p at sum tail (suc (length z))
 read-end z p at sum tail sn l h = record { bay = sn.cells; between = ends-bytes z p at sn.cells sn.passed l h; sum_is = sn.sum_is; tail_is = sn.tail_is }

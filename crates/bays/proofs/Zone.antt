@@ -17,7 +17,8 @@ use Rattle.zone.proofs.Places.{Tiled}
 use Rattle.zone.specs.Call.{in_bays}
 use Rattle.zone.proofs.Grouped.{line-bays, whole-bays}
 use Rattle.zone.proofs.Keep.{count-line}
-use Rattle.bays.specs.Places.{bays_of, bays_at}
+use Rattle.bays.specs.Places.{bays_of, bays_at, BayN, own_bay, high_bay}
+use Rattle.bays.proofs.High.{own-last}
 use Rattle.structure.specs.IsZone.{IsZone}
 use Rattle.structure.proofs.IsZone.{whole_of}
 
@@ -63,3 +64,7 @@ module _ (z : List ℕ) (i : IsZone z) (first : ℕ) (ef : first ≡ first_field
     bays = bays-are;
     tiled = tiled-is;
   }
+
+  -- what the search for a block beyond all bays answers
+  pub last-bay : (t : ℕ) → t ≡ length z → (w : BayN) → w ≡ own_bay t first (bays_at z first) → w ≡ high_bay 0 first (bays_at z first)
+  last-bay t e w q = q ∙ ap (λ (k : ℕ). own_bay k first (bays_at z first)) e ∙ own-last (length z) (bays_at z first) first tiled-is

@@ -1,5 +1,5 @@
 -- The bays of bytes, and the places among them that the searches answer.
-use Rattle.std.specs.Prelude.{List, Bool, true, false, cond, ℕ, ◌+◌, leb, ltb, drop}
+use Rattle.std.specs.Prelude.{List, Bool, true, false, cond, ℕ, ◌+◌, leb, ltb, drop, Option, Some, None}
 use Rattle.calls.specs.Bays.{Bays, last, more}
 use Rattle.calls.specs.State.{Fixed, fsize}
 use Rattle.bay.specs.Bay.{Cell, bay_size, bay_sum}
@@ -7,6 +7,7 @@ pub use Rattle.bay.specs.Ends.{free_part, end_free}
 use Rattle.access.specs.row.Row.{blocks_of}
 use Rattle.structure.specs.Structure.{Structure, start}
 use Rattle.zone.specs.Group.{group}
+use Rattle.bays.specs.declared.Bay.{Bay}
 
 -- the bays of a structure
 abbrev pub bays_of : Structure → Bays (List Cell) Fixed
@@ -29,6 +30,14 @@ bay_n f a e s t = record { found = f; start = a; end = e; sum = s; tail = t }
 
 abbrev pub no_bay : BayN
 no_bay = bay_n false 0 0 0 0
+
+-- as a search answers it
+abbrev pub bay_of : Bay → BayN
+bay_of b = bay_n true b.start b.end b.sum b.tail
+
+abbrev pub bay_found : Option Bay → BayN
+bay_found None = no_bay
+bay_found (Some b) = bay_of b
 
 -- the bay b, which begins at p
 abbrev pub bay_at : ℕ → List Cell → BayN

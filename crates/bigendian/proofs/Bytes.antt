@@ -8,9 +8,6 @@ use lib.Seq.{sets, get_or-drop, take-append_seam, drop-append_seam, length-take-
 use Rattle.bigendian.specs.BigEndian.{from_be, to_be, Bytes}
 use Rattle.bigendian.proofs.Laws.{be-lt, to_be-be}
 
-pub bytes-none : Bytes []
-bytes-none i = omega arith
-
 pub bytes_take : (n : ℕ) (s : List ℕ) → Bytes s → Bytes (take n s)
 bytes_take zero s h i = omega arith
 bytes_take (suc n) [] h i = omega arith

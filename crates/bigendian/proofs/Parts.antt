@@ -1,5 +1,5 @@
 -- Parts of a list: how long a part is, a part of a part, two parts one behind the other; parts of zeros.
-use mathlib.Core.Path.{◌≡◌, refl, sym, ap, ◌∙◌}
+use mathlib.Core.Path.{◌≡◌, sym, ap, ◌∙◌}
 use mathlib.Core.List.{List, [], ◌∷◌, ◌++◌}
 use Prim.Native.Nat.{ℕ, zero, suc, ◌+◌, ◌-◌, ◌<◌, ◌≤◌}
 use native.Mathlib.Nat.{sub-zero, zero-sub, suc-sub-suc}
@@ -7,6 +7,7 @@ use native.Mathlib.Numerals.{sub-one}
 use native.Mathlib.Omega.{arith}
 use lib.ListN.{length, take, drop, replicate, length-take, length-drop, take-append-drop}
 use lib.Seq.{take-take, take-nil, take-add, drop-drop}
+use Rattle.std.proofs.lemmas.List.{take-replicate, drop-replicate}
 use Rattle.bigendian.specs.BigEndian.{slice}
 
 pub length-slice : (s : List ℕ) (at n : ℕ) → at + n ≤ length s → length (slice s at n) ≡ n
@@ -36,12 +37,8 @@ slice-rest s k n = sym (ap (slice s k n ++◌) (sym (drop-drop n k s)) ∙ take-
 -- ---- zeros
 
 pub take-zeros : (k n : ℕ) → k ≤ n → take {A = ℕ} k (replicate n 0) ≡ replicate k 0
-take-zeros zero n l = refl
-take-zeros (suc k) zero l = let x : ⊥ = omega arith in absurd x
-take-zeros (suc k) (suc n) l = ap (λ (t : List ℕ). 0 ∷ t) (take-zeros k n (omega arith))
+take-zeros k n l = take-replicate k n 0 l
 
 -- the zeros of a free block, less some
 pub drop-zeros : (k n : ℕ) → drop {A = ℕ} k (replicate n 0) ≡ replicate (n - k) 0
-drop-zeros zero n = let e : n - 0 ≡ n = omega arith in rw e
-drop-zeros (suc k) zero = let e : 0 - suc k ≡ 0 = omega arith in rw e
-drop-zeros (suc k) (suc n) = let e : suc n - suc k ≡ n - k = omega arith in rw e (drop-zeros k n)
+drop-zeros k n = drop-replicate k n 0

@@ -1,23 +1,27 @@
 -- The laws of a block's word: the number in its first four bytes has its type, size and handle.
 use mathlib.Core.Path.{◌≡◌, sym, ◌∙◌}
 use mathlib.Core.List.{List}
-use mathlib.Core.Bool.{Bool, true, false, ◌&&◌}
+use mathlib.Core.Bool.{Bool, true}
 use Prim.Native.Nat.{ℕ, ◌+◌, ◌*◌, ◌-◌, ◌/◌, ◌%◌, ◌<◌, ◌≤◌}
 use native.Mathlib.Omega.{arith}
 use mir.Val.{Fits}
 use mir.Syntax.{w8}
-use lib.Dec.{eqb, leb, ltb}
-use borrow.Author.Tests.{eq-eqb, leb-true, ltb-true, eqb-true, le-leb}
+use lib.Dec.{eqb, leb}
+use borrow.Author.Tests.{eq-eqb, ne_eqb, leb-true, le-leb}
 use lib.ListN.{length, get_or, take, drop, length-drop, drop_of_length-le}
 use lib.Seq.{drop-drop}
 use Rattle.block_type.specs.Limits.{reloc_code, reloc_header, type_unit, handle_range, zone_header, master_size, smallest_block, tag_at}
+use Rattle.block_type.specs.Types.{type_code}
+use Rattle.block_type.specs.declared.BlockType.{BlockType}
+use Rattle.block_type.specs.declared.BlockType.TheVariants.{Relocatable}
+use Rattle.block_type.proofs.Types.{same, reloc-yes}
 use Rattle.bigendian.specs.BigEndian.{from_be, slice}
 use Rattle.bigendian.proofs.Laws.{be2-at, be4-at}
 use Rattle.format.proofs.Bool.{and_left, and_right}
 use Rattle.format.proofs.Walk.{first-rule, turn}
-use Rattle.format.specs.WellFormed.{type_of, size_of, handle_of, is_free, is_reloc, is_page, is_master, master_at}
+use Rattle.format.specs.WellFormed.{type_of, size_of, handle_of, is_master, master_at}
 use Rattle.format.specs.OneWalk.{type_rule, reloc_rule, block_ok}
-use Rattle.format.specs.Steps.{GoodSize, Turn}
+use Rattle.format.specs.Steps.{Turn}
 use Rattle.block_check.specs.Word.{type_word, IsWord, IsHeader, held, GoodBlock}
 use Rattle.block_check.proofs.Leaves.{kind-law, size-free, size-used}
 
@@ -60,24 +64,17 @@ word_size z at w n i k e = e ∙ size-used (drop at z) reloc_code (w / handle_ra
 
 -- ---- a good relocatable block
 
--- the test of its handle h, and what it says
-abbrev pub in_table : ℕ → ℕ → Bool
-in_table first h = leb zone_header h && ltb h first
+pub fast-fits : (z : List ℕ) (first w h : ℕ) → h < first → w % 4 ≡ 0 → h ≡ w % handle_range → first % 4 ≡ 0 → first ≤ length z → h + master_size ≤ length z
+fast-fits z first w h q f e g l = omega arith
 
-past-header : (first h : ℕ) → in_table first h ≡ true → zone_header ≤ h
-past-header first h q = leb-true zone_header h (and_left (leb zone_header h) _ q)
+pub held-law : (z : List ℕ) (at n h v : ℕ) → v ≡ from_be (slice z h 4) → v ≡ at + reloc_header → leb n (length z - at) ≡ held z at n h
+held-law z at n h v e q = rw (← e, eq-eqb v (at + reloc_header) q)
 
-before-blocks : (first h : ℕ) → in_table first h ≡ true → h < first
-before-blocks first h q = ltb-true h first (and_right (leb zone_header h) _ q)
-
-pub fast-fits : (z : List ℕ) (first w h : ℕ) → in_table first h ≡ true → w % 4 ≡ 0 → h ≡ w % handle_range → first % 4 ≡ 0 → first ≤ length z → h + master_size ≤ length z
-fast-fits z first w h q f e g l = omega (arith, before-blocks first h q)
-
-pub held-law : (z : List ℕ) (at n h v : ℕ) → v ≡ from_be (slice z h 4) → (eqb v (at + reloc_header) && leb n (length z - at)) ≡ held z at n h
-held-law z at n h v e = rw e
+pub held-not : (z : List ℕ) (at n h v : ℕ) → v ≡ from_be (slice z h 4) → (v ≡ at + reloc_header → ⊥) → eqb v (at + reloc_header) ≡ held z at n h
+held-not z at n h v e q = rw (← e, ne_eqb v (at + reloc_header) q)
 
 module _ (z : List ℕ) (first at w n h : ℕ) (t : Bool) (et : t ≡ held z at n h) (y : t ≡ true)
-    (q : in_table first h ≡ true) (four-h : w % 4 ≡ 0) (four_n : w / handle_range % 2 ≡ 0) (e : n ≡ size_of (drop at z)) (en : n ≡ w / handle_range % type_unit * 2) (eh : h ≡ handle_of (drop at z)) (ew : h ≡ w % handle_range)
+    (past : zone_header ≤ h) (before : h < first) (four-h : w % 4 ≡ 0) (four_n : w / handle_range % 2 ≡ 0) (e : n ≡ size_of (drop at z)) (en : n ≡ w / handle_range % type_unit * 2) (eh : h ≡ handle_of (drop at z)) (ew : h ≡ w % handle_range)
     (k : type_of (drop at z) ≡ reloc_code) (l : at + smallest_block ≤ length z) (ff : first % 4 ≡ 0) (low : 0 < n) (prev : Bool) where
   both : held z at n h ≡ true
   both = sym et ∙ y
@@ -86,14 +83,13 @@ module _ (z : List ℕ) (first at w n h : ℕ) (t : Bool) (et : t ≡ held z at 
   by-master : block_ok z first prev at (take (size_of (drop at z)) (drop at z)) ≡ eqb (master_at z h) (at + reloc_header)
   unfolding type_rule reloc_rule is_master
   by-master =
-      let hi = before-blocks first h q in
       let fits = leb-true n (length z - at) (and_right (eqb (master_at z h) (at + reloc_header)) _ both) in
       let four : n % 4 ≡ 0 = omega arith in
       rw (
         first-rule z first prev at (drop at z) (omega arith) (rw (← e) four) (omega (arith, length-drop at z)),
         k,
         ← eh,
-        le-leb zone_header h (past-header first h q),
+        le-leb zone_header h past,
         le-leb (h + master_size) first (omega arith),
         eq-eqb (h % 4) 0 (omega arith),
       )
@@ -103,34 +99,15 @@ module _ (z : List ℕ) (first at w n h : ℕ) (t : Bool) (et : t ≡ held z at 
 
 -- ---- w is the word of a relocatable block
 
--- its type, and that size and handle are multiples of 4
-abbrev pub reloc_word : ℕ → Bool
-reloc_word w = eqb (w / type_word) reloc_code && eqb (w % 4) 0 && eqb (w / handle_range % 2) 0
-
-module _ (w : ℕ) (q : reloc_word w ≡ true) where
-  first_two : (eqb (w / type_word) reloc_code && eqb (w % 4) 0) ≡ true
-  first_two = and_left (eqb (w / type_word) reloc_code && eqb (w % 4) 0) _ q
-
+module _ (z : List ℕ) (at w : ℕ) (e : 0 < w → IsWord z at w) (k : BlockType) (ek : type_code k ≡ w / type_word) (t : Bool) (et : t ≡ same k Relocatable) (y : t ≡ true) where
   is_code : w / type_word ≡ reloc_code
-  is_code = eqb-true (w / type_word) reloc_code (and_left (eqb (w / type_word) reloc_code) _ first_two)
+  is_code = sym ek ∙ reloc-yes k t et y
 
-  pub handle-four : w % 4 ≡ 0
-  handle-four = eqb-true (w % 4) 0 (and_right (eqb (w / type_word) reloc_code) _ first_two)
-
-  pub size-four : w / handle_range % 2 ≡ 0
-  size-four = eqb-true (w / handle_range % 2) 0 (and_right (eqb (w / type_word) reloc_code && eqb (w % 4) 0) _ q)
-
-module _ (z : List ℕ) (at w : ℕ) (e : 0 < w → IsWord z at w) (q : reloc_word w ≡ true) where
   pub reloc-word : IsWord z at w
-  reloc-word = e (omega (arith, is_code w q))
+  reloc-word = e (omega (arith, is_code))
 
   pub reloc-type : type_of (drop at z) ≡ reloc_code
-  reloc-type = reloc-word.is_type ∙ is_code w q
+  reloc-type = reloc-word.is_type ∙ is_code
 
-  pub reloc-block : (first n : ℕ) (prev : Bool) → (0 < n → (p : Bool) → Turn z first p at n) → 0 < n → GoodBlock z first prev at n false 1 false
-  unfolding is_free is_reloc is_page
-  reloc-block first n prev t l =
-      let k = reloc-type in
-      let g = t l prev in
-      let s : GoodSize z first prev at n = record { four = g.four; fits = g.fits; bad = λ b. let no_way : ⊥ = omega arith in absurd no_way; good = λ _. g } in
-      record { size = s; free_is = rw k; one_is = rw k; few = omega arith; page_is = rw k }
+  pub reloc-block : (first n : ℕ) (prev : Bool) → ((p : Bool) → Turn z first p at n) → GoodBlock z first prev at Relocatable n
+  reloc-block first n prev f = record { turn = f prev; kind_is = sym reloc-type }

@@ -1,9 +1,12 @@
 -- A block's first four bytes as one number, and what the test of a block by it promises to the loop above.
-use Rattle.std.specs.Prelude.{◌≡◌, List, Bool, cond, ◌&&◌, ℕ, ◌+◌, ◌*◌, ◌-◌, ◌/◌, ◌%◌, ◌<◌, ◌≤◌, eqb, leb, length, take, drop}
+use Rattle.std.specs.Prelude.{◌≡◌, List, Bool, false, ◌&&◌, ℕ, ◌+◌, ◌*◌, ◌-◌, ◌/◌, ◌%◌, ◌<◌, eqb, leb, length, take, drop}
 use Rattle.block_type.specs.Limits.{free_code, reloc_header, type_unit, handle_range}
+use Rattle.block_type.specs.Types.{type_code}
+use Rattle.block_type.specs.declared.BlockType.{BlockType}
 use Rattle.bigendian.specs.BigEndian.{from_be}
-use Rattle.format.specs.WellFormed.{type_of, size_of, handle_of, is_free, is_reloc, is_page, master_at}
-use Rattle.format.specs.Steps.{GoodSize}
+use Rattle.format.specs.WellFormed.{type_of, size_of, handle_of, master_at}
+use Rattle.format.specs.OneWalk.{block_ok}
+use Rattle.format.specs.Steps.{Turn}
 
 -- the type is what stands above the size and the handle
 abbrev pub type_word : ℕ
@@ -25,10 +28,11 @@ pub record IsHeader (z : List ℕ) (at w : ℕ) : Type 0 where
 abbrev pub held : List ℕ → ℕ → ℕ → ℕ → Bool
 held z at n h = eqb (master_at z h) (at + reloc_header) && leb n (length z - at)
 
--- the size, as GoodSize has it, and the type
-pub record GoodBlock (z : List ℕ) (first : ℕ) (prev : Bool) (at n : ℕ) (free : Bool) (one : ℕ) (page : Bool) : Type 0 where
-  pub size : GoodSize z first prev at n
-  pub free_is : free ≡ is_free (drop at z)
-  pub one_is : one ≡ cond (is_reloc (drop at z)) 1 0
-  pub few : one ≤ 1
-  pub page_is : page ≡ is_page (drop at z)
+-- the block at `at` breaks a rule
+abbrev pub IsBadBlock : List ℕ → ℕ → Bool → ℕ → Type 0
+IsBadBlock z first prev at = block_ok z first prev at (take (size_of (drop at z)) (drop at z)) ≡ false
+
+-- it obeys them: its size, as a turn of the walk wants it, and its type
+pub record GoodBlock (z : List ℕ) (first : ℕ) (prev : Bool) (at : ℕ) (kind : BlockType) (n : ℕ) : Type 0 where
+  pub turn : Turn z first prev at n
+  pub kind_is : type_code kind ≡ type_of (drop at z)

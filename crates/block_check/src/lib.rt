@@ -1,36 +1,33 @@
 // One block of a zone: its type, its size, and whether it obeys the rules.
 #![tactic(auto)]
 
-ghost use Rattle.std.specs.Prelude.{◌≡◌, Bool, cond, ◌+◌, ◌*◌, ◌/◌, ◌%◌, ◌<◌, ◌≤◌, length, take, drop};
+ghost use Rattle.std.specs.Prelude.{◌≡◌, Bool, ◌+◌, ◌*◌, ◌/◌, ◌%◌, ◌<◌, ◌≤◌, length, take, drop, MatchOption, IfSome};
 ghost use Rattle.block_type.specs.Limits.{longest_zone, reloc_code, master_size, type_unit, handle_range, smallest_block, argument_range};
+ghost use Rattle.block_type.specs.Types.{type_code};
 ghost use Rattle.bigendian.specs.BigEndian.{from_be, slice};
-ghost use Rattle.format.specs.WellFormed.{type_of, size_of, handle_of, is_free, is_reloc, is_page, is_master};
+ghost use Rattle.format.specs.WellFormed.{type_of, size_of, handle_of, is_free, is_page, is_master};
 ghost use Rattle.format.specs.OneWalk.{free_rule, reloc_rule, page_rule, rule_of};
-ghost use Rattle.format.specs.Steps.{GoodSize, Turn};
-ghost use Rattle.block_check.specs.Word.{type_word, IsWord, IsHeader, held, GoodBlock};
+ghost use Rattle.format.specs.Steps.{Turn};
+ghost use Rattle.block_check.specs.Word.{IsWord, IsHeader, held, IsBadBlock, GoodBlock};
 
 use block_type::BlockType;
 
 // A block's word is the number in its first four bytes: of a relocatable block the type, its size in 2-byte words, the handle.
 const TYPE_UNIT: u32 = BlockType::TYPE_UNIT as u32;
 
-const TYPE_WORD: u32 = TYPE_UNIT * BlockType::HANDLE_RANGE;
-
-const RELOCATABLE_TYPE: u32 = BlockType::RELOCATABLE_CODE as u32;
-
 pub fn is_master(first: usize, h: usize) -> bool
     requires { h < argument_range }
     ensures { result ≡ is_master first h }
 {
-    (block_type::ZONE_HEADER <= h) & (h + block_type::MASTER_SIZE <= first) & (h % 4 == 0)
+    block_type::ZONE_HEADER <= h && h + block_type::MASTER_SIZE <= first && h % 4 == 0
 }
 
 // The type of the block at `at`.
-pub fn type_at(z: &[u8], at: usize) -> u8
+pub fn block_type_at(z: &[u8], at: usize) -> BlockType
     requires { at < length z.now }
-    ensures { result ≡ type_of (drop at z.now) }
+    ensures { type_code result ≡ type_of (drop at z.now) }
 {
-    z[at] / BlockType::TYPE_BYTE_UNIT
+    BlockType::of_byte(z[at])
 }
 
 // The size of the block at `at`, in bytes.
@@ -38,45 +35,33 @@ pub fn size_at(z: &[u8], at: usize) -> usize
     requires { at + smallest_block ≤ length z.now }
     ensures { result ≡ size_of (drop at z.now) }
 {
-    if type_at(z, at) == BlockType::FREE_CODE {
-        return bigendian::get4(z, at) as usize * 2;
+    if block_type_at(z, at) == BlockType::Free {
+        bigendian::get4(z, at) as usize * 2
+    } else {
+        bigendian::get2(z, at) as usize % BlockType::TYPE_UNIT * 2
     }
-    bigendian::get2(z, at) as usize % BlockType::TYPE_UNIT * 2
 }
 
-// 1 for a relocatable block, else 0.
-fn reloc_one(z: &[u8], at: usize) -> usize
-    requires { at < length z.now }
-    ensures { (result ≡ cond (is_reloc (drop at z.now)) 1 0) × (result ≤ 1) }
-{
-    if type_at(z, at) == BlockType::RELOCATABLE_CODE {
-        return 1;
-    }
-    0
-}
-
+// Two functions, since the format has a definition for each: with a type as a parameter each caller would say as much.
 pub fn is_page(z: &[u8], at: usize) -> bool
     requires { at < length z.now }
     ensures { result ≡ is_page (drop at z.now) }
 {
-    type_at(z, at) == BlockType::PAGE_CODE
+    block_type_at(z, at) == BlockType::Page
 }
 
 pub fn is_free(z: &[u8], at: usize) -> bool
     requires { at < length z.now }
     ensures { result ≡ is_free (drop at z.now) }
 {
-    type_at(z, at) == BlockType::FREE_CODE
+    block_type_at(z, at) == BlockType::Free
 }
 
 fn free_ok(z: &[u8], at: usize, n: usize, prev: bool) -> bool
     requires { (smallest_block ≤ n) × (at + n ≤ length z.now) × (length z.now ≤ longest_zone) }
     ensures { result ≡ free_rule prev (take n (drop at z.now)) }
 {
-    if prev {
-        return false;
-    }
-    memory::all_zero(z, at + BlockType::FREE_HEADER, at + n)
+    !prev && memory::all_zero(z, at + BlockType::FREE_HEADER, at + n)
 }
 
 fn reloc_ok(z: &[u8], first: usize, at: usize) -> bool
@@ -84,10 +69,7 @@ fn reloc_ok(z: &[u8], first: usize, at: usize) -> bool
     ensures { result ≡ reloc_rule z.now first at (handle_of (drop at z.now)) }
 {
     let h = bigendian::get2(z, at + BlockType::TAG_AT) as usize;
-    if is_master(first, h) {
-        return bigendian::get4(z, h) as usize == at + BlockType::RELOCATABLE_HEADER;
-    }
-    false
+    is_master(first, h) && bigendian::get4(z, h) as usize == at + BlockType::RELOCATABLE_HEADER
 }
 
 // Whether a page of n bytes at `at` has room for its header, and in its status nothing but the two flags and the stamp.
@@ -95,58 +77,50 @@ fn page_ok(z: &[u8], at: usize, n: usize) -> bool
     requires { (n ≡ size_of (drop at z.now)) × (at + n ≤ length z.now) × (length z.now ≤ longest_zone) }
     ensures { result ≡ page_rule (drop at z.now) }
 {
-    if n < BlockType::PAGE_HEADER {
-        return false;
-    }
-    bigendian::get2(z, at + BlockType::STATUS_AT) % BlockType::LOCK_BIT < BlockType::STAMP_RANGE
+    BlockType::PAGE_HEADER <= n
+        && bigendian::get2(z, at + BlockType::STATUS_AT) % BlockType::LOCK_BIT
+            < BlockType::STAMP_RANGE
 }
 
-// Whether a block of n bytes at `at`, as its header says, obeys the rule of its type. The types are told apart by halves: four tests in a row would
-// become a jump through a table, which takes longer.
+// Whether a block of n bytes at `at`, as its header says, obeys the rule of its type.
 fn rule_ok(z: &[u8], first: usize, prev: bool, at: usize, n: usize) -> bool
     requires { (n ≡ size_of (drop at z.now)) × (smallest_block ≤ n) × (at + n ≤ length z.now) × (first ≤ length z.now) × (length z.now ≤ longest_zone) }
     ensures { result ≡ rule_of (type_of (drop at z.now)) z.now first prev at (take n (drop at z.now)) (drop at z.now) }
 {
-    let k = type_at(z, at);
-    if BlockType::FIXED_CODE < k {
-        if k == BlockType::RELOCATABLE_CODE {
-            return reloc_ok(z, first, at);
-        }
-        if k == BlockType::PAGE_CODE {
-            return page_ok(z, at, n);
-        }
-        return false;
+    match block_type_at(z, at) {
+        BlockType::Free => free_ok(z, at, n, prev),
+        BlockType::Fixed => bigendian::get2(z, at + BlockType::TAG_AT) == 0,
+        BlockType::Relocatable => reloc_ok(z, first, at),
+        BlockType::Page => page_ok(z, at, n),
     }
-    if k == BlockType::FREE_CODE {
-        return free_ok(z, at, n, prev);
-    }
-    bigendian::get2(z, at + BlockType::TAG_AT) == 0
 }
 
-// The size of the block at `at` where it obeys the rules, else 0.
-fn good_size(z: &[u8], first: usize, prev: bool, at: usize) -> usize
+// The size of the block at `at` where it obeys the rules.
+fn good_size(z: &[u8], first: usize, prev: bool, at: usize) -> Option<usize>
     requires { (at + smallest_block ≤ length z.now) × (first ≤ length z.now) × (length z.now ≤ longest_zone) }
-    ensures { GoodSize z.now first prev at result }
+    ensures { MatchOption result (IsBadBlock z.now first prev at) (λ n. Turn z.now first prev at n) }
 {
     let n = size_at(z, at);
-    if !((BlockType::SMALLEST <= n) & (n % 4 == 0) & (n <= z.len() - at)) {
-        return 0;
+    if BlockType::SMALLEST <= n
+        && n % 4 == 0
+        && n <= z.len() - at
+        && rule_ok(z, first, prev, at, n)
+    {
+        return Some(n);
     }
-    if rule_ok(z, first, prev, at, n) {
-        return n;
-    }
-    0
+    None
 }
 
-// The number in the four bytes at `at`; 0 where the zone ends there.
+// The number in the four bytes at `at`; 0 where the zone ends there: no Option, since 0 is no relocatable block's word, and good_block asks nothing else of it.
 pub fn word_at(z: &[u8], at: usize) -> u32
     requires { (at % 4 ≡ 0) × (length z.now % 4 ≡ 0) }
     ensures { (result ≡ from_be (slice z.now at 4)) × (0 < result → IsWord z.now at result) }
 {
     if at < z.len() {
-        return bigendian::get4(z, at);
+        bigendian::get4(z, at)
+    } else {
+        0
     }
-    0
 }
 
 // The word of the block at `at`, of any type.
@@ -157,13 +131,7 @@ pub fn header_at(z: &[u8], at: usize) -> u32
     bigendian::load4(z, at)
 }
 
-// The type of a block whose word is w, and its size where it is free, and where it is not.
-pub fn type_of(w: u32) -> u8
-    ensures { result ≡ w / type_word }
-{
-    (w / TYPE_WORD) as u8
-}
-
+// The size of a block whose word is w, where it is free, and where it is not.
 pub fn free_size(w: u32) -> usize
     ensures { result ≡ w * 2 }
 {
@@ -196,54 +164,49 @@ fn is_held(z: &[u8], at: usize, n: usize, h: usize) -> bool
     requires { (h + master_size ≤ length z.now) × (at ≤ length z.now) × (length z.now ≤ longest_zone) }
     ensures { result ≡ held z.now at n h }
 {
-    (bigendian::get4(z, h) as usize == at + BlockType::RELOCATABLE_HEADER) & (n <= z.len() - at)
+    bigendian::get4(z, h) as usize == at + BlockType::RELOCATABLE_HEADER && n <= z.len() - at
 }
 
-// The size of the relocatable block at `at`, whose word is w, where it obeys the rules. A 0 says nothing: so a test that fails has nothing to set.
+// The size of the relocatable block at `at`, whose word is w, where it obeys the rules. None says nothing: so a test that fails has nothing to set.
 // That size and handle are multiples of 4 is asked of the word: together that is one mask.
-fn reloc_size(z: &[u8], first: usize, at: usize, w: u32) -> usize
+fn reloc_size(z: &[u8], first: usize, at: usize, w: u32) -> Option<usize>
     requires { (at + smallest_block ≤ length z.now) × (first ≤ length z.now) × (first % 4 ≡ 0) × (length z.now ≤ longest_zone) × (IsWord z.now at w) × (type_of (drop at z.now) ≡ reloc_code) × (w % 4 ≡ 0) × (w / handle_range % 2 ≡ 0) }
-    ensures { 0 < result → (prev : Bool) → Turn z.now first prev at result }
+    ensures { IfSome result (λ n. (prev : Bool) → Turn z.now first prev at n) }
 {
     let n = word_size(z, at, w);
     let h = word_handle(z, at, w);
-    if (block_type::ZONE_HEADER <= h) & (h < first) {
-        if is_held(z, at, n, h) {
-            return n;
-        }
+    if block_type::ZONE_HEADER <= h && h < first && is_held(z, at, n, h) && 0 < n {
+        return Some(n);
     }
-    0
+    None
 }
 
+// A block that obeys the rules.
 #[derive(Clone, Copy)]
 pub struct Block {
+    pub kind: BlockType,
     pub size: usize,
-    pub free: bool,
-    pub one: usize,
-    pub page: bool,
 }
 
-// The block at `at`: its size where it obeys the rules, else 0; whether it is free; 1 where it is relocatable, else 0; whether it is a page.
-// w is its word, or 0. A good relocatable block is known by its word; any other is judged by its bytes.
-pub fn good_block(z: &[u8], first: usize, prev: bool, at: usize, w: u32) -> Block
+// The block at `at`, where it obeys the rules. w is its word, or 0. A good relocatable block is known by its word; any other is judged by its bytes.
+pub fn good_block(z: &[u8], first: usize, prev: bool, at: usize, w: u32) -> Option<Block>
     requires { (at + smallest_block ≤ length z.now) × (first ≤ length z.now) × (first % 4 ≡ 0) × (length z.now ≤ longest_zone) × (0 < w → IsWord z.now at w) }
-    ensures { GoodBlock z.now first prev at result.size result.free result.one result.page }
+    ensures { MatchOption result (IsBadBlock z.now first prev at) (λ b. GoodBlock z.now first prev at b.kind b.size) }
 {
-    if (w / TYPE_WORD == RELOCATABLE_TYPE) & (w % 4 == 0) & (w / BlockType::HANDLE_RANGE % 2 == 0) {
-        let n = reloc_size(z, first, at, w);
-        if 0 < n {
-            return Block {
-                size: n,
-                free: false,
-                one: 1,
-                page: false,
-            };
+    if BlockType::of_word(w) == BlockType::Relocatable
+        && w % 4 == 0
+        && w / BlockType::HANDLE_RANGE % 2 == 0
+    {
+        if let Some(size) = reloc_size(z, first, at, w) {
+            return Some(Block {
+                kind: BlockType::Relocatable,
+                size,
+            });
         }
     }
-    Block {
-        size: good_size(z, first, prev, at),
-        free: is_free(z, at),
-        one: reloc_one(z, at),
-        page: is_page(z, at),
-    }
+    let size = good_size(z, first, prev, at)?;
+    Some(Block {
+        kind: block_type_at(z, at),
+        size,
+    })
 }

@@ -1,12 +1,13 @@
-// The block types of a zone: type codes, header lengths and largest data sizes, as the type's own constants; and the zone's own numbers beside them.
-// Each is tied to the definition's number by a function that returns it.
+// What the blocks of a zone are, with the type's numbers as its own constants; and the zone's own numbers beside them.
+// A type's code, header and limit are tied to the definitions by the methods' clauses, every other number by its theorem in proofs/Constants.antt.
 #![tactic(auto)]
 
-ghost use Rattle.std.specs.Prelude.{◌≡◌};
-ghost use Rattle.block_type.specs.Limits.{free_code, fixed_code, reloc_code, page_code, free_header, fixed_header, reloc_header, page_header, tag_at, status_at, dirty_bit, lock_bit, stamp_range, handle_range, type_byte_unit, type_unit, smallest_block, fixed_limit, reloc_limit, page_limit};
-ghost use Rattle.block_type.specs.Limits.{zone_header, master_size, longest_zone, argument_range, most_masters, added_masters, added_bytes, length_at, first_at, masters_at, chain_at, clock_at, zero_at, record_size, amount_at, strata, limit_size, limits_length, highest_limit};
+ghost use Rattle.std.specs.Prelude.{◌≡◌, ◌≤◌, ◌*◌, ◌/◌};
+ghost use Rattle.block_type.specs.Limits.{page_code, type_byte_unit, type_unit, handle_range};
+ghost use Rattle.block_type.specs.Types.{type_code, type_header, type_limit, type_need, movable};
 
-#[derive(Clone, Copy)]
+/// What a block is: its first two bits say it.
+#[derive(Clone, Copy, Debug, PartialEq, Eq)]
 pub enum BlockType {
     Free,
     Fixed,
@@ -21,12 +22,12 @@ impl BlockType {
 
     pub const RELOCATABLE_CODE: u8 = 2;
 
-    // document 02, U5: "A named block has type 3"
+    // "A named block has type 3"
     pub const PAGE_CODE: u8 = 3;
 
     pub const FREE_HEADER: usize = 4;
 
-    // document 02, U6: "A fixed block's header becomes 4 bytes"
+    // "A fixed block's header becomes 4 bytes"
     pub const FIXED_HEADER: usize = 4;
 
     pub const RELOCATABLE_HEADER: usize = 4;
@@ -54,6 +55,9 @@ impl BlockType {
     // "14-bit size in words": the type is what stands above 14 bits of its first two bytes
     pub const TYPE_UNIT: usize = 16384;
 
+    // of its first four bytes, behind the size the handle
+    pub const TYPE_WORD: u32 = BlockType::TYPE_UNIT as u32 * BlockType::HANDLE_RANGE;
+
     // "Sizes include the header, are multiples of 4 and at least 4"
     pub const SMALLEST: usize = 4;
 
@@ -64,124 +68,87 @@ impl BlockType {
 
     pub const PAGE_LIMIT: u32 = 32756;
 
-    pub fn free_code() -> u8
-        ensures { result ≡ free_code }
+    /// The type of a block whose first byte this is.
+    pub fn of_byte(byte: u8) -> BlockType
+        ensures { type_code result ≡ byte / type_byte_unit }
     {
-        BlockType::FREE_CODE
+        BlockType::of_code(byte / BlockType::TYPE_BYTE_UNIT)
     }
 
-    pub fn fixed_code() -> u8
-        ensures { result ≡ fixed_code }
+    /// The type of a block whose first four bytes are this number.
+    pub fn of_word(word: u32) -> BlockType
+        ensures { type_code result ≡ word / (type_unit * handle_range) }
     {
-        BlockType::FIXED_CODE
+        BlockType::of_code((word / BlockType::TYPE_WORD) as u8)
     }
 
-    pub fn relocatable_code() -> u8
-        ensures { result ≡ reloc_code }
+    // Two bits say nothing else.
+    fn of_code(code: u8) -> BlockType
+        requires { code ≤ page_code }
+        ensures { type_code result ≡ code }
     {
-        BlockType::RELOCATABLE_CODE
+        // by halves, and no match: that costs a walk three instructions a block more, a tenth
+        if code <= BlockType::FIXED_CODE {
+            if code == BlockType::FREE_CODE {
+                BlockType::Free
+            } else {
+                BlockType::Fixed
+            }
+        } else if code == BlockType::RELOCATABLE_CODE {
+            BlockType::Relocatable
+        } else {
+            BlockType::Page
+        }
     }
 
-    pub fn page_code() -> u8
-        ensures { result ≡ page_code }
+    /// The number in a block's first two bits.
+    pub fn code(self) -> u8
+        ensures { result ≡ type_code self }
     {
-        BlockType::PAGE_CODE
+        match self {
+            BlockType::Free => BlockType::FREE_CODE,
+            BlockType::Fixed => BlockType::FIXED_CODE,
+            BlockType::Relocatable => BlockType::RELOCATABLE_CODE,
+            BlockType::Page => BlockType::PAGE_CODE,
+        }
     }
 
-    pub fn free_header() -> usize
-        ensures { result ≡ free_header }
+    /// Whether blocks of this type slide.
+    pub fn is_movable(self) -> bool
+        ensures { result ≡ movable self }
     {
-        BlockType::FREE_HEADER
+        matches!(self, BlockType::Relocatable | BlockType::Page)
     }
 
-    pub fn fixed_header() -> usize
-        ensures { result ≡ fixed_header }
+    /// How many bytes stand before a block's data.
+    pub fn header(self) -> usize
+        ensures { result ≡ type_header self }
     {
-        BlockType::FIXED_HEADER
+        match self {
+            BlockType::Free => BlockType::FREE_HEADER,
+            BlockType::Fixed => BlockType::FIXED_HEADER,
+            BlockType::Relocatable => BlockType::RELOCATABLE_HEADER,
+            BlockType::Page => BlockType::PAGE_HEADER,
+        }
     }
 
-    pub fn relocatable_header() -> usize
-        ensures { result ≡ reloc_header }
+    /// The largest data size that may be asked for: 0 for free blocks, which nobody asks for.
+    pub fn limit(self) -> u32
+        ensures { result ≡ type_limit self }
     {
-        BlockType::RELOCATABLE_HEADER
+        match self {
+            BlockType::Free => 0,
+            BlockType::Fixed => BlockType::FIXED_LIMIT,
+            BlockType::Relocatable => BlockType::RELOCATABLE_LIMIT,
+            BlockType::Page => BlockType::PAGE_LIMIT,
+        }
     }
 
-    pub fn page_header() -> usize
-        ensures { result ≡ page_header }
+    /// How many bytes a block of c data bytes has, its header with them.
+    pub fn need(self, c: u32) -> usize
+        ensures { result ≡ type_need self c }
     {
-        BlockType::PAGE_HEADER
-    }
-
-    pub fn tag_at() -> usize
-        ensures { result ≡ tag_at }
-    {
-        BlockType::TAG_AT
-    }
-
-    pub fn status_at() -> usize
-        ensures { result ≡ status_at }
-    {
-        BlockType::STATUS_AT
-    }
-
-    pub fn dirty_bit() -> u32
-        ensures { result ≡ dirty_bit }
-    {
-        BlockType::DIRTY_BIT
-    }
-
-    pub fn lock_bit() -> u32
-        ensures { result ≡ lock_bit }
-    {
-        BlockType::LOCK_BIT
-    }
-
-    pub fn stamp_range() -> u32
-        ensures { result ≡ stamp_range }
-    {
-        BlockType::STAMP_RANGE
-    }
-
-    pub fn handle_range() -> u32
-        ensures { result ≡ handle_range }
-    {
-        BlockType::HANDLE_RANGE
-    }
-
-    pub fn type_byte_unit() -> u8
-        ensures { result ≡ type_byte_unit }
-    {
-        BlockType::TYPE_BYTE_UNIT
-    }
-
-    pub fn type_unit() -> usize
-        ensures { result ≡ type_unit }
-    {
-        BlockType::TYPE_UNIT
-    }
-
-    pub fn smallest() -> usize
-        ensures { result ≡ smallest_block }
-    {
-        BlockType::SMALLEST
-    }
-
-    pub fn fixed_limit() -> u32
-        ensures { result ≡ fixed_limit }
-    {
-        BlockType::FIXED_LIMIT
-    }
-
-    pub fn relocatable_limit() -> u32
-        ensures { result ≡ reloc_limit }
-    {
-        BlockType::RELOCATABLE_LIMIT
-    }
-
-    pub fn page_limit() -> u32
-        ensures { result ≡ page_limit }
-    {
-        BlockType::PAGE_LIMIT
+        (self.header() + c as usize + 3) / 4 * 4
     }
 }
 
@@ -202,7 +169,7 @@ pub const MOST_MASTERS: usize = 8188;
 // "Arguments are unsigned 32-bit": every argument, a name too, is below
 pub const ARGUMENT_RANGE: u64 = 4294967296;
 
-// document 02, U3: "eight masters are added", for which the first bay gives up "32 bytes"
+// "eight masters are added", for which the first bay gives up "32 bytes"
 pub const ADDED_MASTERS: usize = 8;
 
 pub const ADDED_BYTES: usize = 32;
@@ -219,7 +186,7 @@ pub const MASTERS_AT: usize = 8;
 // "at 12 hFstFree, offset of the first free master, 0 for none (2)"
 pub const CHAIN_AT: usize = 12;
 
-// document 02, U5: "Header byte 14 becomes a clock, byte 15 remains zero"
+// "Header byte 14 becomes a clock, byte 15 remains zero"
 pub const CLOCK_AT: usize = 14;
 
 pub const ZERO_AT: usize = 15;
@@ -229,7 +196,7 @@ pub const RECORD_SIZE: usize = 8;
 
 pub const AMOUNT_AT: usize = 4;
 
-// a census: "i from 0 to 18"; document 02, U7: "76 bytes: nineteen 4-byte limits in words", "the last is at most 524,288"
+// a census: "i from 0 to 18"; "76 bytes: nineteen 4-byte limits in words", "the last is at most 524,288"
 pub const STRATA: usize = 19;
 
 pub const LIMIT_SIZE: usize = 4;
@@ -237,117 +204,3 @@ pub const LIMIT_SIZE: usize = 4;
 pub const LIMITS_LENGTH: usize = 76;
 
 pub const HIGHEST_LIMIT: u32 = 524288;
-
-pub fn zone_header() -> usize
-    ensures { result ≡ zone_header }
-{
-    ZONE_HEADER
-}
-
-pub fn master_size() -> usize
-    ensures { result ≡ master_size }
-{
-    MASTER_SIZE
-}
-
-pub fn longest_zone() -> usize
-    ensures { result ≡ longest_zone }
-{
-    LONGEST_ZONE
-}
-
-pub fn argument_range() -> u64
-    ensures { result ≡ argument_range }
-{
-    ARGUMENT_RANGE
-}
-
-pub fn most_masters() -> usize
-    ensures { result ≡ most_masters }
-{
-    MOST_MASTERS
-}
-
-pub fn added_masters() -> usize
-    ensures { result ≡ added_masters }
-{
-    ADDED_MASTERS
-}
-
-pub fn added_bytes() -> usize
-    ensures { result ≡ added_bytes }
-{
-    ADDED_BYTES
-}
-
-pub fn length_at() -> usize
-    ensures { result ≡ length_at }
-{
-    LENGTH_AT
-}
-
-pub fn first_at() -> usize
-    ensures { result ≡ first_at }
-{
-    FIRST_AT
-}
-
-pub fn masters_at() -> usize
-    ensures { result ≡ masters_at }
-{
-    MASTERS_AT
-}
-
-pub fn chain_at() -> usize
-    ensures { result ≡ chain_at }
-{
-    CHAIN_AT
-}
-
-pub fn clock_at() -> usize
-    ensures { result ≡ clock_at }
-{
-    CLOCK_AT
-}
-
-pub fn zero_at() -> usize
-    ensures { result ≡ zero_at }
-{
-    ZERO_AT
-}
-
-pub fn record_size() -> usize
-    ensures { result ≡ record_size }
-{
-    RECORD_SIZE
-}
-
-pub fn amount_at() -> usize
-    ensures { result ≡ amount_at }
-{
-    AMOUNT_AT
-}
-
-pub fn strata() -> usize
-    ensures { result ≡ strata }
-{
-    STRATA
-}
-
-pub fn limit_size() -> usize
-    ensures { result ≡ limit_size }
-{
-    LIMIT_SIZE
-}
-
-pub fn limits_length() -> usize
-    ensures { result ≡ limits_length }
-{
-    LIMITS_LENGTH
-}
-
-pub fn highest_limit() -> u32
-    ensures { result ≡ highest_limit }
-{
-    HIGHEST_LIMIT
-}

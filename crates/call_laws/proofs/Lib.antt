@@ -3,3 +3,4 @@ pub mod Accepted
 pub mod Frame
 pub mod Named
 pub mod Placed
+pub mod Refused

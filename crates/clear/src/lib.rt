@@ -8,27 +8,26 @@ ghost use Rattle.structure.specs.IsZone.{IsZone};
 ghost use Rattle.clear.specs.Cleared.{cleared};
 
 use access::row;
+use access::rows::Placed;
 use slide::blank;
 use turn::rank;
 
-// Frees them in a well-formed zone. prev is where the block before `at` starts, a free one that was just made too.
-pub fn clear(z: &mut [u8], first: usize, clock: u8, t: u64)
+// Frees them in a well-formed zone. prev is where the block before `at` starts, a free one that was just made too. An iterator over the blocks would
+// borrow the bytes that the loop writes.
+pub fn clear(z: &mut [u8], first: usize, clock: u8, limit: u64)
     requires { IsZone z.old × (first ≡ first_field z.old) }
-    ensures { z.new ≡ encode (cleared clock t (decode_zone z.old)) }
+    ensures { z.new ≡ encode (cleared clock limit (decode_zone z.old)) }
 {
     let mut prev = first;
     let mut at = first;
     while at < z.len() {
-        let n = row::step(z, at);
-        let end = at + n;
-        let gone = rank::goes(z, at, n, clock, t);
-        if gone {
-            let e = free_block::find_extent(z, prev, at, end);
-            let from = e.from;
-            let to = e.to;
-            blank::blank_between(z, from, at, end, to);
-            prev = from;
-            at = to;
+        let size = row::step(z, at);
+        let end = at + size;
+        if rank::goes(z, Placed { at, size }, clock, limit) {
+            let extent = free_block::find_extent(z, prev, at, end);
+            blank::write_free(z, extent);
+            prev = extent.from;
+            at = extent.to;
         } else {
             prev = at;
             at = end;

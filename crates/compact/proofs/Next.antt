@@ -1,12 +1,16 @@
 -- The walk that compacts one bay stops where the bay ends.
 use mathlib.Core.Path.{◌≡◌, refl, sym, ap, ◌∙◌, subst}
-use mathlib.Core.Bool.{Bool, true, false}
+use mathlib.Core.Bool.{Bool, true, false, not}
 use mathlib.Core.List.{List, [], ◌++◌}
 use Prim.Native.Nat.{ℕ, suc, ◌+◌, ◌-◌, ◌<◌, ◌≤◌}
 use native.Mathlib.Omega.{arith}
 use borrow.Author.Tests.{eq-eqb, ne_eqb, lt-ltb, le-ltb, ltb-true, ltb-false}
 use lib.Dec.{ltb}
 use lib.ListN.{length, drop}
+use Rattle.block_type.specs.Types.{type_code}
+use Rattle.block_type.specs.declared.BlockType.{BlockType}
+use Rattle.block_type.specs.declared.BlockType.TheVariants.{Fixed}
+use Rattle.block_type.proofs.Types.{same, fixed-test}
 use Rattle.block_type.specs.Limits.{smallest_block, fixed_code, master_size}
 use Rattle.format.specs.WellFormed.{type_of, size_of}
 use Rattle.bay.specs.Bay.{Cell, bay_sum, gap, compact_bay}
@@ -23,9 +27,16 @@ module _ (z : List ℕ) (at : ℕ) where
   unfolding goes_on
   on-end l = rw (le-ltb at (length z) l)
 
+  pub on-past : length z ≤ at → ltb at (length z) ≡ goes_on z at
+  on-past l = le-ltb at (length z) l ∙ on-end l
+
   pub on-fixed : (t : ℕ) → at < length z → t ≡ type_of (drop at z) → t ≡ fixed_code → false ≡ goes_on z at
   unfolding goes_on
   on-fixed t l et q = rw (lt-ltb at (length z) l, ← et, eq-eqb t fixed_code q)
+
+  pub on-block : (k : BlockType) (t : Bool) → at < length z → type_code k ≡ type_of (drop at z) → t ≡ not (same k Fixed) → t ≡ goes_on z at
+  unfolding goes_on
+  on-block k t l ek e = rw (lt-ltb at (length z) l, ← ek) (e ∙ ap not (fixed-test k (same k Fixed) refl))
 
   pub on-cell : (t : ℕ) → at < length z → t ≡ type_of (drop at z) → (t ≡ fixed_code → ⊥) → true ≡ goes_on z at
   unfolding goes_on

@@ -1,4 +1,3 @@
 pub mod Compacted
 pub mod Next
 pub mod Packed
-pub mod Ready

@@ -1,42 +1,27 @@
 // Compact: every bay, its relocatable blocks and pages at its start and one free block behind them.
 #![tactic(auto)]
 
-ghost use Rattle.std.specs.Prelude.{◌≡◌, max, take};
+ghost use Rattle.std.specs.Prelude.{◌≡◌};
 ghost use Rattle.format.specs.WellFormed.{first_field};
 ghost use Rattle.compact.specs.Next.{goes_on, next_after, Ended, BayNext, BayCompacted};
 ghost use Rattle.structure.specs.Structure.{encode, decode_zone};
 ghost use Rattle.compact.specs.Compacted.{compacted, largest};
-ghost use Rattle.call_laws.specs.Frame.{Planned};
-ghost use Rattle.compact.specs.Ready.{Ready};
-ghost use Rattle.calls.specs.Calls.{told, compact};
+ghost use Rattle.calls.specs.Calls.{compact};
+ghost use Rattle.calls.specs.Refusals.{answer_of};
 ghost use Rattle.zone.specs.Call.{result_of, call};
 ghost use Rattle.structure.specs.IsZone.{IsZone};
 
+use access::Zone;
 use block_type::BlockType;
-use calls::Told;
+use calls::Refusal;
 use slide::run;
 use slide::run::Run;
-
-fn larger_of(a: usize, b: usize) -> usize
-    ensures { result ≡ max a b }
-{
-    if a < b {
-        return b;
-    }
-    a
-}
 
 // Whether a bay that has come to `at` goes on there: neither the bytes' end nor a fixed block ends it.
 fn goes_on(z: &[u8], at: usize) -> bool
     ensures { result ≡ goes_on z.now at }
 {
-    if at < z.len() {
-        if block_check::type_at(z, at) == BlockType::FIXED_CODE {
-            return false;
-        }
-        return true;
-    }
-    false
+    at < z.len() && block_check::block_type_at(z, at) != BlockType::Fixed
 }
 
 // Where the next bay begins, behind a bay that ends at `at`, or one more than the bytes' number behind the last.
@@ -57,7 +42,8 @@ struct BayDone {
     next: usize,
 }
 
-// Compacts the bay that begins at a, in one walk.
+// Compacts the bay that begins at a, in one walk, which finds the bay's end as it goes (and writes, so it can't be an iterator). slide::compact_bay is
+// the same walk up to an end that is known: as one function, with a test that is handed in, its contract would have to speak of all the bytes between.
 fn compact_next(z: &mut [u8], a: usize) -> BayDone
     requires { BayNext z.old a }
     ensures { BayCompacted z.old a z.new result.sum result.next }
@@ -87,56 +73,20 @@ fn compact_all(z: &mut [u8], first: usize) -> usize
     let mut at = first;
     let mut best = 0;
     while at <= z.len() {
-        let b = compact_next(z, at);
-        let sum = b.sum;
-        let next = b.next;
-        best = larger_of(best, sum);
-        at = next;
+        let done = compact_next(z, at);
+        best = best.max(done.sum);
+        at = done.next;
     }
     best
 }
 
-#[derive(Clone, Copy)]
-pub struct CompactPlan {
-    pub number: u32,
-    pub len: usize,
-    pub first: usize,
-}
-
-// The plan: 1 where the zone is not well-formed.
-fn plan(zone: &[u8]) -> CompactPlan
-    ensures { Planned compact zone.now result.number result.len (Ready (take result.len zone.now) result) }
+// Compacts every bay. Answers the largest sum.
+pub fn compact(zone: &mut [u8]) -> Result<u32, Refusal>
+    ensures { result_of (answer_of result) zone.new ≡ call compact zone.old }
 {
-    let k = zone_check::check(zone);
-    let ok = k.ok;
-    if !ok {
-        return CompactPlan {
-            number: 1,
-            len: 0,
-            first: 0,
-        };
-    }
-    let l = bigendian::get4(zone, block_type::LENGTH_AT) as usize;
-    let first = bigendian::get4(zone, block_type::FIRST_AT) as usize;
-    CompactPlan {
-        number: 0,
-        len: l,
-        first,
-    }
-}
-
-// Compacts every bay. Answers the refusal number, 0 if done, and the largest sum.
-pub fn compact(zone: &mut [u8]) -> Told
-    ensures { result_of (told result.number result.value) zone.new ≡ call compact zone.old }
-{
-    let p = plan(zone);
-    let number = p.number;
-    let l = p.len;
-    let first = p.first;
-    if number == 0 {
-        let best = compact_all(&mut zone[..l], first);
-        let value = best as u32;
-        return Told { number: 0, value };
-    }
-    Told { number, value: 0 }
+    let z = Zone::open(zone)?;
+    let first = z.first_block();
+    let len = z.bytes.len();
+    let best = compact_all(&mut zone[..len], first);
+    Ok(best as u32)
 }

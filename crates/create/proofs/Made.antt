@@ -6,7 +6,7 @@ use Prim.Native.Nat.{ℕ, ◌+◌, ◌-◌, ◌≤◌}
 use native.Mathlib.Omega.{arith}
 use mir.Val.{Fits}
 use mir.Syntax.{w8, w32}
-use borrow.Author.Tests.{eq-eqb, ne_eqb, leb-true, not-false}
+use borrow.Author.Tests.{eq-eqb, leb-true, not-false}
 use lib.Dec.{leb}
 use lib.ListN.{length, get_or, take, drop, replicate}
 use Rattle.block_type.specs.Limits.{page_header, page_need, up4, first_block}
@@ -23,7 +23,7 @@ use Rattle.structure.specs.Structure.{Block, Structure, start, count, place_of, 
 use Rattle.structure.specs.Valid.{Valid}
 use Rattle.zone.specs.Group.{flatten}
 use Rattle.zone.specs.Work.{Zone, make_room, place_low, data_offset}
-use Rattle.zone.specs.Call.{in_line, result_of, call, call_with}
+use Rattle.zone.specs.Call.{in_line, result_of, call}
 use Rattle.zone.proofs.Keep.{Whole, valid-line, many-strip}
 use Rattle.zone.proofs.Grouped.{work-whole}
 use Rattle.zone.proofs.Dropping.{room-made}
@@ -33,16 +33,21 @@ use Rattle.access.proofs.Among.{name-place}
 use Rattle.bays.specs.Places.{bays_of}
 use Rattle.room.specs.place.Fit.{blank_page}
 use Rattle.room.specs.place.Room.{Stands}
-use Rattle.room.specs.declared.place.Site.{Site}
 use Rattle.turn.specs.Turn.{bayed}
 use Rattle.clear.specs.Cleared.{cleared}
-use Rattle.call_laws.specs.Frame.{Planned, refusal, ready, Does}
-use Rattle.call_laws.proofs.Frame.{frame-ready, frame-done}
+use Rattle.access.specs.Checked.{Opened}
+use Rattle.access.specs.declared.opened.Zone.{Zone as ZoneType}
+use Rattle.call_laws.specs.Frame.{Does}
+use Rattle.call_laws.proofs.Refused.{zone-opened}
+use Rattle.create.specs.declared.CreatePlan.{CreatePlan}
 use Rattle.pages.proofs.Page.{name-alone, its-place}
-use Rattle.create.specs.Created.{created, made, RoomFor, ReadyIn, ValueBeside}
+use Rattle.create.specs.Created.{created, made, limit_in, RoomFor, Ready}
 use Rattle.create.proofs.Room.{whole_in, bays-left, left_is}
 
-module _ (z : List ℕ) (n c limit : ℕ) (r : Site) (x : ReadyIn z n c limit r) where
+module _ (z : List ℕ) (n c : ℕ) (p : CreatePlan) (x : Ready z n c p) where
+  abbrev limit : ℕ
+  limit = limit_in p
+
   abbrev s : Structure
   s = decode_zone z
 
@@ -68,12 +73,11 @@ module _ (z : List ℕ) (n c limit : ℕ) (r : Site) (x : ReadyIn z n c limit r)
       let q : below (max_s bay_sum (make_room need u).bays) need ≡ false = room-made need u whole-u.apart.apart (or_left _ _ (passed (on_page n (create_page c)) u (x.passed (length z)) 5 refl)) in
       leb-true need (max_s bay_sum (bays_of s₁)) (ap (λ (b : Bays (List Cell) Fixed). leb need (max_s bay_sum b)) bays₁ ∙ not-false _ q)
 
-  pub room_for : (k : ℕ) → k ≡ page_need c → RoomFor z k limit r
+  pub room_for : (k : ℕ) → k ≡ page_need c → RoomFor z k p
   room_for k e = record {
     zone = x.zone;
     page = record { size = record { low = omega (arith, x.small); high = omega (arith, x.small); four = omega arith }; header = omega arith };
-    there = λ f. rw e (x.there f);
-    stay = x.stay;
+    there = rw e x.there;
     enough = rw e enough;
   }
 
@@ -97,7 +101,7 @@ module _ (z : List ℕ) (n c limit : ℕ) (r : Site) (x : ReadyIn z n c limit r)
 
   -- ---- the bytes
 
-  module _ (z₁ : List ℕ) (e₁ : z₁ ≡ encode (cleared (decode_zone z).clock limit (decode_zone z))) where
+  module _ (z₁ : List ℕ) (e₁ : z₁ ≡ encode (cleared (decode_zone z).clock (limit_in p) (decode_zone z))) where
     back₁ : decode_zone z₁ ≡ s₁
     back₁ = left_is z x.zone limit z₁ e₁
 
@@ -120,22 +124,14 @@ module _ (z : List ℕ) (n c limit : ℕ) (r : Site) (x : ReadyIn z n c limit r)
 
 -- ---- the call
 
-module _ (s : List ℕ) (n c number value l limit : ℕ) (r : Site) (p : Planned (on_page n (create_page c)) s number l (ReadyIn (take l s) n c limit r)) where
-  pub create-ready : number ≡ 0 → ReadyIn (take l s) n c limit r
-  create-ready q = frame-ready (on_page n (create_page c)) s number l _ p q
+module _ (s : List ℕ) (z : ZoneType) (o : Opened s z) (n c : ℕ) (p : CreatePlan) (r : Ready z.bytes.now n c p) where
+  -- the plan may be carried out in the buffer's bytes
+  pub create-ready : Ready (take (length z.bytes.now) s) n c p
+  create-ready = rw o.there r
 
-  -- refused, with the value beside the number
-  pub create-no : ValueBeside s n c number value → (number ≡ 0 → ⊥) → result_of (told number value) s ≡ call (on_page n (create_page c)) s
-  create-no b ne = go p
-    where
-      go : Planned (on_page n (create_page c)) s number l (ReadyIn (take l s) n c limit r) → result_of (told number value) s ≡ call (on_page n (create_page c)) s
-      go (refusal q k) = ap (λ (v : ℕ). result_of (told number v) s) b.value_is ∙ sym (ap (λ (j : ℕ). call_with j (on_page n (create_page c)) s) k ∙ rw (ne_eqb number 0 ne))
-      go (ready k w e f r) = absurd (ne k)
+  does : (place : ℕ) → place ≡ data_offset n (made n c z.bytes.now) → Does (on_page n (create_page c)) (length s) z.bytes.now (told 0 place) (in_line (made n c z.bytes.now))
+  does place e = record { passed = r.passed (length s); answer = ap (told 0) (sym e); line = refl }
 
-  module _ (q : number ≡ 0) where
-    does : (place : ℕ) → place ≡ data_offset n (made n c (take l s)) → Does (on_page n (create_page c)) (length s) (take l s) (told 0 place) (in_line (made n c (take l s)))
-    does place e = record { passed = (create-ready q).passed (length s); answer = ap (told 0) (sym e); line = refl }
-
-    pub create-out : (place : ℕ) (y : List ℕ) → ((i : ℕ) → Fits w8 (get_or s i 0)) → Fits w32 n → place ≡ data_offset n (made n c (take l s)) → y ≡ encode (in_line (made n c (take l s)))
-        → result_of (told 0 place) (y ++ drop l s) ≡ call (on_page n (create_page c)) s
-    create-out place y g f e ey = frame-done (on_page n (create_page c)) s number l _ p g q (does place e) (omega (arith, f.fits)) refl y ey
+  pub create-out : (place : ℕ) (y : List ℕ) → ((i : ℕ) → Fits w8 (get_or s i 0)) → Fits w32 n → place ≡ data_offset n (made n c (take (length z.bytes.now) s)) → y ≡ encode (in_line (made n c (take (length z.bytes.now) s)))
+      → result_of (told 0 place) (y ++ drop (length z.bytes.now) s) ≡ call (on_page n (create_page c)) s
+  create-out place y g f e ey = zone-opened (on_page n (create_page c)) s z o g (does place (rw o.there at e)) (omega (arith, f.fits)) refl y (rw o.there at ey)

@@ -1,6 +1,5 @@
 -- The new page in its place: what the writes need, and that they leave the zone with the page and the next clock.
 use mathlib.Core.Path.{◌≡◌, refl, ap, ◌∙◌}
-use mathlib.Core.Bool.{true, false}
 use mathlib.Core.List.{List, [], ◌∷◌}
 use Prim.Native.Nat.{ℕ, ◌+◌, ◌-◌, ◌<◌, ◌≤◌}
 use native.Mathlib.Omega.{arith}
@@ -11,16 +10,18 @@ use Rattle.block_type.specs.Limits.{longest_zone, page_header, stamp_range, argu
 use Rattle.bigendian.specs.BigEndian.{overwrite}
 use Rattle.format.specs.WellFormed.{clock_field}
 use Rattle.kinds.specs.Kinds.{Item, item_size}
-use Rattle.bay.specs.Bay.{held, gap, compact_bay}
+use Rattle.bay.specs.Bay.{held, gap}
 use Rattle.bay.specs.Sound.{bytes_of, Sound1}
 use Rattle.calls.specs.Pages.{tick}
 use Rattle.structure.specs.Structure.{encode, decode_zone}
-use Rattle.slide.specs.ZoneBay.{bay_cells, ZoneBay, settled}
+use Rattle.slide.specs.ZoneBay.{ZoneBay}
 use Rattle.access.proofs.Checked.{zone-clock}
 use Rattle.room.specs.place.Fit.{blank_page, Fit}
 use Rattle.room.specs.place.Room.{LowestRoom, Stands}
 use Rattle.room.specs.declared.place.Site.{Site}
 use Rattle.room.proofs.place.Cut.{page-size}
+use Rattle.room.specs.place.Prepared.{prepared}
+use Rattle.room.proofs.place.Prepared as Prepared
 use Rattle.room.proofs.place.InZone as InZone
 use Rattle.room.proofs.place.InZone.{with_block}
 use Rattle.pages.proofs.status.Restatus.{reclocked}
@@ -35,7 +36,7 @@ carve-done z z₁ at stamp new l k e = set-clock z₁ stamp (omega arith) ∙ ap
 -- ---- at the site
 
 module _ {z : List ℕ} {need : ℕ} {r : Site} (x : SiteFor z need r) where
-  abbrev lowest : LowestRoom z need r.start r.end r.at r.size r.tidy
+  abbrev lowest : LowestRoom z need r.start r.end r.hole.at r.hole.size r.tidy
   lowest = x.lowest
 
   pub site-header : page_header ≤ need
@@ -58,30 +59,28 @@ module _ {z : List ℕ} {need : ℕ} {r : Site} (x : SiteFor z need r) where
   any = blank_page need 0 0
 
   pub place-bay : ZoneBay z r.start r.end
-  place-bay = InZone.its-bay z need r.start r.end r.at r.size r.tidy x.zone lowest any (size_is 0 0)
+  place-bay = InZone.its-bay z need r.start r.end r.hole.at r.hole.size r.tidy x.zone lowest any (size_is 0 0)
 
-  pub fit-there : r.tidy ≡ false → Fit z r.at r.size need 0
-  fit-there g = InZone.fit-there z need r.start r.end r.at r.size r.tidy x.zone lowest any (size_is 0 0) g 0 (omega arith) x.page.size
-
-  pub fit-made : r.tidy ≡ true → (z₁ : List ℕ) → z₁ ≡ settled z r.start (compact_bay (bay_cells z r.start r.end)) → Fit z₁ r.at r.size need 0
-  fit-made g z₁ e₁ = InZone.fit-made z need r.start r.end r.at r.size r.tidy x.zone lowest any (size_is 0 0) g z₁ e₁ 0 (omega arith) x.page.size
+  -- the place that is ready for it
+  pub site-fits : (z₁ : List ℕ) → z₁ ≡ prepared r.tidy r.start r.end z → Fit z₁ r.hole.at r.hole.size need 0
+  site-fits z₁ e₁ = Prepared.fit z need r.start r.end r.hole.at r.hole.size r.tidy x.zone lowest any (size_is 0 0) z₁ e₁ 0 (omega arith) x.page.size
 
   -- ---- where it stands then
 
-  in-bay : r.at + page_header ≤ longest_zone
+  in-bay : r.hole.at + page_header ≤ longest_zone
   in-bay =
-      omega (arith, InZone.its-end z need r.start r.end r.at r.size r.tidy x.zone lowest any (size_is 0 0), site-header, place-bay.inside, place-bay.short)
+      omega (arith, InZone.its-end z need r.start r.end r.hole.at r.hole.size r.tidy x.zone lowest any (size_is 0 0), site-header, place-bay.inside, place-bay.short)
 
-  pub place-fits : Fits w64 (r.at + page_header)
+  pub place-fits : Fits w64 (r.hole.at + page_header)
   place-fits = record { fits = omega (arith, in-bay) }
 
-  pub place-word : Fits w32 (r.at + page_header)
+  pub place-word : Fits w32 (r.hole.at + page_header)
   place-word = record { fits = omega (arith, in-bay) }
 
-  pub page-stands : (name : ℕ) → Fits w32 name → Stands (blank_page need name (tick (decode_zone z).clock)) (created need name (decode_zone z)) (r.at + page_header)
+  pub page-stands : (name : ℕ) → Fits w32 name → Stands (blank_page need name (tick (decode_zone z).clock)) (created need name (decode_zone z)) (r.hole.at + page_header)
   page-stands name f =
       let st = tick (decode_zone z).clock in
-      let w = InZone.stands z need r.start r.end r.at r.size r.tidy x.zone lowest (blank_page need name st) (size_is name st) (decode_zone z).chain refl (sound name st (omega (arith, f.fits)) (omega arith)) in
+      let w = InZone.stands z need r.start r.end r.hole.at r.hole.size r.tidy x.zone lowest (blank_page need name st) (size_is name st) (decode_zone z).chain refl (sound name st (omega (arith, f.fits)) (omega arith)) in
       record { front = w.front; back = w.back; is = w.is; place_is = w.place_is }
 
   -- ---- the bytes
@@ -100,12 +99,8 @@ module _ {z : List ℕ} {need : ℕ} {r : Site} (x : SiteFor z need r) where
         reclocked stamp (with_block i (decode_zone z).chain (decode_zone z))
         ∙ ap (λ (k : ℕ). encode (record { clock = k; chain = (decode_zone z).chain; blocks = (with_block (blank_page need name k) (decode_zone z).chain (decode_zone z)).blocks })) es
 
-    done : (w v : List ℕ) → w ≡ overwrite v clock_at (stamp ∷ []) → v ≡ encode (with_block i (decode_zone z).chain (decode_zone z)) → w ≡ encode (created need name (decode_zone z))
-    done w v ew ev = ew ∙ ap (λ (v : List ℕ). overwrite v clock_at (stamp ∷ [])) ev ∙ clock-done
-
-    pub done-there : r.tidy ≡ false → (w : List ℕ) → w ≡ overwrite (overwrite z r.at (bytes_of (held (blank_page need name stamp) ∷ gap (r.size - need) []))) clock_at (stamp ∷ []) → w ≡ encode (created need name (decode_zone z))
-    done-there g w ew = done w _ ew (InZone.bare-there z need r.start r.end r.at r.size r.tidy x.zone lowest i (size_is name stamp) g refl refl ok)
-
-    pub done-made : r.tidy ≡ true → (z₁ : List ℕ) → z₁ ≡ settled z r.start (compact_bay (bay_cells z r.start r.end))
-        → (w : List ℕ) → w ≡ overwrite (overwrite z₁ r.at (bytes_of (held (blank_page need name stamp) ∷ gap (r.size - need) []))) clock_at (stamp ∷ []) → w ≡ encode (created need name (decode_zone z))
-    done-made g z₁ e₁ w ew = done w _ ew (InZone.bare-made z need r.start r.end r.at r.size r.tidy x.zone lowest i (size_is name stamp) g z₁ e₁ refl refl ok)
+    pub done : (z₁ : List ℕ) → z₁ ≡ prepared r.tidy r.start r.end z → (w : List ℕ) → w ≡ overwrite (overwrite z₁ r.hole.at (bytes_of (held (blank_page need name stamp) ∷ gap (r.hole.size - need) []))) clock_at (stamp ∷ [])
+        → w ≡ encode (created need name (decode_zone z))
+    done z₁ e₁ w ew =
+        ew ∙ ap (λ (v : List ℕ). overwrite v clock_at (stamp ∷ [])) (Prepared.bare z need r.start r.end r.hole.at r.hole.size r.tidy x.zone lowest i (size_is name stamp) z₁ e₁ refl refl ok)
+        ∙ clock-done

@@ -29,23 +29,23 @@ use Rattle.zone.proofs.Keep.{Whole, valid-line, bays-line}
 use Rattle.zone.proofs.Grouped.{whole-bays, clear_whole}
 use Rattle.access.proofs.Checked.{bytes_of}
 use Rattle.bays.specs.Places.{bays_of, bays_at}
-use Rattle.room.specs.place.Room.{site_n, low_site}
+use Rattle.room.specs.place.Room.{low_site}
+use Rattle.room.specs.place.Found.{site_found}
 use Rattle.room.specs.declared.place.Site.{Site}
-use Rattle.room.proofs.place.LowestRoom.{low-reach, low-room}
+use Rattle.room.proofs.place.Found.{reached, found, found-some}
+use Rattle.std.specs.Prelude.{Option, Some, is_some}
 use Rattle.turn.specs.Rank.{key_below, goes}
 use Rattle.turn.specs.Turn.{bayed}
 use Rattle.turn.proofs.Law.{none-goes}
 use Rattle.clear.specs.Cleared.{cleared}
-use Rattle.create.specs.Created.{Searched, SiteFor, RoomFor}
+use Rattle.create.specs.Created.{Searched, SiteFor, limit_in, RoomFor}
+use Rattle.create.specs.declared.CreatePlan.{CreatePlan}
+use Rattle.create.specs.declared.CreatePlan.TheVariants.{AtSite, AfterPages}
 
 -- ---- the search
 
-pub site-searched : (z : List ℕ) (need first : ℕ) → IsZone z → first ≡ first_field z → (r : Site)
-    → site_n r.found r.start r.end r.at r.size r.tidy ≡ low_site need first (bays_at z first) → Searched z need r
-site-searched z need first i ef r q = record {
-  reach = low-reach z i first ef need r.found r.start r.end r.at r.size r.tidy q;
-  lowest = low-room z i first ef need r.found r.start r.end r.at r.size r.tidy q;
-}
+pub site-searched : (z : List ℕ) (need first : ℕ) → IsZone z → first ≡ first_field z → (r : Option Site) → site_found r ≡ low_site need first (bays_at z first) → Searched z need r
+site-searched z need first i ef r q = record { reach = reached z i first ef need r q ∙ found-some r; lowest = found z i first ef need r q }
 
 -- ---- pages go
 
@@ -104,22 +104,30 @@ module _ (z : List ℕ) (i : IsZone z) where
 
 -- ---- the site
 
-module _ (z : List ℕ) (need limit : ℕ) (r : Site) (x : RoomFor z need limit r) where
+module _ (z : List ℕ) (need : ℕ) (p : CreatePlan) (x : RoomFor z need p) where
   pub room-some : 0 < need
   room-some = omega (arith, x.page.header)
 
-  module _ (f : r.found ≡ true) where
-    pub none-went : z ≡ encode (cleared (decode_zone z).clock limit (decode_zone z))
-    none-went = none-gone z x.zone ∙ ap (λ (t : ℕ). encode (cleared (decode_zone z).clock t (decode_zone z))) (sym (x.stay f))
+  module _ (r : Site) (e : p ≡ AtSite r) where
+    pub none-went : z ≡ encode (cleared (decode_zone z).clock (limit_in p) (decode_zone z))
+    none-went = rw e (none-gone z x.zone)
 
     pub site-there : SiteFor z need r
-    site-there = record { zone = x.zone; page = x.page; lowest = x.there f }
+    site-there = record { zone = x.zone; page = x.page; lowest = rw e at x.there }
 
-  module _ (z₁ : List ℕ) (e₁ : z₁ ≡ encode (cleared (decode_zone z).clock limit (decode_zone z))) (g : (j : ℕ) → Fits w8 (get_or z₁ j 0)) where
+  module _ (t : ℕ) (e : p ≡ AfterPages t) (z₁ : List ℕ) (e₁ : z₁ ≡ encode (cleared (decode_zone z).clock t (decode_zone z))) (g : (j : ℕ) → Fits w8 (get_or z₁ j 0)) where
+    pub pages-went : z₁ ≡ encode (cleared (decode_zone z).clock (limit_in p) (decode_zone z))
+    pages-went = rw e e₁
+
     pub zone-left : IsZone z₁
-    zone-left = left-zone z x.zone limit z₁ e₁ g
+    zone-left = left-zone z x.zone t z₁ e₁ g
 
-    pub site_left : (t : Site) → Searched z₁ need t → SiteFor z₁ need t
-    site_left t q =
-        let e = left_is z x.zone limit z₁ e₁ in
-        record { zone = zone-left; page = x.page; lowest = q.lowest (sym q.reach ∙ le-leb need _ (rw e x.enough)) }
+    module _ (r : Option Site) (q : Searched z₁ need r) where
+      pub site-some : is_some r ≡ true
+      site-some =
+          let l = left_is z x.zone t z₁ e₁ in
+          let m = rw e at x.enough in
+          sym q.reach ∙ le-leb need _ (rw l m)
+
+      pub site_left : (s : Site) → r ≡ Some s → SiteFor z₁ need s
+      site_left s k = record { zone = zone-left; page = x.page; lowest = q.lowest s k }

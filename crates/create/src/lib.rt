@@ -1,73 +1,44 @@
 // Create a page: a block with a name, in the lowest bay whose sum reaches its size. Where none does, unlocked pages go first, in their turn.
 #![tactic(auto)]
 
-ghost use Rattle.std.specs.Prelude.{◌≡◌, [], ◌∷◌, ◌-◌, ◌<◌, ◌≤◌, length, take};
-ghost use Rattle.block_type.specs.Limits.{page_header, page_limit, page_need, clock_at};
+ghost use Rattle.std.specs.Prelude.{◌≡◌, [], ◌∷◌, ◌-◌, ◌<◌, ◌≤◌, length, IfOk, IfErr};
+ghost use Rattle.block_type.specs.Limits.{page_header, clock_at};
 ghost use Rattle.bigendian.specs.BigEndian.{overwrite};
-ghost use Rattle.format.specs.WellFormed.{clock_field};
 ghost use Rattle.bay.specs.Bay.{held, gap};
 ghost use Rattle.bay.specs.Sound.{bytes_of};
 ghost use Rattle.structure.specs.Structure.{encode, decode_zone};
 ghost use Rattle.structure.specs.IsZone.{IsZone};
-ghost use Rattle.calls.specs.Calls.{told, on_page, create_page};
+ghost use Rattle.calls.specs.Calls.{on_page, create_page};
+ghost use Rattle.calls.specs.Refusals.{answer_of};
 ghost use Rattle.calls.specs.Pages.{tick};
 ghost use Rattle.zone.specs.Work.{data_offset};
 ghost use Rattle.zone.specs.Call.{in_line, result_of, call};
 ghost use Rattle.room.specs.place.Fit.{blank_page, Fit};
 ghost use Rattle.room.specs.place.Room.{Stands};
-ghost use Rattle.zone_check.specs.Sought.{page_in};
-ghost use Rattle.call_laws.specs.Frame.{PlannedIn, Planned};
+ghost use Rattle.zone_check.specs.Sought.{unless_zero, page_in};
+ghost use Rattle.call_laws.specs.Refused.{Refuses};
 ghost use Rattle.clear.specs.Cleared.{cleared};
-ghost use Rattle.create.specs.Created.{created, made, Searched, SiteFor, RoomFor, ReadyIn, ValueBeside, ValueBesideIn};
+ghost use Rattle.create.specs.Created.{created, made, Searched, SiteFor, limit_in, RoomFor, Ready};
 
-use access::locate;
+use access::Zone;
 use block_type::BlockType;
-use calls::Told;
+use calls::Refusal;
 use pages::status;
 use room::place;
+use room::place::{Hole, Site};
 use turn::search;
 
-// The refusal, 0 for none, with the name beside a 12; or the zone's length, the limit below which pages go, and the site, which is found where none has to.
+// Where there is room for the page.
 #[derive(Clone, Copy)]
-struct CreatePlan {
-    number: u32,
-    value: u32,
-    len: usize,
-    limit: u64,
-    site: place::Site,
-}
-
-// The plan of a call that is refused.
-fn no_plan(number: u32) -> CreatePlan
-    ensures { (result.number ≡ number) × (result.value ≡ 0) }
-{
-    let site = place::Site {
-        found: false,
-        start: 0,
-        end: 0,
-        at: 0,
-        size: 0,
-        tidy: false,
-    };
-    CreatePlan {
-        number,
-        value: 0,
-        len: 0,
-        limit: 0,
-        site,
-    }
-}
-
-// The bytes of a page of c data bytes.
-fn need_of(c: u32) -> usize
-    requires { c ≤ page_limit }
-    ensures { result ≡ page_need c }
-{
-    (BlockType::PAGE_HEADER + c as usize + 3) / 4 * 4
+enum CreatePlan {
+    // In the zone as it is.
+    AtSite(Site),
+    // Once the unlocked pages of rank below the limit have gone.
+    AfterPages(u64),
 }
 
 // The lowest bay that has room for need bytes, and where.
-fn find_site(z: &[u8], need: usize) -> place::Site
+fn find_site(z: &[u8], need: usize) -> Option<Site>
     requires { IsZone z.now × (0 < need) }
     ensures { Searched z.now need result }
 {
@@ -75,66 +46,26 @@ fn find_site(z: &[u8], need: usize) -> place::Site
     place::find_room(z, first, need)
 }
 
-// The plan in a well-formed zone, in which a page of that name starts at `page`, 0 for none.
-fn plan_in(z: &[u8], name: u32, page: usize, c: u32) -> CreatePlan
-    requires { (IsZone z.now) × (page ≡ page_in name z.now) }
-    ensures { PlannedIn (on_page name (create_page c)) z.now result.number (ReadyIn z.now name c result.limit result.site) × ValueBesideIn z.now name c result.number result.value }
+// The plan in a well-formed zone, in which the page of that name stands at `page`, if there is one.
+fn plan_in(z: Zone<'_>, name: u32, page: Option<usize>, c: u32) -> Result<CreatePlan, Refusal>
+    requires { page ≡ unless_zero (page_in name z.bytes.now) }
+    ensures ok { IfOk result (Ready z.entry.bytes.now name c) }
+    ensures err { IfErr result (Refuses (on_page name (create_page c)) z.entry.bytes.now) }
 {
-    let old = locate::by_page(z, name, page);
-    let place = old.at;
-    if place != 0 {
-        return no_plan(11);
+    if page.is_some() {
+        return Err(Refusal::NamePresent);
     }
     if BlockType::PAGE_LIMIT < c {
-        return no_plan(3);
+        return Err(Refusal::TooLarge);
     }
-    let need = need_of(c);
+    let need = BlockType::Page.need(c);
     // mostly there is room, and no page has to go
-    let site = find_site(z, need);
-    let found = site.found;
-    if found {
-        return CreatePlan {
-            number: 0,
-            value: 0,
-            len: 0,
-            limit: 0,
-            site,
-        };
-    }
-    let t = search::find_turn(z, need);
-    let number = t.number;
-    let value = t.name;
-    let limit = t.limit;
-    CreatePlan {
-        number,
-        value,
-        len: 0,
-        limit,
-        site,
-    }
-}
-
-// The plan in any buffer.
-fn plan(zone: &[u8], name: u32, c: u32) -> CreatePlan
-    ensures { Planned (on_page name (create_page c)) zone.now result.number result.len (ReadyIn (take result.len zone.now) name c result.limit result.site) × ValueBeside zone.now name c result.number result.value }
-{
-    let k = zone_check::check_for(zone, name);
-    let ok = k.ok;
-    if !ok {
-        return no_plan(1);
-    }
-    let l = bigendian::get4(zone, block_type::LENGTH_AT) as usize;
-    let p = plan_in(&zone[..l], name, k.page, c);
-    let number = p.number;
-    let value = p.value;
-    let limit = p.limit;
-    let site = p.site;
-    CreatePlan {
-        number,
-        value,
-        len: l,
-        limit,
-        site,
+    match find_site(z.bytes, need) {
+        Some(site) => Ok(CreatePlan::AtSite(site)),
+        None => {
+            let limit = search::find_turn(z, need)?;
+            Ok(CreatePlan::AfterPages(limit))
+        }
     }
 }
 
@@ -148,78 +79,57 @@ fn clear_pages(z: &mut [u8], limit: u64)
     clear::clear(z, first, clock, limit);
 }
 
-// Where the page goes: to the site, where it was found, else to where there is room once the pages of rank below the limit are gone.
-fn make_room(z: &mut [u8], need: usize, limit: u64, r: place::Site) -> place::Site
-    requires { RoomFor z.old need limit r }
-    ensures { (z.new ≡ encode (cleared (decode_zone z.old).clock limit (decode_zone z.old))) × SiteFor z.new need result }
+// Where the page goes: there is room at that place, after pages have gone where the plan says so.
+fn make_room(z: &mut [u8], need: usize, plan: CreatePlan) -> Site
+    requires { RoomFor z.old need plan }
+    ensures { (z.new ≡ encode (cleared (decode_zone z.old).clock (limit_in plan) (decode_zone z.old))) × SiteFor z.new need result }
 {
-    let found = r.found;
-    if found {
-        return r;
+    match plan {
+        CreatePlan::AtSite(site) => site,
+        CreatePlan::AfterPages(limit) => {
+            clear_pages(z, limit);
+            find_site(z, need).unwrap()
+        }
     }
-    clear_pages(z, limit);
-    find_site(z, need)
 }
 
-// The page's bytes in the free block of n bytes at `at`, and the clock, which is its stamp.
-fn carve(z: &mut [u8], at: usize, n: usize, need: usize, name: u32, stamp: u8)
-    requires { Fit z.old at n need 0 × (page_header ≤ need) × (clock_at < length z.old) }
-    ensures { z.new ≡ overwrite (overwrite z.old at (bytes_of (held (blank_page need name stamp) ∷ gap (n - need) []))) clock_at (stamp ∷ []) }
+// The page's bytes in the hole, and the clock, which is its stamp. (allocate::relocatable::carve takes a
+// master off the chain where this steps the clock: all that they share is room's, cut_block and cut_page.)
+fn carve(z: &mut [u8], hole: Hole, need: usize, name: u32, stamp: u8)
+    requires { Fit z.old hole.at hole.size need 0 × (page_header ≤ need) × (clock_at < length z.old) }
+    ensures { z.new ≡ overwrite (overwrite z.old hole.at (bytes_of (held (blank_page need name stamp) ∷ gap (hole.size - need) []))) clock_at (stamp ∷ []) }
 {
-    place::cut_page(z, at, n, need, name, stamp as u32);
+    place::cut_page(z, hole, need, name, stamp as u32);
     z[block_type::CLOCK_AT] = stamp;
 }
 
-// The page at the site r: in a bay that is compacted first where no free block is big enough.
-fn place_in(z: &mut [u8], need: usize, name: u32, stamp: u8, r: place::Site)
-    requires { SiteFor z.old need r × (stamp ≡ tick (clock_field z.old)) }
-    ensures { z.new ≡ encode (created need name (decode_zone z.old)) }
-{
-    if r.tidy {
-        slide::compact_bay(z, r.start, r.end);
-        carve(z, r.at, r.size, need, name, stamp);
-    } else {
-        carve(z, r.at, r.size, need, name, stamp);
-    }
-}
-
-// The new page at the site r; the clock steps. Answers the data offset.
-fn place_page(z: &mut [u8], need: usize, name: u32, r: place::Site) -> u32
-    requires { SiteFor z.old need r }
+// The new page at the site, in a bay that is compacted first where the site says so; the clock steps. Answers the data offset.
+fn place_page(z: &mut [u8], need: usize, name: u32, site: Site) -> u32
+    requires { SiteFor z.old need site }
     ensures { Stands (blank_page need name (tick (decode_zone z.old).clock)) (created need name (decode_zone z.old)) result × (z.new ≡ encode (created need name (decode_zone z.old))) }
 {
     let stamp = status::next_clock(z);
-    let at = r.at;
-    place_in(z, need, name, stamp, r);
-    (at + BlockType::PAGE_HEADER) as u32
+    place::prepare(z, site);
+    carve(z, site.hole, need, name, stamp);
+    (site.hole.at + BlockType::PAGE_HEADER) as u32
 }
 
 // What the plan says, in the zone's bytes. Answers the data offset.
-fn create_in(z: &mut [u8], name: u32, c: u32, limit: u64, r: place::Site) -> u32
-    requires { ReadyIn z.old name c limit r }
+fn create_in(z: &mut [u8], name: u32, c: u32, plan: CreatePlan) -> u32
+    requires { Ready z.old name c plan }
     ensures { (result ≡ data_offset name (made name c z.old)) × (z.new ≡ encode (in_line (made name c z.old))) }
 {
-    let need = need_of(c);
-    let s = make_room(z, need, limit, r);
-    place_page(z, need, name, s)
+    let need = BlockType::Page.need(c);
+    let site = make_room(z, need, plan);
+    place_page(z, need, name, site)
 }
 
-// A new page of c data bytes. Answers the refusal number, 0 if done, and the data offset, or beside 12 the name of the dirty page that would have had to go.
-pub fn create_page(zone: &mut [u8], name: u32, c: u32) -> Told
-    ensures { result_of (told result.number result.value) zone.new ≡ call (on_page name (create_page c)) zone.old }
+// A new page of c data bytes. Answers the data offset.
+pub fn create_page(zone: &mut [u8], name: u32, c: u32) -> Result<u32, Refusal>
+    ensures { result_of (answer_of result) zone.new ≡ call (on_page name (create_page c)) zone.old }
 {
-    let p = plan(zone, name, c);
-    let number = p.number;
-    let value = p.value;
-    let l = p.len;
-    let limit = p.limit;
-    let site = p.site;
-    if number == 0 {
-        let place = create_in(&mut zone[..l], name, c, limit, site);
-        return Told {
-            number: 0,
-            value: place,
-        };
-    }
-    Told { number, value }
+    let sought = Zone::open_for(zone, name)?;
+    let plan = plan_in(sought.zone, name, sought.page, c)?;
+    let len = sought.zone.bytes.len();
+    Ok(create_in(&mut zone[..len], name, c, plan))
 }

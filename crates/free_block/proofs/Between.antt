@@ -68,7 +68,8 @@ module _ (z : List ℕ) (bs' : List Block) (b : Block) (from at end to : ℕ) (f
   pub freeing-between : Between z from at end to
   freeing-between = record {
     low = omega (arith, f.from_is);
-    some = omega (arith, f.end_is, block-low s v a);
+    order = omega (arith, f.end_is);
+    some = omega (arith, f.from_is, f.to_is, f.end_is, block-low s v a);
     high = omega (arith, f.to_is);
     fits = freeing-fits;
     short = omega (arith, w.limit, w.all);

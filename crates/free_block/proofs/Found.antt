@@ -14,11 +14,14 @@ use Rattle.structure.proofs.Append.{sizes-append}
 use Rattle.structure.proofs.Table.{Whole, start_is, len_is}
 use Rattle.structure.proofs.Sound.{valid-zone}
 use Rattle.access.specs.row.Row.{Row, Sound, blocks_of, block_at, Stepped}
-use Rattle.access.proofs.row.Laws.{low_of, stepped}
+use Rattle.access.proofs.row.Laws.{low_of, sound-right, stepped}
 use Rattle.access.proofs.row.Zone.{valid-sound}
 use Rattle.free_block.specs.Around.{part_of, last_part, first_part, Around, Freeing}
+use Rattle.free_block.specs.Extends.{BlockIn, Extends}
 use Rattle.free_block.specs.Walk.{Below, Stopped, Extended}
-use Rattle.free_block.proofs.Parts.{block-low, lows-sizes}
+use Rattle.free_block.proofs.Parts.{lows-sizes}
+use Rattle.slide.specs.declared.blank.Extent.{Extent}
+use Rattle.block_type.specs.Limits.{smallest_block}
 use Rattle.structure.specs.IsZone.{IsZone}
 use Rattle.structure.proofs.IsZone.{whole_of}
 
@@ -64,8 +67,8 @@ unique t at (x ∷ p) q u r so e m bl l = some u e bl l (λ u e bl l. unique t (
 
 -- ---- a block of the zone
 
-module _ (z : List ℕ) (i : IsZone z) (first : ℕ) (ef : first ≡ first_field z) (bs' : List Block) (b : Block) (a : Around (decode_zone z).blocks bs' b)
-    (t : ℕ) (et : t ≡ start (decode_zone z) + (sizes a.pre + bay_size a.low)) where
+module _ (z : List ℕ) (i : IsZone z) (first : ℕ) (ef : first ≡ first_field z) (low : List Block) (b : Block) (high : List Block)
+    (parts : (decode_zone z).blocks ≡ low ++ (b ∷ high)) (t : ℕ) (et : t ≡ start (decode_zone z) + sizes low) where
   w : Whole z
   w = whole_of z i
 
@@ -75,47 +78,46 @@ module _ (z : List ℕ) (i : IsZone z) (first : ℕ) (ef : first ≡ first_field
   v : Valid s
   v = valid-zone z w
 
-  -- the blocks before it, and those from it on
-  abbrev lows : List Block
-  lows = a.pre ++ map cell a.low
-
   abbrev rest : List Block
-  rest = b ∷ (map cell a.high ++ a.post)
-
-  blocks-are : lows ++ rest ≡ s.blocks
-  blocks-are = append_assoc a.pre (map cell a.low) rest ∙ sym a.old
+  rest = b ∷ high
 
   start_of : first ≡ start s
   start_of = ef ∙ sym (start_is z w)
+
+  sound : Sound (low ++ rest)
+  sound = subst Sound parts (valid-sound s v)
+
+  low-size : smallest_block ≤ size b
+  low-size = (low_of b (sound-right low rest sound).0).0
 
   blocks-zone : blocks_of (drop first z) ≡ s.blocks
   unfolding blocks_of decode_zone
   blocks-zone = rw ef
 
   zone-sizes : t + sizes rest ≡ length z
-  zone-sizes = omega (arith, ap sizes blocks-are, sizes-append lows rest, lows-sizes a, len_is z w, w.all)
+  zone-sizes = omega (arith, et, ap sizes parts, sizes-append low rest, len_is z w, w.all)
 
   pub block-fits : t + size b ≤ length z
   unfolding sizes
   block-fits = omega (arith, zone-sizes)
 
   module _ (prev at : ℕ) (p : Stopped z first t prev at) where
-    before-is : p.passed.before ≡ lows
+    before-is : p.passed.before ≡ low
     before-is =
-        unique t first lows rest p.passed.before (blocks_of (drop at z)) (subst Sound (sym blocks-are) (valid-sound s v)) (blocks-are ∙ sym blocks-zone ∙ p.passed.parts)
-        (omega (arith, lows-sizes a, start_of)) p.passed.below (omega (arith, p.reached, p.passed.place))
+        unique t first low rest p.passed.before (blocks_of (drop at z)) sound (sym parts ∙ sym blocks-zone ∙ p.passed.parts)
+        (omega (arith, et, start_of)) p.passed.below (omega (arith, p.reached, p.passed.place))
 
     stops : at ≡ t
-    stops = omega (arith, p.passed.place, ap sizes before-is, lows-sizes a, start_of)
+    stops = omega (arith, p.passed.place, ap sizes before-is, et, start_of)
 
     rest-is : blocks_of (drop at z) ≡ rest
-    rest-is = same_rest lows (blocks_of (drop at z)) rest (ap (◌++ blocks_of (drop at z)) (sym before-is) ∙ sym p.passed.parts ∙ blocks-zone ∙ sym blocks-are)
+    rest-is = same_rest low (blocks_of (drop at z)) rest (ap (◌++ blocks_of (drop at z)) (sym before-is) ∙ sym p.passed.parts ∙ blocks-zone ∙ parts)
 
     pub prev-fits : prev < length z
-    prev-fits = omega (arith, stops, p.passed.near, block-fits, block-low s v a)
+    prev-fits = omega (arith, stops, p.passed.near, block-fits, low-size)
 
     step-here : Stepped z at (size_of (drop at z))
-    step-here = stepped z at (size_of (drop at z)) p.passed.row (omega (arith, stops, block-fits, block-low s v a)) refl
+    step-here = stepped z at (size_of (drop at z)) p.passed.row (omega (arith, stops, block-fits, low-size)) refl
 
     here-is : block_at z at ≡ b
     here-is = let e = sym step-here.blocks ∙ rest-is in cc
@@ -131,28 +133,71 @@ module _ (z : List ℕ) (i : IsZone z) (first : ℕ) (ef : first ≡ first_field
       pub end_row : Row (drop end z)
       end_row = subst (λ (o : ℕ). Row (drop o z)) end-place step-here.next
 
-      end-blocks : blocks_of (drop end z) ≡ map cell a.high ++ a.post
+      end-blocks : blocks_of (drop end z) ≡ high
       end-blocks =
           let e = sym step-here.blocks ∙ rest-is in
-          let r : blocks_of (drop (at + size_of (drop at z)) z) ≡ map cell a.high ++ a.post = cc in
+          let r : blocks_of (drop (at + size_of (drop at z)) z) ≡ high = cc in
           ap (λ (o : ℕ). blocks_of (drop o z)) (sym end-place) ∙ r
-
-      low_part : last_part 0 p.passed.before ≡ end_free a.low
-      low_part =
-          ap (last_part 0) before-is ∙ last-append 0 a.pre (map cell a.low) ∙ ap (λ (k : ℕ). last_part k (map cell a.low)) a.pre_used ∙ last-cells a.low
-
-      high_part : first_part (blocks_of (drop end z)) ≡ start_free a.high
-      high_part = ap first_part end-blocks ∙ first-cells a.high a.post a.post_used
 
       -- the place of the block with its free neighbours
       module _ (from to : ℕ) (x : Extended z prev t end from to) where
-        pub from_low : from + end_free a.low ≡ t
+        pub from_low : from + last_part 0 low ≡ t
         from_low =
             let f : from ≡ cond (is_free (drop prev z)) prev at = x.from_is ∙ ap (cond (is_free (drop prev z)) prev) (sym stops) in
-            ap₂ (λ (x y : ℕ). x + y) f (sym low_part) ∙ p.passed.free_before ∙ stops
+            ap₂ (λ (x y : ℕ). x + y) f (sym (ap (last_part 0) before-is)) ∙ p.passed.free_before ∙ stops
 
-        pub to_high : to ≡ end + start_free a.high
-        to_high = x.to_is ∙ ap (end +◌) high_part
+        pub to_high : to ≡ end + first_part high
+        to_high = x.to_is ∙ ap (end +◌) (ap first_part end-blocks)
 
-        pub freeing : Freeing z bs' b from t end to
-        freeing = record { zone = i; around = a; at_is = et; end_is = ee; from_is = from_low; to_is = to_high }
+-- ---- a block that becomes free
+
+module _ {bs bs' : List Block} {b : Block} (a : Around bs bs' b) where
+  abbrev pub lows : List Block
+  lows = a.pre ++ map cell a.low
+
+  abbrev pub highs : List Block
+  highs = map cell a.high ++ a.post
+
+  pub around-parts : bs ≡ lows ++ (b ∷ highs)
+  around-parts = a.old ∙ sym (append_assoc a.pre (map cell a.low) (b ∷ highs))
+
+  pub around-place : (o t : ℕ) → t ≡ o + (sizes a.pre + bay_size a.low) → t ≡ o + sizes lows
+  around-place o t e = omega (arith, e, lows-sizes a)
+
+  around-low : last_part 0 lows ≡ end_free a.low
+  around-low = last-append 0 a.pre (map cell a.low) ∙ ap (λ (k : ℕ). last_part k (map cell a.low)) a.pre_used ∙ last-cells a.low
+
+  around-high : first_part highs ≡ start_free a.high
+  around-high = first-cells a.high a.post a.post_used
+
+module _ (z : List ℕ) (i : IsZone z) (bs' : List Block) (b : Block) (a : Around (decode_zone z).blocks bs' b) (t : ℕ) (et : t ≡ start (decode_zone z) + (sizes a.pre + bay_size a.low)) where
+  module _ (first : ℕ) (ef : first ≡ first_field z) (prev at : ℕ) (p : Stopped z first t prev at) where
+    pub around-size : size_of (drop at z) ≡ size b
+    around-size = here-size z i first ef (lows a) b (highs a) (around-parts a) t (around-place a _ t et) prev at p
+
+    pub freeing : (end : ℕ) → end ≡ t + size b → (from to : ℕ) → Extended z prev t end from to → Freeing z bs' b from t end to
+    freeing end ee from to x = record {
+      zone = i;
+      around = a;
+      at_is = et;
+      end_is = ee;
+      from_is = ap (from +◌) (sym (around-low a)) ∙ from_low z i first ef (lows a) b (highs a) (around-parts a) t (around-place a _ t et) prev at p end ee from to x;
+      to_is = to_high z i first ef (lows a) b (highs a) (around-parts a) t (around-place a _ t et) prev at p end ee from to x ∙ ap (end +◌) (around-high a);
+    }
+
+  module _ (end : ℕ) (ee : end ≡ t + size b) where
+    abbrev pub around-in : BlockIn z t end
+    around-in = record { zone = i; low = lows a; block = b; high = highs a; parts = around-parts a; at_is = around-place a _ t et; end_is = ee }
+
+    module _ (e : Extent) (x : Extends z t end e) where
+      pub around-from : e.from + end_free a.low ≡ t
+      around-from = ap (e.from +◌) (sym (around-low a)) ∙ x.from_is around-in
+
+      pub around-to : e.to ≡ end + start_free a.high
+      around-to = x.to_is around-in ∙ ap (end +◌) (around-high a)
+
+      pub around-freeing : Freeing z bs' b e.from t end e.to
+      around-freeing = record { zone = i; around = a; at_is = et; end_is = ee; from_is = around-from; to_is = around-to }
+
+      pub around-extends : Freeing z bs' b e.from e.at e.end e.to
+      around-extends = rw (x.at_is, x.end_is) around-freeing

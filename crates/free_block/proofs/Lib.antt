@@ -4,6 +4,7 @@ pub mod Parts
 pub mod Bytes
 pub mod Between
 pub mod Found
+pub mod Extends
 pub mod Around
 pub mod Own
 pub mod Itself

@@ -3,14 +3,13 @@ use mathlib.Core.Path.{◌≡◌, refl, sym, ap, ◌∙◌}
 use mathlib.Core.Bool.{true, false}
 use mathlib.Core.Option.{Option}
 use mathlib.Core.List.{List, [], ◌∷◌}
-use Prim.Native.Nat.{ℕ, ◌+◌, ◌-◌, ◌<◌, ◌≤◌}
+use Prim.Native.Nat.{ℕ, ◌+◌, ◌-◌, ◌≤◌}
 use native.Mathlib.Omega.{arith}
 use mir.Val.{Fits}
 use mir.Syntax.{w64}
-use lib.ListN.{length, drop}
+use lib.ListN.{length}
 use Rattle.block_type.specs.Limits.{reloc_header}
-use Rattle.format.specs.WellFormed.{first_field}
-use Rattle.kinds.specs.Kinds.{Item, header_of, item_size, is}
+use Rattle.kinds.specs.Kinds.{Item, header_of, is}
 use Rattle.kinds.proofs.KindLaws.{is-header}
 use Rattle.bay.specs.Bay.{held, bay_size}
 use Rattle.calls.specs.Calls.{free_handle}
@@ -20,7 +19,6 @@ use Rattle.structure.specs.Structure.{cell, Structure, sizes, start, len, decode
 use Rattle.structure.specs.Valid.{Valid}
 use Rattle.structure.proofs.Sound.{valid-zone}
 use Rattle.access.specs.Edit.{place_in, data_in, data_of}
-use Rattle.access.specs.row.Row.{Row}
 use Rattle.zone.specs.Group.{group}
 use Rattle.zone.specs.Work.{facts, work}
 use Rattle.zone.specs.Call.{in_bays}
@@ -30,11 +28,12 @@ use Rattle.zone.proofs.Keep.{valid-line}
 use Rattle.access.proofs.locate.Live.{place-live}
 use Rattle.free_block.specs.Around.{Around, Freeing}
 use Rattle.free_block.specs.Freed.{freed}
-use Rattle.free_block.specs.Walk.{Stopped, Extended}
+use Rattle.free_block.specs.Extends.{BlockIn, Extends}
 use Rattle.free_block.proofs.Around.{around-same}
 use Rattle.free_block.proofs.Own.{own_block}
 use Rattle.free_block.proofs.Itself.{its-place}
-use Rattle.free_block.proofs.Found.{block-fits, prev-fits, end_row, freeing}
+use Rattle.free_block.proofs.Extends.{held-low, held-word, held-in, held-freeing}
+use Rattle.slide.specs.declared.blank.Extent.{Extent}
 use Rattle.structure.specs.IsZone.{IsZone}
 use Rattle.structure.proofs.IsZone.{whole_of}
 
@@ -79,7 +78,7 @@ module _ (z : List ℕ) (i : IsZone z) (h : ℕ) (live : place_in z h ≡ 0 → 
   freed-valid =
       valid-line (work (free_handle h) (in_bays (len s) s)).next (work-whole (free_handle h) (in_bays (len s) s) tt (whole-bays (len s) s v (omega arith)) (free-passed (len s)))
 
--- ---- the search for its free neighbours: each step may be done
+-- ---- its extent
 
 module _ (z : List ℕ) (i : IsZone z) (h place : ℕ) (e : place ≡ place_in z h) (ne : place ≡ 0 → ⊥) where
   pub live-is : place_in z h ≡ 0 → ⊥
@@ -94,37 +93,21 @@ module _ (z : List ℕ) (i : IsZone z) (h place : ℕ) (e : place ≡ place_in z
   head : header_of b ≡ reloc_header
   head = is-header h b (its z i h live-is)
 
+  at_is : place ≡ start (decode_zone z) + (sizes a.pre + bay_size a.low) + header_of b
+  at_is = e ∙ place_is z i h live-is
+
   pub data-low : reloc_header ≤ place
-  data-low = omega (arith, place_is z i h live-is, head)
-
-  abbrev at : ℕ
-  at = place - reloc_header
-
-  at_is : at ≡ start (decode_zone z) + (sizes a.pre + bay_size a.low)
-  at_is = omega (arith, place_is z i h live-is, head)
-
-  room : at + item_size b ≤ length z
-  room = block-fits z i (first_field z) refl (freed h (decode_zone z)).blocks (cell (held b)) a at at_is
-
-  pub at-fits : place - reloc_header ≤ length z
-  at-fits = omega (arith, room)
+  data-low = held-low z i (freed h (decode_zone z)).blocks b a reloc_header place (length b.bytes) head at_is refl
 
   module _ (n : ℕ) (en : n ≡ length (data_in z h)) where
-    end_is : place + n ≡ at + item_size b
-    end_is = omega (arith, data_is z i h live-is, data-low, head)
+    long : n ≡ length b.bytes
+    long = en ∙ data_is z i h live-is
 
     pub end-word : Fits w64 (place + n)
-    end-word = record { fits = omega (arith, end_is, room, (whole_of z i).limit, (whole_of z i).all) }
+    end-word = held-word z i (freed h (decode_zone z)).blocks b a reloc_header place n head at_is long
 
-    module _ (first : ℕ) (ef : first ≡ first_field z) (prev stop : ℕ) (p : Stopped z first (place - reloc_header) prev stop) where
-      pub prev-in : prev < length z
-      prev-in = prev-fits z i first ef (freed h (decode_zone z)).blocks (cell (held b)) a at at_is prev stop p
+    pub block-in : BlockIn z (place - reloc_header) (place + n)
+    block-in = held-in z i (freed h (decode_zone z)).blocks b a reloc_header place n head at_is long
 
-      pub row_in : Row (drop (place + n) z)
-      row_in = end_row z i first ef (freed h (decode_zone z)).blocks (cell (held b)) a at at_is prev stop p (place + n) end_is
-
-      pub end-in : place + n ≤ length z
-      end-in = omega (arith, end_is, room)
-
-      pub freeing-in : (from to : ℕ) → Extended z prev (place - reloc_header) (place + n) from to → Freeing z (freed h (decode_zone z)).blocks (cell (held b)) from (place - reloc_header) (place + n) to
-      freeing-in from to x = freeing z i first ef (freed h (decode_zone z)).blocks (cell (held b)) a at at_is prev stop p (place + n) end_is from to x
+    pub freeing-in : (x : Extent) → Extends z (place - reloc_header) (place + n) x → Freeing z (freed h (decode_zone z)).blocks (cell (held b)) x.from x.at x.end x.to
+    freeing-in x q = held-freeing z i (freed h (decode_zone z)).blocks b a reloc_header place n head at_is long x q

@@ -1,3 +1,4 @@
 pub mod Around
 pub mod Freed
 pub mod Walk
+pub mod Extends

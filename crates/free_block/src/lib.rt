@@ -1,13 +1,15 @@
-// A block that becomes free: where it lies with its free neighbours.
+// A block that becomes free: its extent, in which it coalesces with its free neighbours.
 #![tactic(auto)]
 
 ghost use Rattle.std.specs.Prelude.{◌<◌, ◌≤◌, length, drop, ◌≡◌, cond, ◌+◌};
 ghost use Rattle.format.specs.WellFormed.{is_free};
 ghost use Rattle.access.specs.row.Row.{Row, blocks_of};
 ghost use Rattle.free_block.specs.Around.{first_part};
+ghost use Rattle.free_block.specs.Extends.{BlockIn, Extends};
 ghost use Rattle.free_block.specs.Walk.{Stopped, Extended};
 
 use access::row;
+use slide::blank::Extent;
 
 // Where a walk stops, and where the block before that starts, there too where no block is before.
 #[derive(Clone, Copy)]
@@ -16,7 +18,7 @@ pub struct Stop {
     pub at: usize,
 }
 
-// The walk to the first block that starts at t or above.
+// The walk to the first block that starts at t or above. (An iterator over the blocks does not tell where the one before starts.)
 pub fn walk_to(z: &[u8], first: usize, t: usize) -> Stop
     requires { Row (drop first z.now) × (first ≤ length z.now) × (t ≤ length z.now) }
     ensures { Stopped z.now first t result.prev result.at }
@@ -37,37 +39,45 @@ fn start_before(z: &[u8], prev: usize, at: usize) -> usize
     ensures { result ≡ cond (is_free (drop prev z.now)) prev at }
 {
     if block_check::is_free(z, prev) {
-        return prev;
+        prev
+    } else {
+        at
     }
-    at
 }
 
 // Where the free block that starts at `end` ends; `end` where there is none.
-fn end_behind(z: &[u8], end: usize) -> usize
+pub fn end_behind(z: &[u8], end: usize) -> usize
     requires { Row (drop end z.now) × (end ≤ length z.now) }
     ensures { result ≡ end + first_part (blocks_of (drop end z.now)) }
 {
     if z.len() <= end {
-        return end;
+        end
+    } else if block_check::is_free(z, end) {
+        end + row::step(z, end)
+    } else {
+        end
     }
-    if block_check::is_free(z, end) {
-        return end + row::step(z, end);
-    }
-    end
 }
 
-#[derive(Clone, Copy)]
-pub struct Extent {
-    pub from: usize,
-    pub to: usize,
-}
-
-// Where a block and its free neighbours lie: the block from `at` up to `end`, and the block before it starts at prev.
+// The extent of a block from `at` up to `end`, where the block before it starts at prev.
 pub fn find_extent(z: &[u8], prev: usize, at: usize, end: usize) -> Extent
     requires { (prev < length z.now) × Row (drop end z.now) × (end ≤ length z.now) }
-    ensures { Extended z.now prev at end result.from result.to }
+    ensures { Extended z.now prev at end result.from result.to × (result.at ≡ at) × (result.end ≡ end) }
 {
-    let from = start_before(z, prev, at);
-    let to = end_behind(z, end);
-    Extent { from, to }
+    Extent {
+        from: start_before(z, prev, at),
+        at,
+        end,
+        to: end_behind(z, end),
+    }
+}
+
+// The extent of the block of a zone from `at` up to `end`.
+pub fn extent_of(z: &[u8], at: usize, end: usize) -> Extent
+    requires { BlockIn z.now at end }
+    ensures { Extends z.now at end result }
+{
+    let first = bigendian::get4(z, block_type::FIRST_AT) as usize;
+    let stop = walk_to(z, first, at);
+    find_extent(z, stop.prev, at, end)
 }

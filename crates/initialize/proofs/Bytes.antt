@@ -6,9 +6,9 @@ use Prim.Native.Nat.{ℕ, zero, suc, ◌+◌, ◌*◌, ◌-◌, ◌/◌}
 use native.Mathlib.Nat.{add-zero}
 use native.Mathlib.Omega.{arith}
 use borrow.Author.Tests.{ne_eqb}
-use lib.ListN.{length, drop, replicate, length-append}
+use lib.ListN.{length, take, drop, replicate, length-take}
 use Rattle.block_type.specs.Limits.{master_size, zone_header, free_header}
-use Rattle.bigendian.specs.BigEndian.{to_be, overwrite}
+use Rattle.bigendian.specs.BigEndian.{to_be}
 use Rattle.format.specs.WellFormed.{offsets}
 use Rattle.structure.specs.Structure.{Block, Structure, sizes, count, start, len, place_of, next_of, value, words, join, header, encode, encode_block, handles_of}
 use Rattle.calls.specs.Calls.{told}
@@ -19,10 +19,9 @@ use Rattle.zone.specs.Group.{flat_bay}
 use Rattle.zone.specs.Call.{in_line, Result, result_of, initialize_with, initialize}
 use Rattle.zone.proofs.Handles.{length-handles}
 use Rattle.calls.specs.Table.{Cause, cause, first, order}
-use Rattle.masters.proofs.chain.Chain.{chain-long}
 use Rattle.masters.proofs.chain.Words.{head-handles, words-chain}
 use Rattle.initialize.specs.Fresh.{size_bytes, head_bytes, free_bytes, fresh_bytes, accepts, Fresh}
-use Rattle.initialize.proofs.Write.{bad-is, accepted, head-long, free-long}
+use Rattle.initialize.proofs.Write.{bad-is, accepted, within}
 use Rattle.kinds.specs.Kinds.{is}
 
 -- a clock of 0, and the zero byte
@@ -53,7 +52,7 @@ unfolding join encode_block free_bytes
 free_bytes_lem zero = refl
 free_bytes_lem (suc k) = append-nil (to_be 4 (suc k / 2) ++ replicate (suc k - free_header) 0) ∙ sym (rw (ne_eqb (suc k) 0 (λ e. omega arith)))
 
-module _ (buf n m : ℕ) (x : Fresh buf n m) where
+module _ (buf n m : ℕ) (x : Fresh n m) where
   abbrev u : Structure
   u = in_line (fresh buf n m)
 
@@ -76,23 +75,21 @@ module _ (buf n m : ℕ) (x : Fresh buf n m) where
       rw (len_is, s, c) (ap₂ (λ (h : ℕ) (z : List ℕ). to_be 4 n ++ (to_be 4 (zone_header + master_size * m) ++ (to_be 4 m ++ (to_be 2 h ++ z)))) (head-handles zone_header m) two-zeros ∙ (simp append_assoc)) in
       ap₂ ◌++◌ hd (ap₂ ◌++◌ (ap (λ (k : ℕ). words (value u) (offsets zone_header k)) c ∙ words-chain (value u) zone_header m (λ g l. value_is g)) (free_bytes_lem (n - (zone_header + master_size * m))))
 
-  pub fresh-long : length (fresh_bytes n m) ≡ n
-  unfolding fresh_bytes
-  fresh-long =
-      let r = x.room in
-      let q = x.four in
-      simp length-append (omega (arith, head-long n m, chain-long zone_header m, free-long (n - (zone_header + master_size * m)) (omega arith)))
-
 -- the call, by its cause
 abbrev caused : ℕ → ℕ → List ℕ → Cause → Result
 caused n m s c = initialize_with (first order (c ∷ [])) n m s
 
-pub init-done : (s z : List ℕ) (n m : ℕ) (r : Bool) → r ≡ accepts (length s) n m → r ≡ true → z ≡ overwrite s 0 (fresh_bytes n m) → result_of (told 0 0) z ≡ initialize n m s
-init-done s z n m r e t q =
-    let x = accepted (length s) n m r e t in
-    let k : 0 + length (fresh_bytes n m) ≡ n = omega (arith, fresh-long (length s) n m x) in
-    ap (result_of (told 0 0)) (q ∙ ap₂ (λ (b : List ℕ) (j : ℕ). b ++ drop j s) (sym (fresh-encode (length s) n m x)) k)
-    ∙ sym (ap (caused n m s) (bad-is (length s) n m r e ∙ ap (λ (u : Bool). cause 2 (not u)) t))
+module _ (s : List ℕ) (n m : ℕ) (r : Bool) (e : r ≡ accepts (length s) n m) (t : r ≡ true) where
+  long : length (take n s) ≡ n
+  long = omega (arith, length-take n s, within (length s) n m r e t)
+
+  pub init-fresh : Fresh (length (take n s)) m
+  init-fresh = rw long (accepted (length s) n m r e t)
+
+  pub init-done : (y : List ℕ) → y ≡ fresh_bytes (length (take n s)) m → result_of (told 0 0) (y ++ drop n s) ≡ initialize n m s
+  init-done y q =
+      ap (λ (b : List ℕ). result_of (told 0 0) (b ++ drop n s)) (q ∙ ap (λ (k : ℕ). fresh_bytes k m) long ∙ sym (fresh-encode (length s) n m (accepted (length s) n m r e t)))
+      ∙ sym (ap (caused n m s) (bad-is (length s) n m r e ∙ ap (λ (u : Bool). cause 2 (not u)) t))
 
 pub init-no : (s : List ℕ) (n m : ℕ) (r : Bool) → r ≡ accepts (length s) n m → r ≡ false → result_of (told 2 0) s ≡ initialize n m s
 init-no s n m r e t = sym (ap (caused n m s) (bad-is (length s) n m r e ∙ ap (λ (u : Bool). cause 2 (not u)) t))

@@ -23,10 +23,9 @@ fresh_bytes n m = head_bytes n m ++ (chain_bytes zone_header m ++ free_bytes (n 
 abbrev pub accepts : ℕ → ℕ → ℕ → Bool
 accepts buf n m = eqb (n % 4) 0 && leb (first_block m) n && leb n buf && leb n longest_zone && leb m most_masters
 
--- what an accepted call may rely on
-pub record Fresh (buf n m : ℕ) : Type 0 where
+-- what an accepted call may rely on, in a zone of n bytes
+pub record Fresh (n m : ℕ) : Type 0 where
   pub four : n % 4 ≡ 0
   pub room : zone_header + master_size * m ≤ n
-  pub fits : n ≤ buf
   pub short : n ≤ longest_zone
   pub few : m ≤ most_masters

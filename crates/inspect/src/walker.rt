@@ -1,123 +1,93 @@
 // A walker over the blocks of a zone: it holds an offset, and a step gives back the next walker and the block's description.
-ghost use Rattle.std.specs.Prelude.{◌≡◌, ◌+◌, ◌≤◌, max, length, drop};
+ghost use Rattle.std.specs.Prelude.{◌≡◌, ◌+◌, ◌<◌, ◌≤◌, max, IfOk, IfSome};
 ghost use Rattle.block_type.specs.Limits.{longest_zone};
-ghost use Rattle.access.specs.row.Row.{Row};
 ghost use Rattle.zone.specs.Walker.{start_of_walk, walk_step};
-ghost use Rattle.inspect.specs.walker.Found.{walked, FoundFrom, Found};
-ghost use Rattle.structure.specs.IsZone.{IsZone};
+ghost use Rattle.inspect.specs.walker.Found.{Found, size_in, Seen};
+ghost use Rattle.inspect.specs.walker.Told.{walked_by, Sized};
 
-use access::row;
+use access::Zone;
+use block_type::BlockType;
+use calls::Refusal;
 
-#[derive(Clone, Copy)]
+/// The place in a zone that a walk has come to: an offset in bytes, which may be any number.
+#[derive(Clone, Copy, Debug, PartialEq, Eq)]
 pub struct Walker {
     pub at: usize,
 }
 
-// A block's type code, offset and size; 0 for each where there is none.
-#[derive(Clone, Copy)]
+/// A block: its type, the offset where it starts and its size with its header, in bytes.
+#[derive(Clone, Copy, Debug, PartialEq, Eq)]
 pub struct Described {
-    pub kind: u8,
+    pub kind: BlockType,
     pub offset: usize,
     pub size: usize,
 }
 
-// What a step answers: the refusal number, 0 for done, and the block.
-#[derive(Clone, Copy)]
-pub struct Report {
-    pub number: u32,
-    pub block: Described,
-}
-
-#[derive(Clone, Copy)]
+/// What a step answers: the walker after it, and the block that it went past, `None` where no block starts.
+#[derive(Clone, Copy, Debug, PartialEq, Eq)]
 pub struct Moved {
     pub next: Walker,
-    pub report: Report,
+    pub block: Result<Option<Described>, Refusal>,
 }
 
-// The block that starts at `at`, looked for from the first block on.
-fn describe(z: &[u8], first: usize, at: usize) -> Described
-    requires { Row (drop first z.now) × (first ≤ length z.now) }
-    ensures { FoundFrom z.now first at result.kind result.offset result.size }
+// The block that starts at `at`.
+fn find(z: Zone<'_>, at: usize) -> Option<Described>
+    ensures found { Found z.entry.bytes.now at result × (at + size_in result ≤ max at longest_zone) }
+    ensures sized { IfSome result (λ block. 0 < block.size) }
 {
-    let mut p = first;
-    while p < z.len() {
-        let n = row::step(z, p);
-        if p == at {
-            return Described {
-                kind: block_check::type_at(z, p),
-                offset: p,
-                size: n,
-            };
+    for block in z.blocks() {
+        if block.at == at {
+            return Some(Described {
+                kind: block_check::block_type_at(z.bytes, at),
+                offset: at,
+                size: block.size,
+            });
         }
-        p += n;
     }
-    Described {
-        kind: 0,
-        offset: 0,
-        size: 0,
-    }
+    None
 }
 
-// The block that starts at `at` in a well-formed zone, with no bytes beyond its length.
-fn find(z: &[u8], at: usize) -> Described
-    requires { IsZone z.now }
-    ensures { (Found z.now at result.kind result.offset result.size) × (at + result.size ≤ max at longest_zone) }
+// The block that starts at `at` in any buffer.
+fn see(zone: &[u8], at: usize) -> Result<Option<Described>, Refusal>
+    ensures seen { Seen zone.now at result }
+    ensures sized { IfOk result Sized }
 {
-    let first = bigendian::get4(z, block_type::FIRST_AT) as usize;
-    describe(z, first, at)
+    let z = Zone::open(zone)?;
+    Ok(find(z, at))
 }
 
 impl Walker {
-    // At the first block; at 0, which is no block's start, where the zone is not well-formed.
+    /// A walker at the zone's first block; at 0, where no block starts, if the zone is not well-formed. It is never refused.
     pub fn start(zone: &[u8]) -> Walker
         ensures { result.at ≡ start_of_walk zone.now }
     {
-        let k = zone_check::check(zone);
-        let ok = k.ok;
-        if !ok {
-            return Walker { at: 0 };
-        }
-        Walker {
-            at: bigendian::get4(zone, block_type::FIRST_AT) as usize,
-        }
+        let at = match Zone::open(zone) {
+            Ok(z) => z.first_block(),
+            Err(_) => 0,
+        };
+        Walker { at }
     }
 
-    // The walker moved to the end of the block at its offset, if one starts there, and what the step answers.
+    /// The walker moved to the end of the block that starts at its offset, and that block, with offset and size in bytes. At any other offset it stays, and
+    /// the block is `None`. Refused with `NotWellFormed`: it stays, too.
     pub fn go(self, zone: &[u8]) -> Moved
-        ensures { walked result.report.number result.report.block.kind result.report.block.offset result.report.block.size result.next.at ≡ walk_step zone.now self.at }
+        ensures walks { walked_by result.block result.next.at ≡ walk_step zone.now self.at }
+        ensures sized { IfOk result.block Sized }
     {
-        let at = self.at;
-        let k = zone_check::check(zone);
-        let ok = k.ok;
-        if !ok {
-            return Moved {
-                next: Walker { at },
-                report: Report {
-                    number: 1,
-                    block: Described {
-                        kind: 0,
-                        offset: 0,
-                        size: 0,
-                    },
-                },
-            };
-        }
-        let l = bigendian::get4(zone, block_type::LENGTH_AT) as usize;
-        let block = find(&zone[..l], at);
-        Moved {
-            next: Walker {
-                at: at + block.size,
-            },
-            report: Report { number: 0, block },
-        }
+        let mut next = self;
+        let block = next.advance(zone);
+        Moved { next, block }
     }
 
-    // Moves the caller's own walker; what the step answers.
-    pub fn advance(&mut self, zone: &[u8]) -> Report
-        ensures { walked result.number result.block.kind result.block.offset result.block.size self.new.at ≡ walk_step zone.now self.old.at }
+    /// Moves the caller's own walker, as `go` does, and answers the block. Refused with `NotWellFormed`: the walker stays.
+    pub fn advance(&mut self, zone: &[u8]) -> Result<Option<Described>, Refusal>
+        ensures walks { walked_by result self.new.at ≡ walk_step zone.now self.old.at }
+        ensures sized { IfOk result Sized }
     {
-        let m = (*self).go(zone);
-        *self = m.next;
-        m.report
+        let block = see(zone, self.at);
+        if let Ok(Some(b)) = block {
+            self.at += b.size;
+        }
+        block
     }
 }

@@ -1,14 +1,19 @@
 -- A copy, one byte a turn: what is left to write is written behind what has been.
 use mathlib.Core.Path.{◌≡◌, sym, ◌∙◌}
-use mathlib.Core.List.{List}
+use mathlib.Core.List.{List, ◌∷◌}
 use Prim.Native.Nat.{ℕ, suc, ◌+◌, ◌<◌, ◌≤◌}
 use native.Mathlib.Numerals.{add-one}
 use native.Mathlib.Omega.{arith}
 use lib.ListN.{length, get_or, drop, set, drop_of_length-le}
-use lib.Seq.{drop-cons}
+use lib.Seq.{drop-cons, drop-set-lt, take-suc-set, append_snoc}
 use Rattle.bigendian.specs.BigEndian.{overwrite}
 use Rattle.bigendian.proofs.Overwrite.{write-none}
-use Rattle.memory.proofs.Writes.{write_step}
+
+write_step : (s : List ℕ) (i x : ℕ) (l : List ℕ) → i < length s → overwrite (set s i x) (i + 1) l ≡ overwrite s i (x ∷ l)
+write_step s i x l h =
+    let e : i + 1 + length l ≡ i + suc (length l) = omega arith in
+    let k : i < i + suc (length l) = omega arith in
+    rw (e, drop-set-lt, add-one, take-suc-set s i x h, append_snoc)
 
 pub copy_step : (s src w : List ℕ) (at k x : ℕ) → k < length src → at + length src ≤ length s → x ≡ get_or src k 0
     → overwrite s (at + k) (drop k src) ≡ w → overwrite (set s (at + k) x) (at + (k + 1)) (drop (k + 1) src) ≡ w

@@ -1,4 +1,3 @@
 pub mod Copy
 pub mod Slide
-pub mod Words
 pub mod Writes

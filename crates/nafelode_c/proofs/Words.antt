@@ -8,6 +8,7 @@ use lib.Dec.{eqb}
 use borrow.Author.Tests.{eqb-true}
 use mir.Val.{Fits}
 use mir.Syntax.{w32}
+use Rattle.block_type.specs.Types.{type_code}
 use Rattle.block_type.specs.Limits.{longest_zone}
 use Rattle.bigendian.specs.BigEndian.{Bytes}
 use Rattle.format.specs.WellFormed.{well_formed}
@@ -22,6 +23,11 @@ use Rattle.zone.specs.Call.{Result, call}
 use Rattle.zone.specs.Promise.{Promise}
 use Rattle.zone.proofs.Places.{Tiled, tile-last, tile-more}
 use Rattle.zone.proofs.Run.{well-whole}
+use Rattle.std.specs.Prelude.{Option, Some, Ok}
+use Rattle.std.specs.Prelude.{Result as CodeResult}
+use Rattle.calls.specs.declared.Refusal.{Refusal}
+use Rattle.inspect.specs.walker.Told.{walked_by}
+use Rattle.inspect.specs.declared.walker.Described.{Described as CodeDescribed}
 use Rattle.zone.specs.Walker.{Described, Walked, describe, walked, start_of_walk, walk_step}
 use Rattle.access.proofs.Checked.{fields-of}
 use Rattle.tell.proofs.Outcomes.{largest-total, check-few}
@@ -84,12 +90,16 @@ step-within s at y = go (well_formed s) refl
         (rw h (omega (arith, w.block)), rw h (omega (arith, w.step)))
     go false h = (rw h (omega arith), rw h (omega arith))
 
-module _ (s : List ℕ) (y : Bytes s) (at number kind offset size next : ℕ) (e : walked number kind offset size next ≡ walk_step s at) where
+module _ (s : List ℕ) (y : Bytes s) (at next : ℕ) (r : CodeResult (Option CodeDescribed) Refusal) (e : walked_by r next ≡ walk_step s at) where
   pub next_word : Fits w32 at → Fits w32 next
   next_word f = record { fits = omega (arith, f.fits, ap (λ (w : Walked). w.position) e, (step-within s at y).1) }
 
-  pub offset_word : Fits w32 offset
-  offset_word = record { fits = omega (arith, ap (λ (w : Walked). w.block.offset) e, (step-within s at y).0) }
+  module _ (o : Option CodeDescribed) (d : CodeDescribed) (q : r ≡ Ok o) (k : o ≡ Some d) where
+    there : walked 0 (type_code d.kind) d.offset d.size next ≡ walk_step s at
+    there = rw (q, k) at e
 
-  pub size_word : Fits w32 size
-  size_word = record { fits = omega (arith, ap (λ (w : Walked). w.block.size) e, (step-within s at y).0) }
+    pub offset_word : Fits w32 d.offset
+    offset_word = record { fits = omega (arith, ap (λ (w : Walked). w.block.offset) there, (step-within s at y).0) }
+
+    pub size_word : Fits w32 d.size
+    size_word = record { fits = omega (arith, ap (λ (w : Walked). w.block.size) there, (step-within s at y).0) }

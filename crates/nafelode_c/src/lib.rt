@@ -4,11 +4,12 @@
 // nafelode.h is made from this file: its declarations, and the comments of the exported functions.
 #![tactic(auto)]
 
-ghost use Rattle.std.specs.Prelude.{◌≡◌, ◌+◌, ◌≤◌};
+ghost use Rattle.std.specs.Prelude.{◌≡◌, ◌+◌, ◌≤◌, ℕ, List};
 ghost use Rattle.std.proofs.Math.ListN as ListN;
 ghost use Rattle.format.specs.WellFormed.{length_field};
 ghost use Rattle.calls.specs.Calls as Calls;
 ghost use Rattle.calls.specs.Calls.{told, shows, told_two, told_with, allocate_relocatable, allocate_fixed, free_handle, free_pointer, resize, read, write, view, compact, sums, check, length_of, enlarge, shrink, roster, on_page, create_page, use_page, mark_page, drop_page, set_dirty, clear_dirty, set_lock, clear_lock};
+ghost use Rattle.calls.specs.Refusals.{answer_by, beside_of, answer_of, done_of, shown_of};
 ghost use Rattle.bigendian.specs.BigEndian.{slice};
 ghost use Rattle.zone.specs.Promise.{Promise, InitPromise};
 ghost use Rattle.zone.specs.Census.{counted, census};
@@ -17,7 +18,7 @@ ghost use Rattle.access.specs.locate.Named.{target_of};
 ghost use Rattle.zone.specs.View.{view_start, view_length};
 ghost use Rattle.nafelode_c.specs.Named.{named};
 
-use nafelode::{Stretch, Target, Walker};
+use nafelode::{Refusal, Stretch, Target, Walker};
 
 // The block that a number names, as a handle, a page's name or a pointer.
 fn block_of(by: u32, block: u32) -> Target
@@ -32,6 +33,34 @@ fn block_of(by: u32, block: u32) -> Target
     Target::Pointer(block)
 }
 
+// The refusal number, 0 if the call is done; the value, or what stands beside the refusal, goes to `value`.
+fn give(answer: Result<u32, Refusal>, value: &mut u32) -> u32
+    ensures alone { told result value.new ≡ answer_of answer }
+    ensures second { (bs : List ℕ) → told_with result value.new bs ≡ answer_by (λ v. v) beside_of bs answer }
+{
+    match answer {
+        Ok(v) => {
+            *value = v;
+            0
+        }
+        Err(refusal) => {
+            *value = refusal.beside();
+            refusal.number()
+        }
+    }
+}
+
+// The same of a call that has no value.
+fn number(answer: Result<(), Refusal>) -> u32
+    ensures none { told result 0 ≡ done_of answer }
+    ensures second { (bs : List ℕ) → shows result bs ≡ shown_of answer bs }
+{
+    match answer {
+        Ok(()) => 0,
+        Err(refusal) => refusal.number(),
+    }
+}
+
 // Makes a zone of `length` bytes with so many masters at the start of the buffer; bytes beyond `length` stay.
 // Refused: 2 where length is no multiple of 4, below NAFELODE_ZONE_HEADER + NAFELODE_MASTER_SIZE * masters, above the buffer's length
 // or above NAFELODE_LONGEST_ZONE, or masters is above NAFELODE_MOST_MASTERS.
@@ -39,8 +68,7 @@ fn block_of(by: u32, block: u32) -> Target
 pub extern "C" fn nafelode_initialize(zone: &mut [u8], length: u32, masters: u32) -> u32
     ensures { InitPromise length masters zone.old (told result 0) zone.new }
 {
-    let t = nafelode::initialize(zone, length, masters);
-    t.number
+    number(nafelode::initialize(zone, length, masters))
 }
 
 // Allocates a relocatable block for c data bytes, which are zero. The block may slide; its handle stays.
@@ -54,9 +82,7 @@ pub extern "C" fn nafelode_initialize(zone: &mut [u8], length: u32, masters: u32
 pub extern "C" fn nafelode_allocate_relocatable(zone: &mut [u8], c: u32, handle: &mut u32) -> u32
     ensures { Promise (allocate_relocatable c) zone.old (told result handle.new) zone.new }
 {
-    let t = nafelode::allocate_relocatable(zone, c);
-    *handle = t.value;
-    t.number
+    give(nafelode::allocate_relocatable(zone, c), handle)
 }
 
 // Allocates a fixed block for c data bytes, which are zero. It never moves until it is freed.
@@ -67,9 +93,7 @@ pub extern "C" fn nafelode_allocate_relocatable(zone: &mut [u8], c: u32, handle:
 pub extern "C" fn nafelode_allocate_fixed(zone: &mut [u8], c: u32, pointer: &mut u32) -> u32
     ensures { Promise (allocate_fixed c) zone.old (told result pointer.new) zone.new }
 {
-    let t = nafelode::allocate_fixed(zone, c);
-    *pointer = t.value;
-    t.number
+    give(nafelode::allocate_fixed(zone, c), pointer)
 }
 
 // Frees the block of a handle.
@@ -78,8 +102,7 @@ pub extern "C" fn nafelode_allocate_fixed(zone: &mut [u8], c: u32, pointer: &mut
 pub extern "C" fn nafelode_free_handle(zone: &mut [u8], handle: u32) -> u32
     ensures { Promise (free_handle handle) zone.old (told result 0) zone.new }
 {
-    let t = nafelode::free_handle(zone, handle);
-    t.number
+    number(nafelode::free_handle(zone, handle))
 }
 
 // Frees the fixed block of a pointer.
@@ -88,8 +111,7 @@ pub extern "C" fn nafelode_free_handle(zone: &mut [u8], handle: u32) -> u32
 pub extern "C" fn nafelode_free_pointer(zone: &mut [u8], pointer: u32) -> u32
     ensures { Promise (free_pointer pointer) zone.old (told result 0) zone.new }
 {
-    let t = nafelode::free_pointer(zone, pointer);
-    t.number
+    number(nafelode::free_pointer(zone, pointer))
 }
 
 // Gives the block of a handle room for c data bytes. The handle and the common first bytes stay, added bytes are zero.
@@ -99,8 +121,7 @@ pub extern "C" fn nafelode_free_pointer(zone: &mut [u8], pointer: u32) -> u32
 pub extern "C" fn nafelode_resize(zone: &mut [u8], handle: u32, c: u32) -> u32
     ensures { Promise (resize handle c) zone.old (told result 0) zone.new }
 {
-    let t = nafelode::resize(zone, handle, c);
-    t.number
+    number(nafelode::resize(zone, handle, c))
 }
 
 // The data size of a block, which may exceed what was asked for.
@@ -112,9 +133,7 @@ pub extern "C" fn nafelode_size(zone: &[u8], by: u32, block: u32, data_size: &mu
     ensures { Promise (Calls.size (named by block)) zone.now (told result data_size.new) zone.now }
 {
     let b = block_of(by, block);
-    let t = nafelode::size(zone, b);
-    *data_size = t.value;
-    t.number
+    give(nafelode::size(zone, b), data_size)
 }
 
 // Copies count bytes of a block from an offset on to the start of out; later bytes of out stay.
@@ -132,16 +151,12 @@ pub extern "C" fn nafelode_read(
 ) -> u32
     ensures { Promise (read (named by block) offset count out.old) zone.now (shows result out.new) zone.now }
 {
-    let b = block_of(by, block);
-    nafelode::read(
-        zone,
-        Stretch {
-            block: b,
-            offset,
-            count,
-        },
-        out,
-    )
+    let stretch = Stretch {
+        block: block_of(by, block),
+        offset,
+        count,
+    };
+    number(nafelode::read(zone, stretch, out))
 }
 
 // Copies count bytes from the start of src to a block, from an offset on.
@@ -160,16 +175,12 @@ pub extern "C" fn nafelode_write(
 ) -> u32
     ensures { Promise (write (named by block) offset count src.now) zone.old (shows result src.now) zone.new }
 {
-    let b = block_of(by, block);
-    nafelode::write(
-        zone,
-        Stretch {
-            block: b,
-            offset,
-            count,
-        },
-        src,
-    )
+    let stretch = Stretch {
+        block: block_of(by, block),
+        offset,
+        count,
+    };
+    number(nafelode::write(zone, stretch, src))
 }
 
 // Where count bytes of a block from an offset on lie in the zone. They lie there until the next call that changes the zone.
@@ -193,14 +204,13 @@ pub extern "C" fn nafelode_view(
     ensures length_in_bounds { (result + length.new ≤ length_field zone.now) × (result + length.new ≤ ListN.length zone.now) }
 {
     let b = block_of(by, block);
-    let p = stretch::part_of(
+    let p = stretch::shown(
         zone,
         Stretch {
             block: b,
             offset,
             count,
         },
-        count as usize,
     );
     let n = p.end - p.start;
     let start = p.start as u32;
@@ -221,9 +231,7 @@ pub extern "C" fn nafelode_view(
 pub extern "C" fn nafelode_create_page(zone: &mut [u8], name: u32, c: u32, value: &mut u32) -> u32
     ensures { Promise (on_page name (create_page c)) zone.old (told result value.new) zone.new }
 {
-    let t = nafelode::create_page(zone, name, c);
-    *value = t.value;
-    t.number
+    give(nafelode::create_page(zone, name, c), value)
 }
 
 // Uses a page: the clock steps by one, modulo 256, and stamps it.
@@ -233,9 +241,7 @@ pub extern "C" fn nafelode_create_page(zone: &mut [u8], name: u32, c: u32, value
 pub extern "C" fn nafelode_use_page(zone: &mut [u8], name: u32, data_offset: &mut u32) -> u32
     ensures { Promise (on_page name use_page) zone.old (told result data_offset.new) zone.new }
 {
-    let t = nafelode::use_page(zone, name);
-    *data_offset = t.value;
-    t.number
+    give(nafelode::use_page(zone, name), data_offset)
 }
 
 // Makes a page dirty: it has changes that are saved nowhere else, and a create that would have to drop it is refused.
@@ -244,8 +250,7 @@ pub extern "C" fn nafelode_use_page(zone: &mut [u8], name: u32, data_offset: &mu
 pub extern "C" fn nafelode_set_dirty(zone: &mut [u8], name: u32) -> u32
     ensures { Promise (on_page name (mark_page set_dirty)) zone.old (told result 0) zone.new }
 {
-    let t = nafelode::set_dirty(zone, name);
-    t.number
+    number(nafelode::set_dirty(zone, name))
 }
 
 // Makes a page dirty no longer: it is saved.
@@ -254,8 +259,7 @@ pub extern "C" fn nafelode_set_dirty(zone: &mut [u8], name: u32) -> u32
 pub extern "C" fn nafelode_clear_dirty(zone: &mut [u8], name: u32) -> u32
     ensures { Promise (on_page name (mark_page clear_dirty)) zone.old (told result 0) zone.new }
 {
-    let t = nafelode::clear_dirty(zone, name);
-    t.number
+    number(nafelode::clear_dirty(zone, name))
 }
 
 // Locks a page: no create drops it.
@@ -264,8 +268,7 @@ pub extern "C" fn nafelode_clear_dirty(zone: &mut [u8], name: u32) -> u32
 pub extern "C" fn nafelode_set_lock(zone: &mut [u8], name: u32) -> u32
     ensures { Promise (on_page name (mark_page set_lock)) zone.old (told result 0) zone.new }
 {
-    let t = nafelode::set_lock(zone, name);
-    t.number
+    number(nafelode::set_lock(zone, name))
 }
 
 // Locks a page no longer.
@@ -274,8 +277,7 @@ pub extern "C" fn nafelode_set_lock(zone: &mut [u8], name: u32) -> u32
 pub extern "C" fn nafelode_clear_lock(zone: &mut [u8], name: u32) -> u32
     ensures { Promise (on_page name (mark_page clear_lock)) zone.old (told result 0) zone.new }
 {
-    let t = nafelode::clear_lock(zone, name);
-    t.number
+    number(nafelode::clear_lock(zone, name))
 }
 
 // Drops a page: its block is free. Neither dirty nor lock prevents that.
@@ -284,8 +286,7 @@ pub extern "C" fn nafelode_clear_lock(zone: &mut [u8], name: u32) -> u32
 pub extern "C" fn nafelode_drop_page(zone: &mut [u8], name: u32) -> u32
     ensures { Promise (on_page name drop_page) zone.old (told result 0) zone.new }
 {
-    let t = nafelode::drop_page(zone, name);
-    t.number
+    number(nafelode::drop_page(zone, name))
 }
 
 // Compacts every bay: relocatable blocks and pages slide to its start.
@@ -295,9 +296,7 @@ pub extern "C" fn nafelode_drop_page(zone: &mut [u8], name: u32) -> u32
 pub extern "C" fn nafelode_compact(zone: &mut [u8], largest: &mut u32) -> u32
     ensures { Promise compact zone.old (told result largest.new) zone.new }
 {
-    let t = nafelode::compact(zone);
-    *largest = t.value;
-    t.number
+    give(nafelode::compact(zone), largest)
 }
 
 // The total of free bytes and the largest bay's sum.
@@ -307,10 +306,18 @@ pub extern "C" fn nafelode_compact(zone: &mut [u8], largest: &mut u32) -> u32
 pub extern "C" fn nafelode_sum(zone: &[u8], total: &mut u32, largest: &mut u32) -> u32
     ensures { Promise sums zone.now (told_two result total.new largest.new) zone.now }
 {
-    let t = nafelode::sum(zone);
-    *total = t.total as u32;
-    *largest = t.largest as u32;
-    t.number
+    match nafelode::sum(zone) {
+        Ok(sums) => {
+            *total = sums.total as u32;
+            *largest = sums.largest as u32;
+            0
+        }
+        Err(refusal) => {
+            *total = 0;
+            *largest = 0;
+            refusal.number()
+        }
+    }
 }
 
 // Whether the buffer holds a well-formed zone, and how many handles are live. Never refused.
@@ -320,12 +327,16 @@ pub extern "C" fn nafelode_sum(zone: &[u8], total: &mut u32, largest: &mut u32) 
 pub extern "C" fn nafelode_check(zone: &[u8], live: &mut u32) -> u32
     ensures { Promise check zone.now (told_two 0 result live.new) zone.now }
 {
-    let k = nafelode::check(zone);
-    *live = k.count as u32;
-    if k.ok {
-        return 1;
+    match nafelode::check(zone) {
+        Some(count) => {
+            *live = count as u32;
+            1
+        }
+        None => {
+            *live = 0;
+            0
+        }
     }
-    0
 }
 
 // The zone's length L.
@@ -335,9 +346,7 @@ pub extern "C" fn nafelode_check(zone: &[u8], live: &mut u32) -> u32
 pub extern "C" fn nafelode_length(zone: &[u8], length: &mut u32) -> u32
     ensures { Promise length_of zone.now (told result length.new) zone.now }
 {
-    let t = nafelode::length(zone);
-    *length = t.value;
-    t.number
+    give(nafelode::length(zone), length)
 }
 
 // The zone grows by k bytes of the buffer, which become free.
@@ -346,8 +355,7 @@ pub extern "C" fn nafelode_length(zone: &[u8], length: &mut u32) -> u32
 pub extern "C" fn nafelode_enlarge(zone: &mut [u8], k: u32) -> u32
     ensures { Promise (enlarge k) zone.old (told result 0) zone.new }
 {
-    let t = nafelode::enlarge(zone, k);
-    t.number
+    number(nafelode::enlarge(zone, k))
 }
 
 // Strips at most k bytes, a multiple of 4, off the zone's end; they are zeroed.
@@ -357,9 +365,7 @@ pub extern "C" fn nafelode_enlarge(zone: &mut [u8], k: u32) -> u32
 pub extern "C" fn nafelode_shrink(zone: &mut [u8], k: u32, stripped: &mut u32) -> u32
     ensures { Promise (shrink k) zone.old (told result stripped.new) zone.new }
 {
-    let t = nafelode::shrink(zone, k);
-    *stripped = t.value;
-    t.number
+    give(nafelode::shrink(zone, k), stripped)
 }
 
 // Writes NAFELODE_ROSTER_RECORD bytes for each live handle to the start of out, by rising handle: the handle and its data size, 4 bytes each, high
@@ -370,9 +376,7 @@ pub extern "C" fn nafelode_shrink(zone: &mut [u8], k: u32, stripped: &mut u32) -
 pub extern "C" fn nafelode_roster(zone: &[u8], out: &mut [u8], live: &mut u32) -> u32
     ensures { Promise (roster out.old) zone.now (told_with result live.new out.new) zone.now }
 {
-    let t = nafelode::roster(zone, out);
-    *live = t.value;
-    t.number
+    give(nafelode::roster(zone, out), live)
 }
 
 // Counts the free blocks by size. With limits of length 0 (the pointer may be NULL then) stratum i has the free blocks of 2^i to 2^(i+1) - 1 words of
@@ -388,10 +392,16 @@ pub extern "C" fn nafelode_census(
 ) -> u32
     ensures { counted result counts.new ≡ census zone.now limits.now }
 {
-    let c = nafelode::census(zone, limits);
-    let counted = c.counts;
-    *counts = counted;
-    c.number
+    match nafelode::census(zone, limits) {
+        Ok(all) => {
+            *counts = all;
+            0
+        }
+        Err(refusal) => {
+            *counts = [0; block_type::STRATA];
+            refusal.number()
+        }
+    }
 }
 
 // Where a walker starts: at the first block.
@@ -424,8 +434,17 @@ pub extern "C" fn nafelode_walker_step(
     let m = w.go(zone);
     let next = m.next.at as u32;
     *walker = next;
-    *block_type = m.report.block.kind as u32;
-    *offset = m.report.block.offset as u32;
-    *size = m.report.block.size as u32;
-    m.report.number
+    *block_type = 0;
+    *offset = 0;
+    *size = 0;
+    match m.block {
+        Ok(Some(block)) => {
+            *block_type = u32::from(block.kind.code());
+            *offset = block.offset as u32;
+            *size = block.size as u32;
+            0
+        }
+        Ok(None) => 0,
+        Err(refusal) => refusal.number(),
+    }
 }

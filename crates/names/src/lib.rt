@@ -22,17 +22,11 @@ pub fn name_at(z: &[u8], at: usize) -> u32
     bigendian::get4(z, at + BlockType::TAG_AT)
 }
 
-fn wide(x: u32) -> u64
-    ensures { result ≡ x }
-{
-    x as u64
-}
-
 // The name x with its bits mixed.
 fn mix(x: u32) -> u64
     ensures { (result ≡ mixed x) × (result < argument_range) }
 {
-    wide(x) * SPREAD % block_type::ARGUMENT_RANGE
+    u64::from(x) * SPREAD % block_type::ARGUMENT_RANGE
 }
 
 // The place of a name whose mixed bits are m, one of `heads`: a product and a shift.

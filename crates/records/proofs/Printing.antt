@@ -11,6 +11,8 @@ use Rattle.bigendian.proofs.Overwrite.{write-none, write-more}
 use Rattle.block_type.specs.Limits.{argument_range}
 use Rattle.records.specs.Records.{decimal, Line, skip, line, text}
 use Rattle.records.specs.Shown.{line_of}
+use Rattle.records.specs.declared.Line.{Line as CodeLine}
+use Rattle.records.specs.declared.Line.TheVariants.{Skip, Said}
 use Rattle.records.specs.Putting.{Put}
 use Rattle.records.proofs.Decimal.{digits-one, digits-some, digits-most, decimal_step}
 
@@ -121,16 +123,16 @@ unfolding text
 text-most skip = omega arith
 text-most (line n v) = omega (arith, line-length n v, digits-most 10 n, digits-most 10 v)
 
-module _ (t : Bool) (n v at : ℕ) (s : List ℕ) where
-  pub skip-room : t ≡ true → at + length (text (line_of t n v)) ≤ length s → at + 5 ≤ length s
+module _ (at : ℕ) (s : List ℕ) where
+  pub skip-room : (l : CodeLine) → l ≡ Skip → at + length (text (line_of l)) ≤ length s → at + 5 ≤ length s
   unfolding text
-  skip-room e h = rw e at h
+  skip-room l e h = rw e at h
 
-  pub numbers-room : t ≡ false → at + length (text (line_of t n v)) ≤ length s → at + (length (decimal n) + (length (decimal v) + 2)) ≤ length s
-  numbers-room e h = rw (e, line-length n v) at h
+  pub numbers-room : (l : CodeLine) (n v : ℕ) → l ≡ Said n v → at + length (text (line_of l)) ≤ length s → at + (length (decimal n) + (length (decimal v) + 2)) ≤ length s
+  numbers-room l n v e h = rw (e, line-length n v) at h
 
-  pub skip-line : (e : List ℕ) (r : ℕ) → t ≡ true → Put (text skip) at s e r → Put (text (line_of t n v)) at s e r
-  skip-line e r q p = rw q p
+  pub skip-line : (l : CodeLine) (e : List ℕ) (r : ℕ) → l ≡ Skip → Put (text skip) at s e r → Put (text (line_of l)) at s e r
+  skip-line l e r q p = rw q p
 
-  pub numbers-line : (e : List ℕ) (r : ℕ) → t ≡ false → Put (text (line n v)) at s e r → Put (text (line_of t n v)) at s e r
-  numbers-line e r q p = rw q p
+  pub numbers-line : (l : CodeLine) (n v : ℕ) (e : List ℕ) (r : ℕ) → l ≡ Said n v → Put (text (line n v)) at s e r → Put (text (line_of l)) at s e r
+  numbers-line l n v e r q p = rw q p

@@ -1,13 +1,16 @@
 // A run of call records: each record of 16 bytes is a call on the zone, and each prints a line.
 #![tactic(auto)]
 
-ghost use Rattle.std.specs.Prelude.{◌≡◌, [], ◌∷◌, ◌+◌, ◌<◌, ◌≤◌, ◌%◌, length, get_or};
+ghost use Rattle.std.specs.Prelude.{◌≡◌, [], ◌∷◌, ◌+◌, ◌<◌, ◌≤◌, ◌%◌, length};
 ghost use Rattle.calls.specs.Calls.{by_handle, write};
-ghost use Rattle.records.specs.Records.{actions, nothing, act, read_byte, call, ran, run_record, decimal, text, line as shownLine, skip as shownSkip};
+ghost use Rattle.calls.specs.Refusals.{done_of};
+ghost use Rattle.access.specs.locate.Named.{target_of};
+ghost use Rattle.records.specs.Records.{act, read_byte, call, ran, run_record, decimal, text, line as shownLine, skip as shownSkip};
 ghost use Rattle.records.specs.Shown.{line_of, Run};
+ghost use Rattle.records.specs.Code.{asked};
 ghost use Rattle.records.specs.Putting.{Put, Step};
 
-use nafelode::{Stretch, Target, Told};
+use nafelode::{Refusal, Stretch, Target};
 
 // "16-byte records: byte 0 code, 1 to 3 zero, then a, b, d of 4 bytes, high byte first"
 const RECORD_LENGTH: usize = 16;
@@ -18,113 +21,165 @@ const B_AT: usize = 8;
 
 const D_AT: usize = 12;
 
-// The line of a record: `skip`, or the refusal number, 0 if done, and the value.
-#[derive(Clone, Copy)]
-pub struct Line {
-    pub skip: bool,
-    pub number: u32,
-    pub value: u32,
+/// The line of a record: `skip`, or the refusal number, 0 if done, and the value.
+#[derive(Clone, Copy, Debug, PartialEq, Eq)]
+pub enum Line {
+    Skip,
+    Said { number: u32, value: u32 },
 }
 
-fn skipped() -> Line
-    ensures { line_of result.skip result.number result.value ≡ shownSkip }
+impl From<Result<u32, Refusal>> for Line {
+    ghost use Rattle.records.specs.Shown.{SaysValue};
+
+    ghost from_gives = { SaysValue };
+
+    fn from(answer: Result<u32, Refusal>) -> Line {
+        match answer {
+            Ok(value) => Line::Said { number: 0, value },
+            Err(refusal) => Line::Said {
+                number: refusal.number(),
+                value: refusal.beside(),
+            },
+        }
+    }
+}
+
+// A call without a value says 0 for it.
+impl From<Result<(), Refusal>> for Line {
+    ghost use Rattle.records.specs.Shown.{SaysDone};
+
+    ghost from_gives = { SaysDone };
+
+    fn from(answer: Result<(), Refusal>) -> Line {
+        Line::Said {
+            number: number(answer),
+            value: 0,
+        }
+    }
+}
+
+// The refusal number of a call without a value, 0 if it is done.
+fn number(answer: Result<(), Refusal>) -> u32
+    ensures { result ≡ (done_of answer).number }
 {
-    Line {
-        skip: true,
-        number: 0,
-        value: 0,
+    match answer {
+        Ok(()) => 0,
+        Err(refusal) => refusal.number(),
+    }
+}
+
+// What a record's code asks for.
+#[derive(Clone, Copy, Debug, PartialEq, Eq)]
+enum Code {
+    Initialize,
+    AllocateRelocatable,
+    AllocateFixed,
+    FreeHandle,
+    FreePointer,
+    Resize,
+    WriteByte,
+    ReadByte,
+    Compact,
+    Enlarge,
+    Shrink,
+}
+
+// A code that no call has: its record is skipped.
+#[derive(Clone, Copy, Debug, PartialEq, Eq)]
+struct UnknownCode;
+
+impl TryFrom<u8> for Code {
+    type Error = UnknownCode;
+
+    ghost use Rattle.records.specs.Code.{Decodes};
+
+    ghost try_from_gives = { Decodes };
+
+    fn try_from(code: u8) -> Result<Code, UnknownCode> {
+        match code {
+            0 => Ok(Code::Initialize),
+            1 => Ok(Code::AllocateRelocatable),
+            2 => Ok(Code::AllocateFixed),
+            3 => Ok(Code::FreeHandle),
+            4 => Ok(Code::FreePointer),
+            5 => Ok(Code::Resize),
+            6 => Ok(Code::WriteByte),
+            7 => Ok(Code::ReadByte),
+            8 => Ok(Code::Compact),
+            9 => Ok(Code::Enlarge),
+            10 => Ok(Code::Shrink),
+            _ => Err(UnknownCode),
+        }
+    }
+}
+
+// The byte of handle h at offset i.
+fn byte_at(h: u32, i: u32) -> Stretch
+    ensures { (target_of result.block ≡ by_handle h) × (result.offset ≡ i) × (result.count ≡ 1) }
+{
+    Stretch {
+        block: Target::Handle(h),
+        offset: i,
+        count: 1,
     }
 }
 
 // Writes the low byte of d to handle h at offset i.
 fn write_byte(zone: &mut [u8], h: u32, i: u32, d: u32) -> Line
-    ensures { ran (line_of result.skip result.number result.value) zone.new ≡ act (call (write (by_handle h) i 1 (d % 256 ∷ []))) zone.old }
+    ensures { ran (line_of result) zone.new ≡ act (call (write (by_handle h) i 1 (d % 256 ∷ []))) zone.old }
 {
     let byte = [(d % 256) as u8; 1];
-    let stretch = Stretch {
-        block: Target::Handle(h),
-        offset: i,
-        count: 1,
-    };
-    let number = nafelode::write(zone, stretch, &byte);
-    Line {
-        skip: false,
-        number,
-        value: 0,
-    }
-}
-
-fn wide(x: u8) -> u32
-    ensures { result ≡ x }
-{
-    x as u32
+    Line::from(nafelode::write(zone, byte_at(h, i), &byte))
 }
 
 // Reads a byte of handle h at offset i: the byte is the value.
 fn read_byte(zone: &[u8], h: u32, i: u32) -> Line
-    ensures { ran (line_of result.skip result.number result.value) zone.now ≡ act (read_byte h i) zone.now }
+    ensures { ran (line_of result) zone.now ≡ act (read_byte h i) zone.now }
 {
     let mut byte = [0u8; 1];
-    let stretch = Stretch {
-        block: Target::Handle(h),
-        offset: i,
-        count: 1,
-    };
-    let number = nafelode::read(zone, stretch, &mut byte);
-    let seen = wide(byte[0]);
-    Line {
-        skip: false,
+    let number = number(nafelode::read(zone, byte_at(h, i), &mut byte));
+    Line::Said {
         number,
-        value: seen,
-    }
-}
-
-fn told(t: Told) -> Line
-    ensures { line_of result.skip result.number result.value ≡ shownLine t.number t.value }
-{
-    let number = t.number;
-    let value = t.value;
-    Line {
-        skip: false,
-        number,
-        value,
+        value: u32::from(byte[0]),
     }
 }
 
 // Does what a code asks, with the record's three numbers.
-fn run_code(zone: &mut [u8], code: u8, a: u32, b: u32, d: u32) -> Line
-    ensures { ran (line_of result.skip result.number result.value) zone.new ≡ act (get_or (actions a b d) code nothing) zone.old }
+fn run_code(zone: &mut [u8], code: Code, a: u32, b: u32, d: u32) -> Line
+    ensures { ran (line_of result) zone.new ≡ act (asked code a b d) zone.old }
 {
     match code {
-        0 => told(nafelode::initialize(zone, a, b)),
-        1 => told(nafelode::allocate_relocatable(zone, a)),
-        2 => told(nafelode::allocate_fixed(zone, a)),
-        3 => told(nafelode::free_handle(zone, a)),
-        4 => told(nafelode::free_pointer(zone, a)),
-        5 => told(nafelode::resize(zone, a, b)),
-        6 => write_byte(zone, a, b, d),
-        7 => read_byte(zone, a, b),
-        8 => told(nafelode::compact(zone)),
-        9 => told(nafelode::enlarge(zone, a)),
-        10 => told(nafelode::shrink(zone, a)),
-        _ => skipped(),
+        Code::Initialize => Line::from(nafelode::initialize(zone, a, b)),
+        Code::AllocateRelocatable => Line::from(nafelode::allocate_relocatable(zone, a)),
+        Code::AllocateFixed => Line::from(nafelode::allocate_fixed(zone, a)),
+        Code::FreeHandle => Line::from(nafelode::free_handle(zone, a)),
+        Code::FreePointer => Line::from(nafelode::free_pointer(zone, a)),
+        Code::Resize => Line::from(nafelode::resize(zone, a, b)),
+        Code::WriteByte => write_byte(zone, a, b, d),
+        Code::ReadByte => read_byte(zone, a, b),
+        Code::Compact => Line::from(nafelode::compact(zone)),
+        Code::Enlarge => Line::from(nafelode::enlarge(zone, a)),
+        Code::Shrink => Line::from(nafelode::shrink(zone, a)),
     }
 }
 
 // Does what a record asks of the zone.
 pub fn run_record(zone: &mut [u8], bytes: &[u8]) -> Line
-    ensures { ran (line_of result.skip result.number result.value) zone.new ≡ run_record bytes.now zone.old }
+    ensures { ran (line_of result) zone.new ≡ run_record bytes.now zone.old }
 {
     if bytes.len() != RECORD_LENGTH {
-        return skipped();
+        return Line::Skip;
     }
-    if memory::all_zero(bytes, 1, A_AT) {
-        let a = bigendian::get4(bytes, A_AT);
-        let b = bigendian::get4(bytes, B_AT);
-        let d = bigendian::get4(bytes, D_AT);
-        return run_code(zone, bytes[0], a, b, d);
+    if !memory::all_zero(bytes, 1, A_AT) {
+        return Line::Skip;
     }
-    skipped()
+    let Ok(code) = Code::try_from(bytes[0]) else {
+        return Line::Skip;
+    };
+    let a = bigendian::get4(bytes, A_AT);
+    let b = bigendian::get4(bytes, B_AT);
+    let d = bigendian::get4(bytes, D_AT);
+    run_code(zone, code, a, b, d)
 }
 
 // How many digits n has.
@@ -192,15 +247,13 @@ fn put_skip(out: &mut [u8], at: usize) -> usize
 
 // Puts a line's text at `at`. Answers where the next goes.
 fn print_line(line: Line, out: &mut [u8], at: usize) -> usize
-    requires { at + length (text (line_of line.skip line.number line.value)) ≤ length out.old }
-    ensures { Put (text (line_of line.skip line.number line.value)) at out.old out.new result }
+    requires { at + length (text (line_of line)) ≤ length out.old }
+    ensures { Put (text (line_of line)) at out.old out.new result }
 {
-    let number = line.number;
-    let value = line.value;
-    if line.skip {
-        return put_skip(out, at);
+    match line {
+        Line::Skip => put_skip(out, at),
+        Line::Said { number, value } => put_numbers(out, at, number, value),
     }
-    put_numbers(out, at, number, value)
 }
 
 // One record: the zone changes and the line is put at `at`. Answers where the next goes.

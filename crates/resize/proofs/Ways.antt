@@ -1,5 +1,5 @@
 -- Each way may be gone, and leaves what the definition says.
-use mathlib.Core.Path.{◌≡◌, sym, ap, ◌∙◌, subst}
+use mathlib.Core.Path.{◌≡◌, sym, ap, ◌∙◌}
 use mathlib.Core.Bool.{Bool, true, false, cond}
 use mathlib.Core.List.{List}
 use Prim.Native.Nat.{ℕ, ◌-◌}
@@ -21,9 +21,7 @@ use Rattle.resize.specs.reshape.Here.{Here}
 use Rattle.resize.specs.reshape.Grow.{Laid}
 use Rattle.resize.proofs.reshape.Plan.{here-reached, laid-reached}
 use Rattle.resize.specs.relocate.Relocate.{relocated, RelocateIn, relocate_of}
-use Rattle.resize.specs.Ready.{resized_to, WayIn, here, own, other}
-use Rattle.resize.specs.declared.Way.{Way}
-use Rattle.resize.specs.declared.Way.TheVariants.{InPlace, OwnBay, OtherBay}
+use Rattle.resize.specs.Ready.{resized_to}
 
 -- by whether the sum of its own bay reaches the growth
 module _ (z : List ℕ) (h a : ℕ) where
@@ -48,35 +46,14 @@ module _ (z : List ℕ) (h a : ℕ) where
   unfolding data_in by
   moves q = ap by q
 
-module _ (z : List ℕ) (h a b at n st e : ℕ) (t : Bool) (way : Way) (x : WayIn z h a b at n st e t way) where
-  abbrev In : Way → Type 0
-  In w = WayIn z h a b at n st e t w
+module _ (z : List ℕ) (h b a : ℕ) (y : List ℕ) where
+  pub here-done : (at f : ℕ) → Here z h at b f a → y ≡ encode (reshaped h a (decode_zone z)) → y ≡ encode (resized_to h a (decode_zone z))
+  here-done at f x ey = ey ∙ ap encode (sym (stays z h a (here-reached z h at b f a x)))
 
-  pub act-here : way ≡ InPlace → Here z h at b n a
-  act-here q = go (subst In q x)
-    where
-      go : In InPlace → Here z h at b n a
-      go (here y) = y
+  pub own-done : (st e sum : ℕ) → Laid z h st e sum b a → y ≡ encode (reshaped h a (decode_zone z)) → y ≡ encode (resized_to h a (decode_zone z))
+  own-done st e sum x ey = ey ∙ ap encode (sym (stays z h a (laid-reached z h st e sum b a x)))
 
-  pub act-own : way ≡ OwnBay → Laid z h st e n b a
-  act-own q = go (subst In q x)
-    where
-      go : In OwnBay → Laid z h st e n b a
-      go (own y) = y
-
-  pub act-other : way ≡ OtherBay → RelocateIn z h b a st e at n t
-  act-other q = go (subst In q x)
-    where
-      go : In OtherBay → RelocateIn z h b a st e at n t
-      go (other y) = y
-
-  pub here-done : way ≡ InPlace → (y : List ℕ) → y ≡ encode (reshaped h a (decode_zone z)) → y ≡ encode (resized_to h a (decode_zone z))
-  here-done q y ey = ey ∙ ap encode (sym (stays z h a (here-reached z h at b n a (act-here q))))
-
-  pub own-done : way ≡ OwnBay → (y : List ℕ) → y ≡ encode (reshaped h a (decode_zone z)) → y ≡ encode (resized_to h a (decode_zone z))
-  own-done q y ey = ey ∙ ap encode (sym (stays z h a (laid-reached z h st e n b a (act-own q))))
-
-  pub other-done : way ≡ OtherBay → (y : List ℕ) → y ≡ encode (relocated h a (decode_zone z)) → y ≡ encode (resized_to h a (decode_zone z))
-  other-done q y ey =
-      let r = relocate_of (act-other q) in
+  pub other-done : (st e at n : ℕ) (t : Bool) → RelocateIn z h b a st e at n t → y ≡ encode (relocated h a (decode_zone z)) → y ≡ encode (resized_to h a (decode_zone z))
+  other-done st e at n t x ey =
+      let r = relocate_of x in
       ey ∙ ap encode (sym (moves z h a (lt-leb (a - length (data_in z h)) (own_sum items bay_sum h (bays_of (decode_zone z))) (omega (arith, r.lacking, r.grows.is_b)))))

@@ -9,7 +9,6 @@ use borrow.Author.Tests.{le-leb, lt-leb}
 use lib.ListN.{length}
 use lib.Dec.{leb}
 use Rattle.block_type.specs.Limits.{reloc_header, reloc_limit, up4}
-use Rattle.format.specs.WellFormed.{first_field}
 use Rattle.structure.specs.Structure.{Structure, decode_zone}
 use Rattle.access.specs.Edit.{place_in, data_in, data_of}
 use Rattle.kinds.specs.Kinds.{Item}
@@ -23,10 +22,16 @@ use Rattle.bays.specs.Places.{bays_of}
 use Rattle.access.proofs.locate.Live.{place-gone, place-live}
 use Rattle.resize.specs.reshape.Own.{Known}
 use Rattle.resize.proofs.reshape.Plan.{here_of, here-reached}
-use Rattle.call_laws.specs.Frame.{zone_at, PlannedIn, refuses, goes}
-use Rattle.resize.specs.Ready.{no_room, WayIn, here, Lacking, Chosen, lacks, found, ReadyIn}
+use Rattle.std.specs.Prelude.{Result, Ok, Err, IfErr}
+use Rattle.std.specs.Result.{IsErrAnd}
+use Rattle.calls.specs.declared.Refusal.{Refusal}
+use Rattle.calls.specs.declared.Refusal.TheVariants.{HandleNotLive, TooLarge, NoSpace}
+use Rattle.call_laws.specs.Frame.{zone_at}
+use Rattle.call_laws.specs.Refused.{Refuses}
+use Rattle.resize.specs.Ready.{no_room, Lacking, Chosen, Lacks, Ready}
+use Rattle.resize.specs.declared.Plan.{Plan}
+use Rattle.resize.specs.declared.Way.{Way}
 use Rattle.resize.specs.declared.Way.TheVariants.{InPlace}
-use Rattle.structure.specs.IsZone.{IsZone}
 
 module _ (z : List ℕ) (h c : ℕ) where
   abbrev s : Structure
@@ -64,29 +69,39 @@ module _ (z : List ℕ) (h c : ℕ) where
   passed-live buf k e = omega (arith, k, gone-asked e buf)
 
   module _ (place : ℕ) (e : place ≡ place_in z h) where
-    module _ (R : Type 0) (number : ℕ) where
-      pub in-6 : place ≡ 0 → number ≡ 6 → PlannedIn (resize h c) z number R
-      in-6 q k = refuses (record { some = λ y. omega arith; is = λ buf. gone-asked (sym e ∙ q) buf ∙ sym k })
+    pub in-6 : place ≡ 0 → Refuses (resize h c) z HandleNotLive
+    in-6 q = record { number_is = λ buf. gone-asked (sym e ∙ q) buf; beside_is = λ buf. refl }
 
-      pub in-3 : (place ≡ 0 → ⊥) → reloc_limit < c → number ≡ 3 → PlannedIn (resize h c) z number R
-      in-3 ne l k = refuses (record { some = λ y. omega arith; is = λ buf. asked (λ q. ne (e ∙ q)) (lt-leb c reloc_limit l) refl buf ∙ sym k })
-
-    module _ (ne : place ≡ 0 → ⊥) (l : c ≤ reloc_limit) (a : ℕ) (ea : a ≡ (c + 3) / 4 * 4) where
+    module _ (ne : place ≡ 0 → ⊥) where
       live : place_in z h ≡ 0 → ⊥
       live q = ne (e ∙ q)
 
-      -- what the bays give
-      pub in-bays : (number a' : ℕ) (G : Type 0) → Chosen z h a number a' G → PlannedIn (resize h c) z number (ReadyIn z h c a' G)
-      in-bays number a' G (lacks k n) = refuses (record { some = λ y. omega arith; is = λ buf. asked live (le-leb c reloc_limit l) (ap (no_room z h) (sym ea) ∙ n) buf ∙ sym k })
-      in-bays number a' G (found k n q g) = goes k (record { is_a = q ∙ ea; passed = asked live (le-leb c reloc_limit l) (ap (no_room z h) (sym ea) ∙ n); goes = g })
+      pub in-3 : reloc_limit < c → Refuses (resize h c) z TooLarge
+      in-3 l = record { number_is = λ buf. asked live (lt-leb c reloc_limit l) refl buf; beside_is = λ buf. refl }
 
-      module _ (b f : ℕ) (k : Known z h place b f) where
-        pub in_here : a ≤ b + f → (st en : ℕ) (t : Bool) → PlannedIn (resize h c) z 0 (ReadyIn z h c a (WayIn z h a b place f st en t InPlace))
-        in_here m st en t =
-            let x = here_of z h place b f k a (omega (arith, ea)) (omega (arith, ea)) m in
-            in-bays 0 a (WayIn z h a b place f st en t InPlace)
-            (found refl (ap (λ (u : Bool). not u && below (max_s bay_sum (bays_of s)) (reloc_header + a)) (here-reached z h place b f a x)) refl (here x))
+      module _ (l : c ≤ reloc_limit) where
+        -- by whether a bay has room
+        by-room : (n : ℕ) → n ≡ (reloc_header + c + 3) / 4 * 4 → {t : Bool} → no_room z h (n - reloc_header) ≡ t → (buf : ℕ) → refusal_of (resize h c) (facts true (zone_at buf z)) ≡ asks-live true t
+        by-room n en q buf =
+            let ea : up4 c ≡ n - reloc_header = omega (arith, en) in
+            asked live (le-leb c reloc_limit l) (ap (no_room z h) ea ∙ q) buf
 
-        pub in-lacking : IsZone z → b ≡ length (data_in z h) → (first : ℕ) → first ≡ first_field z → b + f < a → Lacking z h first place b a
-        in-lacking i eb first ef m =
-            record { zone = i; is_first = ef; live = live; is_b = eb; behind = f; known = k; more = m; four = omega (arith, ea); high = omega (arith, ea) }
+        module _ (b n : ℕ) (en : n ≡ (reloc_header + c + 3) / 4 * 4) where
+          pub in-5 : (d : Refusal) → Lacks z (record { handle = h; old_len = b; new_len = n - reloc_header }) d → (r : Result Plan Refusal) → IsErrAnd r (λ y. y ≡ d) → IfErr r (Refuses (resize h c) z)
+          in-5 d x (Ok p) k = absurd k
+          in-5 d x (Err f) k =
+              let q : f ≡ NoSpace = k ∙ x.refusal_is in
+              rw q (record { number_is = by-room n en x.none; beside_is = λ buf. refl })
+
+          pub in-way : (w : Way) → Chosen z (record { handle = h; old_len = b; new_len = n - reloc_header }) w → Ready z h c (record { block = record { handle = h; old_len = b; new_len = n - reloc_header }; way = w })
+          in-way w x = record { is_handle = refl; is_len = omega (arith, en); passed = by-room n en x.room; goes = x.goes }
+
+          module _ (f : ℕ) (k : Known z h place b f) where
+            pub in-here : n - reloc_header ≤ b + f → Ready z h c (record { block = record { handle = h; old_len = b; new_len = n - reloc_header }; way = InPlace place f })
+            in-here m =
+                let x = here_of z h place b f k (n - reloc_header) (omega (arith, en)) (omega (arith, en)) m in
+                in-way (InPlace place f) (record { room = ap (λ (u : Bool). not u && below (max_s bay_sum (bays_of s)) (reloc_header + (n - reloc_header))) (here-reached z h place b f (n - reloc_header) x); goes = x })
+
+            pub in-lacking : b ≡ length (data_in z h) → b + f < n - reloc_header → Lacking z place (record { handle = h; old_len = b; new_len = n - reloc_header })
+            in-lacking eb m =
+                record { live = live; is_b = eb; behind = f; known = k; more = m; four = omega (arith, en); high = omega (arith, en) }

@@ -8,4 +8,3 @@ pub mod Carrying
 pub mod Carried
 pub mod Found
 pub mod Zone
-pub mod Plan

@@ -4,211 +4,109 @@
 pub mod relocate;
 pub mod reshape;
 
-ghost use Rattle.std.specs.Prelude.{◌≡◌, ◌<◌, take};
+ghost use Rattle.std.specs.Prelude.{◌≡◌, IfOk, IfErr};
 ghost use Rattle.structure.specs.Structure.{encode, decode_zone};
-ghost use Rattle.calls.specs.Calls.{told, resize};
+ghost use Rattle.calls.specs.Calls.{resize};
+ghost use Rattle.calls.specs.Refusals.{done_of};
 ghost use Rattle.zone.specs.Call.{result_of, call};
-ghost use Rattle.call_laws.specs.Frame.{PlannedIn, Planned};
-ghost use Rattle.resize.specs.Ready.{resized_to, Lacking, Chosen, Going, Ready};
-ghost use Rattle.block_type.specs.Limits.{argument_range};
-ghost use Rattle.structure.specs.IsZone.{IsZone};
+ghost use Rattle.call_laws.specs.Refused.{Refuses};
+ghost use Rattle.resize.specs.Ready.{resized_to, Going, Lacks, Lacking, Chosen, Ready};
 
+use access::{Zone, locate};
+use bays::Bay;
 use block_type::BlockType;
-use calls::Told;
-use room::place;
+use calls::Refusal;
+use room::place::{self, Site};
 
+// The block of a live handle, with the number of data bytes that it has and of those that it gets.
+#[derive(Clone, Copy)]
+pub struct Resizing {
+    pub handle: usize,
+    pub old_len: usize,
+    pub new_len: usize,
+}
+
+// How the block gets its new size.
 #[derive(Clone, Copy)]
 pub enum Way {
-    InPlace,
-    OwnBay,
-    OtherBay,
+    // Its data stay at `at`, where `free` free bytes are behind them.
+    InPlace { at: usize, free: usize },
+    // Its own bay is laid out anew.
+    OwnBay(Bay),
+    // It goes to the free block of another bay.
+    OtherBay(Site),
 }
 
-// The block gets a data bytes for b: with `size` free bytes behind it, or in its bay from start to end with `size` free bytes, or in the
-// free block of `size` bytes at `at` of another bay.
 #[derive(Clone, Copy)]
 pub struct Plan {
-    pub number: u32,
-    pub len: usize,
+    pub block: Resizing,
     pub way: Way,
-    pub a: usize,
-    pub b: usize,
-    pub at: usize,
-    pub size: usize,
-    pub start: usize,
-    pub end: usize,
-    pub tidy: bool,
 }
 
-fn no_plan(number: u32) -> Plan
-    ensures { result.number ≡ number }
+// The way where there is no room right behind the block, whose data lie at `at`.
+fn way_to_bay(z: Zone<'_>, at: usize, block: Resizing) -> Result<Way, Refusal>
+    requires { Lacking z.bytes.now at block }
+    ensures ok { IfOk result (Chosen z.entry.bytes.now block) }
+    ensures err { IfErr result (Lacks z.entry.bytes.now block) }
 {
-    let way = Way::InPlace;
-    Plan {
-        number,
-        len: 0,
-        way,
-        a: 0,
-        b: 0,
-        at: 0,
-        size: 0,
-        start: 0,
-        end: 0,
-        tidy: false,
+    let first = z.first_block();
+    let own = bays::find_own(z.bytes, first, at - BlockType::RELOCATABLE_HEADER);
+    if block.new_len - block.old_len <= own.sum {
+        return Ok(Way::OwnBay(own));
+    }
+    let need = BlockType::RELOCATABLE_HEADER + block.new_len;
+    match place::find_room(z.bytes, first, need) {
+        Some(site) => Ok(Way::OtherBay(site)),
+        None => Err(Refusal::NoSpace),
     }
 }
 
-// The plan where there is no room right behind the block, whose b data bytes lie at `at`.
-fn plan_bays(z: &[u8], h: usize, first: usize, at: usize, b: usize, a: usize) -> Plan
-    requires { Lacking z.now h first at b a }
-    ensures { Chosen z.now h a result.number result.a (Going z.now h result) }
+// The plan for c data bytes.
+fn plan_in(z: Zone<'_>, handle: u32, c: u32) -> Result<Plan, Refusal>
+    ensures ok { IfOk result (Ready z.entry.bytes.now handle c) }
+    ensures err { IfErr result (Refuses (resize handle c) z.entry.bytes.now) }
 {
-    let own = bays::find_own(z, first, at - BlockType::RELOCATABLE_HEADER);
-    let own_start = own.start;
-    let own_end = own.end;
-    let own_sum = own.sum;
-    if a - b <= own_sum {
-        let way = Way::OwnBay;
-        return Plan {
-            number: 0,
-            len: 0,
-            way,
-            a,
-            b,
-            at,
-            size: own_sum,
-            start: own_start,
-            end: own_end,
-            tidy: false,
-        };
-    }
-    let need = BlockType::RELOCATABLE_HEADER + a;
-    let r = place::find_room(z, first, need);
-    let found = r.found;
-    if found {
-        let way = Way::OtherBay;
-        let start = r.start;
-        let end = r.end;
-        let at = r.at;
-        let size = r.size;
-        let tidy = r.tidy;
-        return Plan {
-            number: 0,
-            len: 0,
-            way,
-            a,
-            b,
-            at,
-            size,
-            start,
-            end,
-            tidy,
-        };
-    }
-    no_plan(5)
-}
-
-// The plan in a well-formed zone.
-fn plan_in(z: &[u8], h: usize, c: u32) -> Plan
-    requires { (IsZone z.now) × (h < argument_range) }
-    ensures { PlannedIn (resize h c) z.now result.number (Ready z.now h c result) }
-{
-    let at = access::place(z, h);
-    if at == 0 {
-        return no_plan(6);
-    }
+    let Some(span) = locate::by_handle(z, handle) else {
+        return Err(Refusal::HandleNotLive);
+    };
     if BlockType::RELOCATABLE_LIMIT < c {
-        return no_plan(3);
+        return Err(Refusal::TooLarge);
     }
-    let a = (c as usize + 3) / 4 * 4;
-    let b = access::data_size(z, h);
-    let f = reshape::room_after(z, h, at, b);
-    if a <= b + f {
-        let way = Way::InPlace;
-        return Plan {
-            number: 0,
-            len: 0,
-            way,
-            a,
-            b,
-            at,
-            size: f,
-            start: 0,
-            end: 0,
-            tidy: false,
-        };
+    let block = Resizing {
+        handle: handle as usize,
+        old_len: span.size,
+        new_len: BlockType::Relocatable.need(c) - BlockType::RELOCATABLE_HEADER,
+    };
+    let free = reshape::room_after(z, block.handle, span.at, block.old_len);
+    if block.new_len <= block.old_len + free {
+        return Ok(Plan {
+            block,
+            way: Way::InPlace { at: span.at, free },
+        });
     }
-    let first = bigendian::get4(z, block_type::FIRST_AT) as usize;
-    plan_bays(z, h, first, at, b, a)
-}
-
-// The plan: the refusal, 0 for none, and then what the call is to write.
-fn plan_zone(zone: &[u8], h: u32, c: u32) -> Plan
-    ensures { Planned (resize h c) zone.now result.number result.len (Ready (take result.len zone.now) h c result) }
-{
-    let k = zone_check::check(zone);
-    let ok = k.ok;
-    if !ok {
-        return no_plan(1);
-    }
-    let l = bigendian::get4(zone, block_type::LENGTH_AT) as usize;
-    let p = plan_in(&zone[..l], h as usize, c);
-    let number = p.number;
-    let way = p.way;
-    let a = p.a;
-    let b = p.b;
-    let at = p.at;
-    let size = p.size;
-    let start = p.start;
-    let end = p.end;
-    let tidy = p.tidy;
-    Plan {
-        number,
-        len: l,
-        way,
-        a,
-        b,
-        at,
-        size,
-        start,
-        end,
-        tidy,
-    }
+    let way = way_to_bay(z, span.at, block)?;
+    Ok(Plan { block, way })
 }
 
 // The plan is carried out.
-fn act(z: &mut [u8], h: usize, p: Plan)
-    requires { Going z.old h p }
-    ensures { z.new ≡ encode (resized_to h p.a (decode_zone z.old)) }
+fn act(z: &mut [u8], p: Plan)
+    requires { Going z.old p }
+    ensures { z.new ≡ encode (resized_to p.block.handle p.block.new_len (decode_zone z.old)) }
 {
-    let way = p.way;
-    let a = p.a;
-    let b = p.b;
-    let at = p.at;
-    let size = p.size;
-    let start = p.start;
-    let end = p.end;
-    let tidy = p.tidy;
-    match way {
-        Way::InPlace => reshape::resize_here(z, h, at, b, size, a),
-        Way::OwnBay => reshape::lay_out(z, h, start, end, size, b, a),
-        Way::OtherBay => relocate::relocate(z, h, b, a, start, end, at, size, tidy),
+    match p.way {
+        Way::InPlace { at, free } => reshape::resize_here(z, p.block, at, free),
+        Way::OwnBay(bay) => reshape::lay_out(z, p.block, bay),
+        Way::OtherBay(site) => relocate::relocate(z, p.block, site),
     }
 }
 
-// Gives the block of a handle c data bytes. Answers the refusal number, 0 if done.
-pub fn resize(zone: &mut [u8], h: u32, c: u32) -> Told
-    ensures { result_of (told result.number result.value) zone.new ≡ call (resize h c) zone.old }
+// Gives the block of a handle c data bytes.
+pub fn resize(zone: &mut [u8], handle: u32, c: u32) -> Result<(), Refusal>
+    ensures { result_of (done_of result) zone.new ≡ call (resize handle c) zone.old }
 {
-    let p = plan_zone(zone, h, c);
-    let number = p.number;
-    let l = p.len;
-    if number == 0 {
-        act(&mut zone[..l], h as usize, p);
-        return Told {
-            number: 0,
-            value: 0,
-        };
-    }
-    Told { number, value: 0 }
+    let z = Zone::open(zone)?;
+    let p = plan_in(z, handle, c)?;
+    let len = z.bytes.len();
+    act(&mut zone[..len], p);
+    Ok(())
 }

@@ -1,5 +1,5 @@
 // A block gets another size in its own bay: where it stands, or in the bay laid out as compacted.
-ghost use Rattle.std.specs.Prelude.{◌≡◌, ◌+◌, ◌-◌, ◌≤◌, min, length};
+ghost use Rattle.std.specs.Prelude.{◌≡◌, ◌+◌, ◌-◌, ◌≤◌, length};
 ghost use Rattle.block_type.specs.Limits.{reloc_header, longest_zone};
 ghost use Rattle.bay.specs.Sound.{cells_of};
 ghost use Rattle.structure.specs.Structure.{encode, decode_zone};
@@ -8,125 +8,94 @@ ghost use Rattle.slide.specs.ZoneBay.{part_of, ZoneBay, settled};
 ghost use Rattle.resize.specs.reshape.Own.{reshaped, Known};
 ghost use Rattle.resize.specs.reshape.Here.{Here};
 ghost use Rattle.resize.specs.reshape.Grow.{grown_bytes, Room, GrowsTo, Laid};
-ghost use Rattle.structure.specs.IsZone.{IsZone};
 
-use access::row;
+use super::Resizing;
+use access::Zone;
+use bays::Bay;
 use block_type::BlockType;
+use slide::header;
 
-// The size of the free block right behind the block of the live handle h, 0 where there is none; its n data bytes lie at `at`.
-pub fn room_after(z: &[u8], h: usize, at: usize, n: usize) -> usize
-    requires { (IsZone z.now) × (at ≡ place_in z.now h) × (at ≡ 0 → ⊥) × (n ≡ length (data_in z.now h)) }
-    ensures { Known z.now h at n result }
+// How many bytes are free right behind the block of the live handle h, whose n data bytes lie at `at`.
+pub fn room_after(z: Zone<'_>, h: usize, at: usize, n: usize) -> usize
+    requires { (at ≡ place_in z.bytes.now h) × (at ≡ 0 → ⊥) × (n ≡ length (data_in z.bytes.now h)) }
+    ensures { Known z.entry.bytes.now h at n result }
 {
     let end = at + n;
-    if z.len() <= end {
-        return 0;
-    }
-    let k = row::step(z, end);
-    if block_check::is_free(z, end) {
-        return k;
-    }
-    0
+    free_block::end_behind(z.bytes, end) - end
 }
 
-fn lesser(a: usize, b: usize) -> usize
-    ensures { result ≡ min a b }
+// The block, whose data lie at `at` with `free` free bytes behind them, gets its new size there. The master stays.
+pub fn resize_here(z: &mut [u8], block: Resizing, at: usize, free: usize)
+    requires { Here z.old block.handle at block.old_len free block.new_len }
+    ensures { z.new ≡ encode (reshaped block.handle block.new_len (decode_zone z.old)) }
 {
-    if a < b {
-        return a;
-    }
-    b
-}
-
-// The block of handle h, whose b data bytes lie at `at` with f free bytes behind them, gets a data bytes. The master stays.
-pub fn resize_here(z: &mut [u8], h: usize, at: usize, b: usize, f: usize, a: usize)
-    requires { Here z.old h at b f a }
-    ensures { z.new ≡ encode (reshaped h a (decode_zone z.old)) }
-{
-    let keep = lesser(a, b);
-    memory::fill_zero(z, at + keep, at + b + f);
-    bigendian::put2(
+    let keep = block.new_len.min(block.old_len);
+    memory::fill_zero(z, at + keep, at + block.old_len + free);
+    header::put_header(
         z,
         at - BlockType::RELOCATABLE_HEADER,
-        (BlockType::RELOCATABLE_CODE as usize * BlockType::TYPE_UNIT
-            + (BlockType::RELOCATABLE_HEADER + a) / 2) as u32,
+        BlockType::Relocatable,
+        BlockType::RELOCATABLE_HEADER + block.new_len,
     );
-    if a < b + f {
-        bigendian::put4(z, at + a, ((b + f - a) / 2) as u32);
+    if block.new_len < block.old_len + free {
+        header::put_free_header(z, at + block.new_len, block.old_len + free - block.new_len);
     }
 }
 
 // ---- in the bay laid out as compacted
 
-// The block from `at` to o of a compacted part gets `more` zero bytes at its end; the run bytes behind it slide up, the rest stays free.
-fn grow_part(s: &mut [u8], at: usize, o: usize, run: usize, more: usize)
-    requires { Room s.old at o run more }
-    ensures { s.new ≡ grown_bytes s.old at o run more }
-{
-    let end = s.len();
-    let top = o + more;
-    memory::slide_up(s, top, o, run);
-    memory::fill_zero(s, o, top);
-    bigendian::put2(
-        s,
-        at,
-        (BlockType::RELOCATABLE_CODE as usize * BlockType::TYPE_UNIT + (top - at) / 2) as u32,
-    );
-    let rest = top + run;
-    if rest < end {
-        bigendian::put4(s, rest, ((end - rest) / 2) as u32);
-    }
-}
-
+// A block in its compacted bay, from `at` up to `end`, with `run` bytes of other blocks behind it; offsets in the bay.
 #[derive(Clone, Copy)]
-struct Place {
+struct InBay {
     at: usize,
     end: usize,
     run: usize,
 }
 
-// Where the block with its b data bytes at `at` lies in its compacted bay, which ends with sum free bytes, and how many bytes of
-// other blocks follow it; offsets in the bay.
-fn place_in_bay(at: usize, b: usize, from: usize, end: usize, sum: usize) -> Place
-    requires { (from + reloc_header ≤ at) × (at + b + sum ≤ end) × (end ≤ longest_zone) }
-    ensures { (result.at ≡ at - reloc_header - from) × (result.end ≡ at + b - from) × (result.run ≡ end - sum - (at + b)) }
+// Where a block with n data bytes at `at` lies in its compacted bay.
+fn place_in_bay(at: usize, n: usize, bay: Bay) -> InBay
+    requires { (bay.start + reloc_header ≤ at) × (at + n + bay.sum ≤ bay.end) × (bay.end ≤ longest_zone) }
+    ensures { (result.at ≡ at - reloc_header - bay.start) × (result.end ≡ at + n - bay.start) × (result.run ≡ bay.end - bay.sum - (at + n)) }
 {
-    Place {
-        at: at - BlockType::RELOCATABLE_HEADER - from,
-        end: at + b - from,
-        run: end - sum - (at + b),
+    InBay {
+        at: at - BlockType::RELOCATABLE_HEADER - bay.start,
+        end: at + n - bay.start,
+        run: bay.end - bay.sum - (at + n),
     }
 }
 
-// In the compacted bay from `from` to end the block from low to high gets `more` bytes, the run bytes behind it slide up, and the masters
-// follow; low and high are offsets in the bay.
-fn grow_block(
-    z: &mut [u8],
-    from: usize,
-    end: usize,
-    low: usize,
-    high: usize,
-    run: usize,
-    more: usize,
-)
-    requires { ZoneBay z.old from end × Room (part_of z.old from end) low high run more × GrowsTo z.old from end low high run more }
-    ensures { z.new ≡ settled z.old from (cells_of (grown_bytes (part_of z.old from end) low high run more)) }
+// The block of the compacted bay s gets `more` zero bytes at its end; the blocks behind it slide up, the rest stays free.
+fn grow_part(s: &mut [u8], p: InBay, more: usize)
+    requires { Room s.old p.at p.end p.run more }
+    ensures { s.new ≡ grown_bytes s.old p.at p.end p.run more }
 {
-    grow_part(&mut z[from..end], low, high, run, more);
+    let end = s.len();
+    let top = p.end + more;
+    memory::slide_up(s, top, p.end, p.run);
+    memory::fill_zero(s, p.end, top);
+    header::put_header(s, p.at, BlockType::Relocatable, top - p.at);
+    let rest = top + p.run;
+    if rest < end {
+        header::put_free_header(s, rest, end - rest);
+    }
+}
+
+// The same in the zone, where the bay lies from `from` up to `end`; the masters follow.
+fn grow_block(z: &mut [u8], from: usize, end: usize, p: InBay, more: usize)
+    requires { ZoneBay z.old from end × Room (part_of z.old from end) p.at p.end p.run more × GrowsTo z.old from end p.at p.end p.run more }
+    ensures { z.new ≡ settled z.old from (cells_of (grown_bytes (part_of z.old from end) p.at p.end p.run more)) }
+{
+    grow_part(&mut z[from..end], p, more);
     slide::set_masters(z, from, end);
 }
 
-// The block of handle h gets a data bytes for b, in its bay from `from` to end with sum free bytes. The masters follow.
-pub fn lay_out(z: &mut [u8], h: usize, from: usize, end: usize, sum: usize, b: usize, a: usize)
-    requires { Laid z.old h from end sum b a }
-    ensures { z.new ≡ encode (reshaped h a (decode_zone z.old)) }
+// The block grows in its bay. The masters follow.
+pub fn lay_out(z: &mut [u8], block: Resizing, bay: Bay)
+    requires { Laid z.old block.handle bay.start bay.end bay.sum block.old_len block.new_len }
+    ensures { z.new ≡ encode (reshaped block.handle block.new_len (decode_zone z.old)) }
 {
-    slide::compact_bay(z, from, end);
-    let at = bigendian::get4(z, h) as usize;
-    let p = place_in_bay(at, b, from, end, sum);
-    let low = p.at;
-    let high = p.end;
-    let run = p.run;
-    let more = a - b;
-    grow_block(z, from, end, low, high, run, more);
+    slide::compact_bay(z, bay.start, bay.end);
+    let at = bigendian::get4(z, block.handle) as usize;
+    let p = place_in_bay(at, block.old_len, bay);
+    grow_block(z, bay.start, bay.end, p, block.new_len - block.old_len);
 }

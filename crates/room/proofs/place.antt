@@ -6,3 +6,5 @@ pub mod RoomLaws
 pub mod LowestRoom
 pub mod InBay
 pub mod InZone
+pub mod Prepared
+pub mod Found

@@ -1,3 +1,5 @@
 pub mod Hole
 pub mod Fit
 pub mod Room
+pub mod Found
+pub mod Prepared

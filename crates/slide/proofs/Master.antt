@@ -20,7 +20,7 @@ use Rattle.kinds.proofs.KindLaws.{master-header, master-some, master-none}
 use Rattle.bay.specs.Bay.{Cell, free, held, cell_code}
 use Rattle.bay.specs.Sound.{cell_at, decode_cell, Stepped}
 use Rattle.slide.specs.ZoneBay.{owner_of, set_one}
-use Rattle.slide.specs.Masters.{CellHere}
+use Rattle.slide.specs.Masters.{CellHere, IsOwner}
 
 one_none : (at : ℕ) (c : Cell) (z : List ℕ) → owner_of c ≡ 0 → set_one at c z ≡ z
 unfolding set_one
@@ -59,19 +59,26 @@ module _ (z : List ℕ) (at k : ℕ) (h : CellHere z at) (ek : k ≡ type_of (dr
   abbrev b : List ℕ
   b = take (size_of (drop at z)) (drop at z)
 
-  pub own-none : (k ≡ reloc_code → ⊥) → 0 ≡ owner_of (cell_at z at)
-  own-none e = sym (owner-none b (λ x. e (ek ∙ sym h.code ∙ x)))
+  pub own-none : (k ≡ reloc_code → ⊥) → owner_of (cell_at z at) ≡ 0
+  own-none e = owner-none b (λ x. e (ek ∙ sym h.code ∙ x))
 
-  pub own-some : k ≡ reloc_code → (o : ℕ) → o ≡ from_be (slice z (at + tag_at) 2) → o ≡ owner_of (cell_at z at)
-  own-some e o eo = eo ∙ sym (owner-some b (h.code ∙ sym ek ∙ e) ∙ handle-take (size_of (drop at z)) (drop at z) h.low ∙ handle-there z at)
+  module _ (e : k ≡ reloc_code) (o : ℕ) (eo : o ≡ from_be (slice z (at + tag_at) 2)) where
+    own-is : o ≡ owner_of (cell_at z at)
+    own-is = eo ∙ sym (owner-some b (h.code ∙ sym ek ∙ e) ∙ handle-take (size_of (drop at z)) (drop at z) h.low ∙ handle-there z at)
+
+    pub own-zero : o ≡ 0 → owner_of (cell_at z at) ≡ 0
+    own-zero q = sym own-is ∙ q
+
+    pub own-some : (o ≡ 0 → ⊥) → IsOwner (cell_at z at) o
+    own-some q = record { is = own-is; some = q }
 
 -- ---- one master set
 
-pub set-none : (z : List ℕ) (p h : ℕ) (c : Cell) → h ≡ owner_of c → h ≡ 0 → z ≡ set_one p c z
-set-none z p h c q e = sym (one_none p c z (sym q ∙ e))
+pub set-none : (z : List ℕ) (p : ℕ) (c : Cell) → owner_of c ≡ 0 → z ≡ set_one p c z
+set-none z p c q = sym (one_none p c z q)
 
-pub set-some : (z z' : List ℕ) (p h : ℕ) (c : Cell) → h ≡ owner_of c → (h ≡ 0 → ⊥) → z' ≡ overwrite z h (to_be 4 (p + reloc_header)) → z' ≡ set_one p c z
-set-some z z' p h c q ne e = e ∙ sym (one-some p c z h q ne)
+pub set-some : (z z' : List ℕ) (p h : ℕ) (c : Cell) → IsOwner c h → z' ≡ overwrite z h (to_be 4 (p + reloc_header)) → z' ≡ set_one p c z
+set-some z z' p h c o e = e ∙ sym (one-some p c z h o.is o.some)
 
 pub one_left : (p : ℕ) (c : Cell) (a b : List ℕ) → owner_of c + master_size ≤ length a → set_one p c (a ++ b) ≡ set_one p c a ++ b
 unfolding set_one

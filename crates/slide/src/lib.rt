@@ -2,20 +2,21 @@
 #![tactic(auto)]
 
 pub mod blank;
+pub mod header;
 pub mod run;
 pub mod way;
 
-ghost use Rattle.std.specs.Prelude.{◌≡◌, ◌+◌, ◌-◌, ◌<◌, ◌≤◌, length, take, drop};
+ghost use Rattle.std.specs.Prelude.{◌≡◌, ◌+◌, ◌-◌, ◌<◌, ◌≤◌, length, take, drop, MatchOption};
 ghost use Rattle.block_type.specs.Limits.{longest_zone, master_size};
 ghost use Rattle.bay.specs.Bay.{compact_bay};
 ghost use Rattle.bay.specs.Sound.{cells_of, cell_at, IsBay, Stepped};
 ghost use Rattle.slide.specs.ZoneBay.{owner_of, set_one, set_all, IsLow, ZoneBay, bay_cells, settled};
-ghost use Rattle.slide.specs.Masters.{CellHere, Turned};
+ghost use Rattle.slide.specs.Masters.{CellHere, IsOwner, Turned};
 
 use block_type::BlockType;
 use run::Run;
 
-// The size of the block at p, with what a walk relies on.
+// The size of the block at p, with what a walk relies on (access::row::step is of a walk over blocks that stay).
 fn step(s: &[u8], p: usize) -> usize
     requires { IsBay (drop p s.now) × (p < length s.now) }
     ensures { Stepped s.now p result }
@@ -23,15 +24,19 @@ fn step(s: &[u8], p: usize) -> usize
     block_check::size_at(s, p)
 }
 
-// The master of the block at `at`, 0 for none.
-fn owner_at(z: &[u8], at: usize) -> usize
+// The master of the block at `at`, if it has one.
+fn owner_at(z: &[u8], at: usize) -> Option<usize>
     requires { CellHere z.now at }
-    ensures { result ≡ owner_of (cell_at z.now at) }
+    ensures { MatchOption result (owner_of (cell_at z.now at) ≡ 0) (IsOwner (cell_at z.now at)) }
 {
-    if block_check::type_at(z, at) == BlockType::RELOCATABLE_CODE {
-        return bigendian::get2(z, at + BlockType::TAG_AT) as usize;
+    if block_check::block_type_at(z, at) == BlockType::Relocatable {
+        match bigendian::get2(z, at + BlockType::TAG_AT) {
+            0 => None,
+            h => Some(h as usize),
+        }
+    } else {
+        None
     }
-    0
 }
 
 // The master of the block at `at`, where it has one, holds the first data byte that the block has at p.
@@ -39,11 +44,9 @@ fn set_master(z: &mut [u8], at: usize, p: usize)
     requires { CellHere z.old at × (owner_of (cell_at z.old at) + master_size ≤ length z.old) × (p ≤ longest_zone) }
     ensures { z.new ≡ set_one p (cell_at z.old at) z.old }
 {
-    let h = owner_at(z, at);
-    if h == 0 {
-        return;
+    if let Some(h) = owner_at(z, at) {
+        bigendian::put4(z, h, (p + BlockType::RELOCATABLE_HEADER) as u32);
     }
-    bigendian::put4(z, h, (p + BlockType::RELOCATABLE_HEADER) as u32);
 }
 
 // One turn: the master of the block at `at` holds its first data byte, where it has one. The block's size.
@@ -56,7 +59,7 @@ fn turn(z: &mut [u8], to: usize, at: usize) -> usize
     n
 }
 
-// The masters of the blocks from `from` up to `to` hold their first data bytes.
+// The masters of the blocks from `from` up to `to` hold their first data bytes. An iterator would borrow what is written.
 pub fn set_masters(z: &mut [u8], from: usize, to: usize)
     requires { (from ≤ to) × (to ≤ length z.old) × (length z.old ≤ longest_zone) × IsBay (drop from (take to z.old)) × IsLow from (cells_of (drop from (take to z.old))) }
     ensures { z.new ≡ set_all from (cells_of (drop from (take to z.old))) z.old }
@@ -68,21 +71,22 @@ pub fn set_masters(z: &mut [u8], from: usize, to: usize)
     }
 }
 
-// Compacts the bay from a to e, in one walk.
-pub fn compact_bay(z: &mut [u8], a: usize, e: usize)
-    requires { ZoneBay z.old a e }
-    ensures { z.new ≡ settled z.old a (compact_bay (bay_cells z.old a e)) }
+// Compacts the bay from `start` to `end`, in one walk. It writes as it goes, so no iterator over the blocks can lend them. compact::compact_next
+// is the same walk where the end is not known: a test handed in as a closure would need a contract over all the bytes in between.
+pub fn compact_bay(z: &mut [u8], start: usize, end: usize)
+    requires { ZoneBay z.old start end }
+    ensures { z.new ≡ settled z.old start (compact_bay (bay_cells z.old start end)) }
 {
-    let mut w = Run {
-        to: a,
-        from: a,
-        hole: a,
+    let mut run = Run {
+        to: start,
+        from: start,
+        hole: start,
     };
-    let mut at = a;
-    while at < e {
+    let mut at = start;
+    while at < end {
         let n = run::cell_size(z, at);
-        w = run::pass(z, w, at, n);
+        run = run::pass(z, run, at, n);
         at += n;
     }
-    run::close(z, w, e);
+    run::close(z, run, end);
 }

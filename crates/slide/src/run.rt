@@ -39,46 +39,39 @@ fn move_down(z: &mut [u8], to: usize, from: usize, end: usize)
 }
 
 // One turn, over the block of n bytes at `at`: at a free one the run goes down, a held one belongs to it, and its master holds where it will be.
-pub fn pass(z: &mut [u8], w: Run, at: usize, n: usize) -> Run
-    requires { (w.to ≤ w.from) × (w.from ≤ at) × (at + n ≤ length z.old) × (length z.old ≤ longest_zone) × CellHere z.old at × (owner_of (cell_at z.old at) + master_size ≤ length z.old) }
-    ensures { RunPassed z.old w.to w.from w.hole at n z.new result.to result.from result.hole }
+pub fn pass(z: &mut [u8], run: Run, at: usize, n: usize) -> Run
+    requires { (run.to ≤ run.from) × (run.from ≤ at) × (at + n ≤ length z.old) × (length z.old ≤ longest_zone) × CellHere z.old at × (owner_of (cell_at z.old at) + master_size ≤ length z.old) }
+    ensures { RunPassed z.old run.to run.from run.hole at n z.new result.to result.from result.hole }
 {
-    let to = w.to;
-    let from = w.from;
-    let end = to + (at - from);
-    if block_check::type_at(z, at) == BlockType::FREE_CODE {
-        move_down(z, to, from, at);
-        return Run {
+    let end = run.to + (at - run.from);
+    if block_check::block_type_at(z, at) == BlockType::Free {
+        move_down(z, run.to, run.from, at);
+        Run {
             to: end,
             from: at + n,
             hole: at,
-        };
+        }
+    } else {
+        super::set_master(z, at, end);
+        run
     }
-    super::set_master(z, at, end);
-    w
 }
 
-// Up to where the bay that ends at e is not free: a run stands at its end, or the free block at `hole`.
-fn used_to(from: usize, hole: usize, e: usize) -> usize
-    ensures { result ≡ cond (ltb from e) e hole }
+// Up to where the bay that stops at `end` is not free: a run stands at its end, or the free block at `hole`.
+fn used_to(from: usize, hole: usize, end: usize) -> usize
+    ensures { result ≡ cond (ltb from end) end hole }
 {
-    if from < e {
-        return e;
-    }
-    hole
+    if from < end { end } else { hole }
 }
 
-// At the bay's end e the run goes down, and one free block holds the rest. Where that begins.
-pub fn close(z: &mut [u8], w: Run, e: usize) -> usize
-    requires { RunEnds z.old w.to w.from w.hole e }
-    ensures { (result ≡ w.to + (e - w.from)) × (z.new ≡ run_down z.old w.to w.from e ++ (bytes_of (gap (w.from - w.to) []) ++ drop e z.old)) }
+// At the bay's end the run goes down, and one free block holds the rest. Where that begins.
+pub fn close(z: &mut [u8], run: Run, end: usize) -> usize
+    requires { RunEnds z.old run.to run.from run.hole end }
+    ensures { (result ≡ run.to + (end - run.from)) × (z.new ≡ run_down z.old run.to run.from end ++ (bytes_of (gap (run.from - run.to) []) ++ drop end z.old)) }
 {
-    let to = w.to;
-    let from = w.from;
-    let hole = w.hole;
-    let end = to + (e - from);
-    let used = used_to(from, hole, e);
-    move_down(z, to, from, e);
-    blank::blank_part(&mut z[end..e], used - end);
-    end
+    let rest = run.to + (end - run.from);
+    let used = used_to(run.from, run.hole, end);
+    move_down(z, run.to, run.from, end);
+    blank::write_free_all(&mut z[rest..end], used - rest);
+    rest
 }

@@ -3,7 +3,7 @@ ghost use Rattle.std.specs.Prelude.{◌≡◌, ◌%◌, ◌<◌, ◌≤◌, leng
 ghost use Rattle.block_type.specs.Limits.{longest_zone};
 ghost use Rattle.bay.specs.Bay.{bay_sum};
 ghost use Rattle.bay.specs.Sound.{cells_of, IsBay, Stepped};
-ghost use Rattle.slide.specs.way.Gathered.{Passed, Gathered};
+ghost use Rattle.slide.specs.way.Gathered.{Passed, PassedOne, Gathered};
 ghost use Rattle.slide.specs.way.Way.{FrontGathered, GaveUp};
 
 use super::blank;
@@ -14,7 +14,7 @@ fn keep(s: &mut [u8], to: usize, at: usize, n: usize) -> usize
     requires { (at < length s.old) × (to ≤ at) × (to % 4 ≡ 0) × IsBay (drop at s.old) × Stepped s.old at n }
     ensures { Passed s.old to at n s.new result }
 {
-    if block_check::type_at(s, at) == BlockType::FREE_CODE {
+    if block_check::block_type_at(s, at) == BlockType::Free {
         return to;
     }
     if to < at {
@@ -24,41 +24,48 @@ fn keep(s: &mut [u8], to: usize, at: usize, n: usize) -> usize
     to + n
 }
 
-// The held blocks from `first` on go to `from` and behind it, in old order. The place after them.
+// The held blocks that have been passed end at `to`, and the next block stands at `at`.
+#[derive(Clone, Copy)]
+struct Front {
+    pub to: usize,
+    pub at: usize,
+}
+
+// One turn: the next block is passed.
+fn pass(s: &mut [u8], f: Front) -> Front
+    requires { (f.at < length s.old) × (f.to ≤ f.at) × (f.to % 4 ≡ 0) × IsBay (drop f.at s.old) }
+    ensures { PassedOne s.old f s.new result }
+{
+    let n = super::step(s, f.at);
+    let to = keep(s, f.to, f.at, n);
+    Front { to, at: f.at + n }
+}
+
+// The held blocks from `first` on go to `from` and behind it, in old order. The place after them. (An iterator would borrow what is written.)
 fn gather(s: &mut [u8], from: usize, first: usize) -> usize
     requires { (from ≤ first) × (first ≤ length s.old) × (from % 4 ≡ 0) × (first % 4 ≡ 0) × IsBay (drop first s.old) }
     ensures { Gathered s.old from first s.new result }
 {
-    let mut to = from;
-    let mut at = first;
-    while at < s.len() {
-        let n = super::step(s, at);
-        to = keep(s, to, at, n);
-        at += n;
+    let mut f = Front {
+        to: from,
+        at: first,
+    };
+    while f.at < s.len() {
+        f = pass(s, f);
     }
-    to
+    f.to
 }
 
-// The held blocks passed so far end at `to`, the next block stands at `at`.
-#[derive(Clone, Copy)]
-struct Front {
-    to: usize,
-    at: usize,
-}
-
-// The held blocks at the front go to the start, in old order, until n bytes or more lie between them and the next block.
+// The held blocks at the front go to the start, in old order, until n bytes or more lie between them and the next block. (No iterator, as in gather.)
 fn gather_front(s: &mut [u8], n: usize) -> Front
     requires { IsBay s.old × (n ≤ bay_sum (cells_of s.old)) }
     ensures { FrontGathered s.old n s.new result.to result.at }
 {
-    let mut to = 0;
-    let mut at = 0;
-    while at - to < n {
-        let k = super::step(s, at);
-        to = keep(s, to, at, k);
-        at += k;
+    let mut f = Front { to: 0, at: 0 };
+    while f.at - f.to < n {
+        f = pass(s, f);
     }
-    Front { to, at }
+    f
 }
 
 // The bay gives up its first n bytes: its held blocks stand behind them in old order without gaps, one free block holds the rest.
@@ -67,10 +74,8 @@ pub fn make_way(s: &mut [u8], n: usize)
     ensures { GaveUp s.old n s.new }
 {
     let f = gather_front(s, n);
-    let to = f.to;
-    let at = f.at;
-    memory::slide_up(s, n, 0, to);
-    let end = gather(s, n + to, at);
+    memory::slide_up(s, n, 0, f.to);
+    let end = gather(s, n + f.to, f.at);
     let rest = s.len() - end;
-    blank::blank_part(&mut s[end..], rest);
+    blank::write_free_all(&mut s[end..], rest);
 }

@@ -1,149 +1,182 @@
 -- The laws that the proofs of the functions cite.
 use mathlib.Core.Path.{◌≡◌, refl, sym, ap, ◌∙◌}
-use mathlib.Core.List.{List, ◌++◌}
+use mathlib.Core.List.{List, [], ◌++◌}
 use Prim.Native.Nat.{ℕ, ◌+◌, ◌-◌, ◌<◌, ◌≤◌}
 use native.Mathlib.Omega.{arith}
 use native.Mathlib.Nat.{zero-add}
-use native.Mathlib.Decide.{ℕ_discrete}
 use lib.ListN.{length, take, drop, length-take, length-drop}
 use mir.Val.{Fits}
 use mir.Syntax.{w32}
 use borrow.Author.Tests.{ne_eqb, le-leb, lt-leb}
 use Rattle.block_type.specs.Limits.{longest_zone}
-use Rattle.bigendian.specs.BigEndian.{Bytes, overwrite}
+use Rattle.bigendian.specs.BigEndian.{overwrite}
 use Rattle.format.specs.WellFormed.{zone_of}
 use Rattle.calls.specs.Calls as Calls
-use Rattle.calls.specs.Calls.{Target, Answer, read, view, told, shows}
+use Rattle.calls.specs.Calls.{Target, by_handle, by_pointer, by_name, Answer, read, view, told, shows}
+use Rattle.calls.specs.Refusals.{code_of, beside_of, answer_by, shown_of}
+use Rattle.calls.specs.declared.Refusal.{Refusal}
+use Rattle.std.specs.Prelude.{Result, Ok, Err, IfOk, IfErr}
+use Rattle.std.specs.Result.{IsErrAnd, result_unwrap_or}
 use Rattle.zone.specs.Call.{call}
-use Rattle.access.specs.locate.Locate.{target_place, target_data, absent_number, Located, ill_formed, absent, present}
-use Rattle.access.proofs.locate.Data.{target_fits, target_room, target-part, located-small}
-use Rattle.stretch.specs.Stretch.{part_number, stretch_number, view_start, view_length, IsPart, Planned, refused, granted}
+use Rattle.access.specs.locate.Locate.{target_place, target_data, absent_number}
+use Rattle.access.specs.locate.Found.{absence, IsFound, IsLost, ill_formed, absent}
+use Rattle.access.specs.declared.locate.Span.{Span}
+use Rattle.access.proofs.locate.Data.{target_fits, target_room, target-part, found-small}
+use Rattle.stretch.specs.Stretch.{part_number, stretch_number, view_start, view_length}
+use Rattle.stretch.specs.Part.{Reaches, IsShort, past_end, short, IsGranted, IsRefused, Shows, part, none}
+use Rattle.std.specs.declared.ops.Range.{Range}
 use Rattle.stretch.proofs.Answers.{absent-some, block_1, block-absent, block_0, Accepted, accepted, size_is, read_is, view-is}
-
--- ---- a stretch by numbers
-
-module _ (number at size i n have : ℕ) where
-  pub part-refused : (number ≡ 0 → ⊥) → IsPart number at size i n have number 0 0
-  unfolding part_number
-  part-refused e = record { number_is = rw (ne_eqb number 0 e); start_is = rw (ne_eqb number 0 e); end_is = rw (ne_eqb number 0 e) }
-
-  module _ (e : number ≡ 0) where
-    pub part-8 : size < i + n → IsPart number at size i n have 8 0 0
-    unfolding part_number
-    part-8 l = record { number_is = rw (e, lt-leb (i + n) size l); start_is = refl; end_is = refl }
-
-    pub part-10 : i + n ≤ size → have < n → IsPart number at size i n have 10 0 0
-    unfolding part_number
-    part-10 l k = record { number_is = rw (e, le-leb (i + n) size l, lt-leb n have k); start_is = refl; end_is = refl }
-
-    pub part-0 : i + n ≤ size → n ≤ have → IsPart number at size i n have 0 (at + i) (at + i + n)
-    unfolding part_number
-    part-0 l k = record { number_is = rw (e, le-leb (i + n) size l, le-leb n have k); start_is = refl; end_is = refl }
 
 -- ---- a stretch in a buffer
 
-pub block-small : (s : List ℕ) (t : Target) (number at k : ℕ) → Located s t number at k → at ≤ longest_zone
-block-small s t number at k l = (located-small s t number at k l).0
+pub block-small : (s : List ℕ) (t : Target) (k : Span) → IsFound s t k → k.at ≤ longest_zone
+block-small s t k f = (found-small s t k f).0
 
-module _ (s : List ℕ) (t : Target) (number at size i n have r start end : ℕ) where
-  refuse : IsPart number at size i n have r start end → r ≡ stretch_number t i n have s → (r ≡ 0 → ⊥) → Planned s t i n have r start end
-  refuse p e l = refused e l (p.start_is ∙ (rw (ne_eqb r 0 l))) (p.end_is ∙ (rw (ne_eqb r 0 l)))
+absence-code : (t : Target) → code_of (absence t) ≡ absent_number t
+absence-code (by_handle h) = refl
+absence-code (by_pointer p) = refl
+absence-code (by_name n) = refl
 
-  pub planned : Located s t number at size → IsPart number at size i n have r start end → Planned s t i n have r start end
+absence-beside : (t : Target) → beside_of (absence t) ≡ 0
+absence-beside (by_handle h) = refl
+absence-beside (by_pointer p) = refl
+absence-beside (by_name n) = refl
+
+module _ (s : List ℕ) (t : Target) where
+  -- the refusal of a block is that of each stretch of it
+  pub lost-refused : (i n have : ℕ) {T : Type 0} (r : Result T Refusal) (d : Refusal) → IsErrAnd r (λ e. e ≡ d) → IsLost s t d → IfErr r (IsRefused s t i n have)
   unfolding stretch_number part_number
-  planned (ill_formed y wf q a k) p =
-      let e : r ≡ 1 = p.number_is ∙ (rw q) in
-      refuse p (e ∙ sym (rw (block_1 t s wf))) (λ x. omega arith)
-  planned (absent y wf l q a k) p =
-      let z = absent-some t in
-      let e : r ≡ absent_number t = p.number_is ∙ (rw (q, ne_eqb (absent_number t) 0 z)) in
-      refuse p (e ∙ sym (rw (block-absent t s wf l, ne_eqb (absent_number t) 0 z))) (λ x. z (sym e ∙ x))
-  planned (present y wf a l k q) p = go (ℕ_discrete r 0)
-    where
-      live : target_place t (zone_of s) ≡ 0 → ⊥
-      live x = l (a ∙ x)
+  lost-refused i n have (Ok v) d k x = absurd k
+  lost-refused i n have (Err e) d k (ill_formed y x) =
+      let q : e ≡ d = k in
+      rw (q, x.refusal_is) (record { bytes = y; number_is = rw (block_1 t s x.ill); some = λ z. omega arith })
+  lost-refused i n have (Err e) d k (absent y w l x) =
+      let q : e ≡ d = k in
+      rw (q, x) (record {
+        bytes = y;
+        number_is = rw (block-absent t s w l, ne_eqb (absent_number t) 0 (absent-some t)) (sym (absence-code t));
+        some = λ z. absent-some t (sym (absence-code t) ∙ z);
+      })
 
-      e : r ≡ stretch_number t i n have s
-      e = p.number_is ∙ (rw (q, k, block_0 t s wf live))
+  module _ (k : Span) (f : IsFound s t k) (i n have : ℕ) where
+    live : target_place t (zone_of s) ≡ 0 → ⊥
+    live x = f.some (f.at_is ∙ x)
 
-      go : Dec (r ≡ 0) → Planned s t i n have r start end
-      go (yes x) =
-          let b : start ≡ at + i = p.start_is ∙ (rw x) in
-          let c : end ≡ at + i + n = p.end_is ∙ (rw x) in
-          granted y (sym e ∙ x) x (b ∙ ap (◌+ i) a) (omega arith)
-      go (no x) = refuse p e x
+    reach-granted : (p : Range ℕ) → Reaches k i n have p → IsGranted s t i n have p
+    unfolding stretch_number part_number
+    reach-granted p r =
+        let a : i + n ≤ length (target_data t (zone_of s)) = omega (arith, r.size, f.size_is) in
+        record {
+          bytes = f.bytes;
+          passed = rw (block_0 t s f.well live, le-leb (i + n) (length (target_data t (zone_of s))) a, le-leb n have r.long);
+          start_is = r.start_is ∙ ap (◌+ i) f.at_is;
+          end_is = omega (arith, r.start_is, r.end_is);
+        }
 
-module _ (s : List ℕ) (t : Target) (i n have number start end : ℕ) where
-  pub planned-order : Planned s t i n have number start end → start ≤ end
-  planned-order (refused q l a b) = omega arith
-  planned-order (granted y k q a b) = omega arith
+    reach-refused : (e : Refusal) → IsShort k i n have e → IsRefused s t i n have e
+    unfolding stretch_number part_number
+    reach-refused e (past_end l q) =
+        let a : length (target_data t (zone_of s)) < i + n = omega (arith, f.size_is) in
+        rw q (record { bytes = f.bytes; number_is = rw (block_0 t s f.well live, lt-leb (i + n) (length (target_data t (zone_of s))) a); some = λ z. omega arith })
+    reach-refused e (short l m q) =
+        let a : i + n ≤ length (target_data t (zone_of s)) = omega (arith, f.size_is) in
+        rw q (record { bytes = f.bytes; number_is = rw (block_0 t s f.well live, le-leb (i + n) (length (target_data t (zone_of s))) a, lt-leb n have m); some = λ z. omega arith })
 
-  pub planned-fits : Planned s t i n have number start end → end ≤ length s
-  planned-fits (refused q l a b) = omega arith
-  planned-fits (granted y k q a b) =
-      let c = accepted s t i n have k in
-      omega (arith, c.room, target_fits s y c.well t c.live, target_room s y c.well t c.live)
+    pub reach-ok : (r : Result (Range ℕ) Refusal) → IfOk r (Reaches k i n have) → IfOk r (IsGranted s t i n have)
+    reach-ok (Ok p) x = reach-granted p x
+    reach-ok (Err e) x = x
+
+    pub reach-err : (r : Result (Range ℕ) Refusal) → IfErr r (IsShort k i n have) → IfErr r (IsRefused s t i n have)
+    reach-err (Ok p) x = x
+    reach-err (Err e) x = reach-refused e x
+
+-- ---- a part
+
+module _ (s : List ℕ) (t : Target) (i n have : ℕ) (p : Range ℕ) (g : IsGranted s t i n have p) where
+  abbrev pub fit : Accepted s t i n have
+  fit = accepted s t i n have g.passed
+
+  pub part-order : p.start ≤ p.end
+  part-order = omega (arith, g.end_is)
+
+  pub part-fits : p.end ≤ length s
+  part-fits = omega (arith, g.start_is, g.end_is, fit.room, target_fits s g.bytes fit.well t fit.live, target_room s g.bytes fit.well t fit.live)
 
   -- the bytes of the stretch
-  part-is : Bytes s → Accepted s t i n have → start ≡ target_place t (zone_of s) + i → end ≡ start + n → take (end - start) (drop start s) ≡ take n (drop i (target_data t (zone_of s)))
-  part-is y c a b =
-      let e : end - start ≡ n = omega arith in
-      rw (e, a) (target-part s y c.well t c.live i n c.room)
+  part-is : take (p.end - p.start) (drop p.start s) ≡ take n (drop i (target_data t (zone_of s)))
+  part-is =
+      let e : p.end - p.start ≡ n = omega (arith, g.end_is) in
+      rw (e, g.start_is) (target-part s g.bytes fit.well t fit.live i n fit.room)
 
 -- ---- size
 
-pub size_word : (s : List ℕ) (t : Target) (number at k : ℕ) → Located s t number at k → Fits w32 k
-size_word s t number at k l = record { fits = omega (arith, (located-small s t number at k l).1) }
+module _ (s : List ℕ) (t : Target) where
+  pub size_word : (k : Span) → IsFound s t k → Fits w32 k.size
+  size_word k f = record { fits = omega (arith, (found-small s t k f).1) }
 
-pub size-told : (s : List ℕ) (t : Target) (number at k : ℕ) → Located s t number at k → told number k ≡ (call (Calls.size t) s).answer
-size-told s t number at k (ill_formed y wf q a e) = rw (q, e) (sym (size_is t s ∙ (rw (block_1 t s wf))))
-size-told s t number at k (absent y wf l q a e) = rw (q, e) (sym (size_is t s ∙ (rw (block-absent t s wf l, ne_eqb (absent_number t) 0 (absent-some t)))))
-size-told s t number at k (present y wf a l e q) = rw (q, e) (sym (size_is t s ∙ (rw (block_0 t s wf (λ x. l (a ∙ x))))))
+  pub size-found : (k : Span) → IsFound s t k → told 0 k.size ≡ (call (Calls.size t) s).answer
+  size-found k f = rw f.size_is (sym (size_is t s ∙ (rw (block_0 t s f.well (λ x. f.some (f.at_is ∙ x))))))
+
+  pub size-lost : {T : Type 0} (g : T → ℕ) (r : Result T Refusal) (d : Refusal) → IsErrAnd r (λ e. e ≡ d) → IsLost s t d → answer_by g beside_of [] r ≡ (call (Calls.size t) s).answer
+  size-lost g (Ok v) d k x = absurd k
+  size-lost g (Err e) d k (ill_formed y x) = let q : e ≡ d = k in rw (q, x.refusal_is) (sym (size_is t s ∙ (rw (block_1 t s x.ill))))
+  size-lost g (Err e) d k (absent y w l x) =
+      let q : e ≡ d = k in
+      rw (q, x, absence-code t, absence-beside t) (sym (size_is t s ∙ (rw (block-absent t s w l, ne_eqb (absent_number t) 0 (absent-some t)))))
 
 -- ---- read
 
-module _ (s : List ℕ) (t : Target) (i n number start end : ℕ) (out : List ℕ) where
-  pub read-room : Planned s t i n (length out) number start end → number ≡ 0 → 0 + length (take (end - start) (drop start s)) ≤ length out
-  read-room (refused q l a b) z = absurd (l z)
-  read-room (granted y k q a b) z = omega (arith, (accepted s t i n (length out) k).long, length-take (end - start) (drop start s))
+module _ (s : List ℕ) (t : Target) (i n : ℕ) (out : List ℕ) where
+  module _ (p : Range ℕ) (g : IsGranted s t i n (length out) p) where
+    pub read-room : 0 + length (take (p.end - p.start) (drop p.start s)) ≤ length out
+    read-room = omega (arith, g.end_is, (fit s t i n (length out) p g).long, length-take (p.end - p.start) (drop p.start s))
 
-  pub read_done : (x : List ℕ) → x ≡ overwrite out 0 (take (end - start) (drop start s)) → Planned s t i n (length out) number start end → number ≡ 0
-      → shows 0 x ≡ (call (read t i n out) s).answer
-  read_done x e (refused q l a b) z = absurd (l z)
-  read_done x e (granted y k q a b) z =
-      let c = accepted s t i n (length out) k in
-      let d = target_data t (zone_of s) in
-      let f : length (take n (drop i d)) ≡ n = omega (arith, length-take n (drop i d), length-drop i d, c.room) in
-      let g : x ≡ take n (drop i d) ++ drop n out = e ∙ (rw (part-is s t i n (length out) number start end y c a b, f, zero-add n)) in
-      rw g (sym (read_is t i n s out ∙ (rw k)))
+    pub read_done : (x : List ℕ) → x ≡ overwrite out 0 (take (p.end - p.start) (drop p.start s)) → shows 0 x ≡ (call (read t i n out) s).answer
+    read_done x e =
+        let d = target_data t (zone_of s) in
+        let f : length (take n (drop i d)) ≡ n = omega (arith, length-take n (drop i d), length-drop i d, (fit s t i n (length out) p g).room) in
+        let q : x ≡ take n (drop i d) ++ drop n out = e ∙ (rw (part-is s t i n (length out) p g, f, zero-add n)) in
+        rw q (sym (read_is t i n s out ∙ (rw g.passed)))
 
-  pub read_no : Planned s t i n (length out) number start end → (number ≡ 0 → ⊥) → shows number out ≡ (call (read t i n out) s).answer
-  read_no (refused q l a b) z = sym (read_is t i n s out ∙ (rw (← q, ne_eqb number 0 z)))
-  read_no (granted y k q a b) z = absurd (z q)
+  pub read_no : {T : Type 0} (r : Result T Refusal) (d : Refusal) → IsErrAnd r (λ e. e ≡ d) → IsRefused s t i n (length out) d → shown_of r out ≡ (call (read t i n out) s).answer
+  read_no (Ok v) d k x = absurd k
+  read_no (Err e) d k x = let q : e ≡ d = k in rw q (sym (read_is t i n s out ∙ (rw (x.number_is, ne_eqb (code_of d) 0 x.some))))
 
 -- ---- view
 
-module _ (s : List ℕ) (t : Target) (i n number start end : ℕ) where
-  pub view-bytes : Planned s t i n n number start end → take (end - start) (drop start s) ≡ (call (view t i n) s).answer.bytes
-  view-bytes (refused q l a b) =
-      let e : end - start ≡ 0 = omega arith in
-      rw e (sym (ap (λ (r : Answer). r.bytes) (view-is t i n s) ∙ (rw (← q, ne_eqb number 0 l))))
-  view-bytes (granted y k q a b) =
-      part-is s t i n n number start end y (accepted s t i n n k) a b ∙ sym (ap (λ (r : Answer). r.bytes) (view-is t i n s) ∙ (rw k))
+module _ (s : List ℕ) (t : Target) (i n : ℕ) where
+  pub shown-or : (r : Result (Range ℕ) Refusal) → IfOk r (IsGranted s t i n n) → IfErr r (IsRefused s t i n n) → (p : Range ℕ)
+      → p ≡ result_unwrap_or r (record { start = 0; end = 0 }) → Shows s t i n p
+  shown-or (Ok p) g x q e = rw e (part g)
+  shown-or (Err d) g x q e = rw e (none (λ z. x.some (sym x.number_is ∙ z)) refl refl)
 
-  start_is : Planned s t i n n number start end → view_start t i n s ≡ start
-  unfolding view_start
-  start_is (refused q l a b) = rw (← q, ne_eqb number 0 l, a)
-  start_is (granted y k q a b) = rw (k, a)
+  module _ (p : Range ℕ) where
+    pub shown-order : Shows s t i n p → p.start ≤ p.end
+    shown-order (part g) = part-order s t i n n p g
+    shown-order (none l a b) = omega arith
 
-  pub view-start : (b o : ℕ) → Planned s t i n n number start end → ◌≡◌ {A = ℕ × ℕ} (b, start + o) (b, o + view_start t i n s)
-  view-start b o p = let e : start + o ≡ o + view_start t i n s = omega (arith, start_is p) in λ j. (b, e j)
+    pub shown-fits : Shows s t i n p → p.end ≤ length s
+    shown-fits (part g) = part-fits s t i n n p g
+    shown-fits (none l a b) = omega arith
 
-  pub view-length : Planned s t i n n number start end → length (take (end - start) (drop start s)) ≡ view_length t i n s
-  unfolding view_length
-  view-length (refused q l a b) =
-      let e : end - start ≡ 0 = omega arith in
-      rw (e, ← q, ne_eqb number 0 l)
-  view-length (granted y k q a b) =
-      let p : Planned s t i n n number start end = granted y k q a b in
-      rw k (omega (arith, length-take (end - start) (drop start s), length-drop start s, planned-fits s t i n n number start end p))
+    pub view-bytes : Shows s t i n p → take (p.end - p.start) (drop p.start s) ≡ (call (view t i n) s).answer.bytes
+    view-bytes (part g) = part-is s t i n n p g ∙ sym (ap (λ (r : Answer). r.bytes) (view-is t i n s) ∙ (rw g.passed))
+    view-bytes (none l a b) =
+        let e : p.end - p.start ≡ 0 = omega arith in
+        rw e (sym (ap (λ (r : Answer). r.bytes) (view-is t i n s) ∙ (rw (ne_eqb (stretch_number t i n n s) 0 l))))
+
+    start_is : Shows s t i n p → view_start t i n s ≡ p.start
+    unfolding view_start
+    start_is (part g) = rw (g.passed, g.start_is)
+    start_is (none l a b) = rw (ne_eqb (stretch_number t i n n s) 0 l, a)
+
+    pub view-start : (b o : ℕ) → Shows s t i n p → ◌≡◌ {A = ℕ × ℕ} (b, p.start + o) (b, o + view_start t i n s)
+    view-start b o x = let e : p.start + o ≡ o + view_start t i n s = omega (arith, start_is x) in λ j. (b, e j)
+
+    pub view-length : Shows s t i n p → length (take (p.end - p.start) (drop p.start s)) ≡ view_length t i n s
+    unfolding view_length
+    view-length (none l a b) =
+        let e : p.end - p.start ≡ 0 = omega arith in
+        rw (e, ne_eqb (stretch_number t i n n s) 0 l)
+    view-length (part g) =
+        rw g.passed (omega (arith, g.end_is, length-take (p.end - p.start) (drop p.start s), length-drop p.start s, part-fits s t i n n p g))

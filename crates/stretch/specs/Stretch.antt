@@ -1,6 +1,5 @@
 -- A stretch of a block: its refusal, and where it lies in the zone.
-use Rattle.std.specs.Prelude.{◌≡◌, cond, List, ℕ, ◌+◌, length, eqb, leb}
-use Rattle.bigendian.specs.BigEndian.{Bytes}
+use Rattle.std.specs.Prelude.{cond, List, ℕ, ◌+◌, length, eqb, leb}
 use Rattle.format.specs.WellFormed.{zone_of}
 use Rattle.calls.specs.Calls.{Target}
 use Rattle.access.specs.locate.Locate.{target_place, target_data, block_number}
@@ -20,14 +19,3 @@ view_start t i n s = cond (eqb (stretch_number t i n n s) 0) (target_place t (zo
 
 unfoldable pub view_length : Target → ℕ → ℕ → List ℕ → ℕ
 view_length t i n s = cond (eqb (stretch_number t i n n s) 0) n 0
-
--- what is told of a stretch by the numbers of its block: the refusal, and where it starts and ends, 0 when refused
-pub record IsPart (number at size i n have r start end : ℕ) : Type 0 where
-  pub number_is : r ≡ part_number number size i n have
-  pub start_is : start ≡ cond (eqb r 0) (at + i) 0
-  pub end_is : end ≡ cond (eqb r 0) (at + i + n) 0
-
--- the same in a buffer
-pub data Planned (s : List ℕ) (t : Target) (i n have number start end : ℕ) : Type 0 where
-  refused : number ≡ stretch_number t i n have s → (number ≡ 0 → ⊥) → start ≡ 0 → end ≡ 0 → Planned s t i n have number start end
-  granted : Bytes s → stretch_number t i n have s ≡ 0 → number ≡ 0 → start ≡ target_place t (zone_of s) + i → end ≡ start + n → Planned s t i n have number start end

@@ -11,7 +11,8 @@ use Rattle.structure.specs.Structure.{Structure, encode, decode, decode_zone}
 use Rattle.structure.specs.Valid.{Valid}
 use Rattle.structure.specs.IsZone.{IsZone, is_zone}
 use Rattle.structure.proofs.Round.{length-is, heads-self, well-formed, decode-encode}
-use Rattle.structure.proofs.Table.{Whole, whole}
+use Rattle.structure.proofs.Table.{Whole, whole, encode-zone}
+use Rattle.structure.proofs.Sound.{valid-zone}
 
 pub whole_of : (z : List ℕ) → IsZone z → Whole z
 whole_of z (is_zone s y w e) = subst Whole e (whole s y w)
@@ -25,3 +26,17 @@ zone-of s v y = is_zone (encode s) y (subst (λ (z : List ℕ). well_formed z �
 pub back-of : (s : Structure) → Valid s → decode_zone (encode s) ≡ s
 unfolding decode
 back-of s v = ap decode_zone (sym (zone-self s v)) ∙ ap decode (sym (append-nil (encode s))) ∙ decode-encode s v []
+
+-- the facts that make it
+module _ (z : List ℕ) (i : IsZone z) where
+  w : Whole z
+  w = whole_of z i
+
+  pub is_well : well_formed z ≡ true
+  is_well = subst (λ (t : List ℕ). well_formed t ≡ true) (append-nil (encode (decode_zone z)) ∙ encode-zone z w) (well-formed (decode_zone z) (valid-zone z w) [])
+
+  pub bytes-zone : Bytes z
+  bytes-zone = w.bytes
+
+  pub is_whole : zone_of z ≡ z
+  is_whole = take_all (length_field z) z (omega (arith, w.all))

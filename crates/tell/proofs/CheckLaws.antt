@@ -23,6 +23,8 @@ use Rattle.zone.proofs.Keep.{many-strip}
 use Rattle.zone.specs.Call.{call}
 use Rattle.access.proofs.Checked.{first_of}
 use Rattle.calls.specs.Calls.{check, told_two}
+use Rattle.zone_check.specs.Checked.{IsChecked}
+use Rattle.zone_check.specs.declared.Checked.{Checked}
 
 -- how many relocatable blocks the bays have
 abbrev pub live_s : Bays (List Cell) Fixed → ℕ
@@ -51,6 +53,8 @@ module _ (s : List ℕ) (y : Bytes s) (h : well_formed s ≡ true) where
   pub count-few : count_of s ≤ most_masters
   count-few = omega (arith, count-blocks, (valid s y h).few)
 
-pub check-answer : (s : List ℕ) (ok : Bool) (count : ℕ) → ((i : ℕ) → Fits w8 (get_or s i 0)) → ok ≡ well_formed s → count ≡ count_of s
-    → told_two 0 (cond ok 1 0) count ≡ (call check s).answer
-check-answer s ok count y e k = check-is s ok count (λ j. (y j).fits) e k
+pub check-no : (s : List ℕ) → well_formed s ≡ false → told_two 0 0 0 ≡ (call check s).answer
+check-no s e = rw e
+
+pub check-yes : (s : List ℕ) (k : Checked) → ((i : ℕ) → Fits w8 (get_or s i 0)) → IsChecked 0 s k → told_two 0 1 k.count ≡ (call check s).answer
+check-yes s k y i = check-is s true k.count (λ j. (y j).fits) (sym i.well) i.is_count

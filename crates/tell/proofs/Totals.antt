@@ -1,8 +1,8 @@
 -- The total and the largest of the bays' sums, met from bay to bay.
-use mathlib.Core.Path.{◌≡◌, refl, ap}
+use mathlib.Core.Path.{◌≡◌, ap}
 use mathlib.Core.List.{List}
 use mathlib.Core.Bool.{cond}
-use Prim.Native.Nat.{ℕ, ◌+◌, ◌<◌, ◌≤◌, max}
+use Prim.Native.Nat.{ℕ, suc, ◌+◌, ◌<◌, ◌≤◌, max}
 use native.Mathlib.Omega.{arith}
 use lib.Dec.{leb}
 use borrow.Author.Tests.{le-leb, lt-leb}
@@ -16,7 +16,7 @@ use Rattle.bay.specs.Bay.{Cell, bay_size, bay_sum}
 use Rattle.bay.proofs.Laws.{bsize-split}
 use Rattle.bays.specs.Places.{bays_at}
 use Rattle.bays.specs.Read.{Cut, at_end, at_fixed, Read}
-use Rattle.tell.specs.Sums.{SumsFrom, sums_from}
+use Rattle.tell.specs.Sums.{SumsFrom}
 
 -- ---- the bays that are left
 
@@ -68,5 +68,8 @@ module _ (z : List ℕ) (p end sum tail next : ℕ) (r : Read z p end sum tail n
     most = omega (arith, m.most, left_in_lem (max_s bay_sum) z p l, cut_most z p next r.bay r.between.cut, r.sum_is);
   }
 
-pub met_all : (z : List ℕ) (first at total best : ℕ) → length z < at → Met z first at total best → SumsFrom z first 0 total best
-met_all z first at total best l m = sums_from refl (omega (arith, m.all, left_out (sum_s bay_sum) z at l)) (omega (arith, m.most, left_out (max_s bay_sum) z at l))
+pub met_all : (z : List ℕ) (first total best : ℕ) → Met z first (suc (length z)) total best → SumsFrom z first (record { total = total; largest = best })
+met_all z first total best m =
+    let at = suc (length z) in
+    let l : length z < at = omega arith in
+    record { total_is = omega (arith, m.all, left_out (sum_s bay_sum) z at l); largest_is = omega (arith, m.most, left_out (max_s bay_sum) z at l) }

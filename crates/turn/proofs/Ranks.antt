@@ -2,7 +2,7 @@
 use Rattle.std.proofs.Common.{◌≡◌, ℕ, suc, ◌+◌, ◌-◌, ◌*◌, ◌%◌, ◌<◌, ◌≤◌, Bool, true, false, cond, ◌&&◌, ◌||◌, eqb, ltb, leb, List, [], ◌∷◌, ◌++◌, sym, refl, ap, ◌∙◌, arith, ltb-false, ltb-true, eq-eqb, eqb-true, le-leb, leb-false, leb-true}
 use borrow.Author.Tests.{eqb-false, lt-leb}
 use Rattle.block_type.specs.Limits.{stamp_range, argument_range}
-use Rattle.format.proofs.Bool.{not-both}
+use Rattle.std.proofs.lemmas.Bool.{or_parts}
 use Rattle.kinds.specs.Kinds.{Key, of_handle, of_name, Item, KeyFits, key_named, has_name}
 use Rattle.calls.specs.Sort.{insert_by, sort_by}
 use Rattle.calls.specs.Counted.{count}
@@ -49,21 +49,13 @@ pub data Rising : ℕ → List Candidate → Type 0 where
   rise-end : {lo : ℕ} → Rising lo []
   rise : {lo : ℕ} {x : Candidate} {xs : List Candidate} → lo ≤ rank_of x → Fine x → Rising (suc (rank_of x)) xs → Rising lo (x ∷ xs)
 
-or_right : (a b : Bool) → a || b ≡ false → b ≡ false
-or_right true b q = absurd (not-both refl q)
-or_right false b q = q
-
-or_left : (a b : Bool) → a || b ≡ false → a ≡ false
-or_left true b q = q
-or_left false b q = refl
-
 insert-rises : (x : Candidate) → Fine x → (xs : List Candidate) (lo : ℕ) → Rising lo xs → lo ≤ rank_of x → is_one xs x.name ≡ false → Rising lo (insert_by goes_before x xs)
 insert-rises x f [] lo r l n = rise l f rise-end
 insert-rises x f (y ∷ ys) lo (rise u g r) l n =
-    go (leb (rank_of x) (rank_of y)) refl (λ m. insert-rises x f ys (suc (rank_of y)) r m (or_right (eqb x.name y.name) (is_one ys x.name) n))
+    go (leb (rank_of x) (rank_of y)) refl (λ m. insert-rises x f ys (suc (rank_of y)) r m (or_parts (eqb x.name y.name) (is_one ys x.name) n).1)
   where
     other : x.name ≡ y.name → ⊥
-    other = eqb-false x.name y.name (or_left (eqb x.name y.name) (is_one ys x.name) n)
+    other = eqb-false x.name y.name (or_parts (eqb x.name y.name) (is_one ys x.name) n).0
 
     go : (t : Bool) → leb (rank_of x) (rank_of y) ≡ t → (suc (rank_of y) ≤ rank_of x → Rising (suc (rank_of y)) (insert_by goes_before x ys)) → Rising lo (cond (goes_before x y) (x ∷ (y ∷ ys)) (y ∷ insert_by goes_before x ys))
     go true q k =

@@ -1,10 +1,11 @@
 -- "greatest age first, smaller name among equals" (document 02, U5) as one number: of two pages the one of lesser rank goes first.
-use Rattle.std.specs.Prelude.{ℕ, ◌+◌, ◌-◌, ◌*◌, min, Bool, false, cond, not, ◌&&◌, List, [], ◌∷◌, nat_lt}
+use Rattle.std.specs.Prelude.{ℕ, ◌+◌, ◌-◌, ◌*◌, min, Bool, false, cond, not, ◌&&◌, List, [], ◌∷◌, nat_lt, Option, Some, None}
 use Rattle.block_type.specs.Limits.{stamp_range, argument_range}
 use Rattle.kinds.specs.Kinds.{Status, Key, of_handle, of_name, Item}
 use Rattle.calls.specs.Pages.{age}
 use Rattle.bay.specs.Bay.{free, held}
 use Rattle.structure.specs.Structure.{Block, cell, fixed}
+use Rattle.turn.specs.declared.rank.Ranked.{Ranked}
 
 -- every rank is below
 abbrev pub rank_range : ℕ
@@ -39,11 +40,6 @@ key_loose_rank clock (of_name n s) = cond s.lock rank_range (rank clock n s)
 abbrev pub loose_rank : ℕ → Item → ℕ
 loose_rank clock e = key_loose_rank clock e.key
 
-abbrev pub loose_rank_b : ℕ → Block → ℕ
-loose_rank_b clock (cell (free n)) = rank_range
-loose_rank_b clock (cell (held e)) = loose_rank clock e
-loose_rank_b clock (fixed d) = rank_range
-
 -- ---- the dirty ones
 
 -- the rank of an unlocked dirty page, rank_range of any other block
@@ -60,3 +56,20 @@ dirty_rank_b clock (fixed d) = rank_range
 abbrev pub least_dirty : ℕ → List Item → ℕ
 least_dirty clock [] = rank_range
 least_dirty clock (e ∷ es) = min (key_dirty_rank clock e.key) (least_dirty clock es)
+
+-- of a rank where there is one
+abbrev pub rank_found : Option ℕ → ℕ
+rank_found None = rank_range
+rank_found (Some r) = r
+
+-- ---- both
+
+-- an unlocked page by its rank, and whether it is dirty; none for any other block
+abbrev pub key_ranked : ℕ → Key → Option Ranked
+key_ranked clock (of_handle h) = None
+key_ranked clock (of_name n s) = cond s.lock None (Some (record { rank = rank clock n s; dirty = s.dirty }))
+
+abbrev pub ranked_b : ℕ → Block → Option Ranked
+ranked_b clock (cell (free n)) = None
+ranked_b clock (cell (held e)) = key_ranked clock e.key
+ranked_b clock (fixed d) = None

@@ -1,73 +1,27 @@
 // The search for the pages that go: nothing is written, and no walk but those over all blocks is made. In ascending rank pages go until some bay's
 // sum reaches the need, so that those that go are the unlocked ones of rank below some limit; the least limit that is enough is found by halving.
 // Each walk tells too which ranks of pages lie next to its limit, and the halving goes on from those: some ten walks for a thousand pages.
-ghost use Rattle.std.specs.Prelude.{◌≡◌, ◌<◌, ◌≤◌, min, max, length, drop, if◌then◌else◌};
-ghost use Rattle.block_type.specs.Limits.{clock_at};
+ghost use Rattle.std.specs.Prelude.{◌≡◌, ◌<◌, ◌≤◌, IfOk, IfErr};
 ghost use Rattle.format.specs.WellFormed.{clock_field};
 ghost use Rattle.structure.specs.Structure.{decode_zone};
-ghost use Rattle.structure.specs.IsZone.{IsZone};
 ghost use Rattle.calls.specs.Bays.{concat_s, max_s};
 ghost use Rattle.bay.specs.Bay.{items, bay_sum};
-ghost use Rattle.access.specs.row.Row.{Row, block_at, Stepped};
-ghost use Rattle.bays.specs.Places.{bays_of, bays_at};
-ghost use Rattle.turn.specs.Rank.{rank_range, least_dirty};
+ghost use Rattle.access.specs.row.Row.{block_at, Stepped};
+ghost use Rattle.bays.specs.Places.{bays_of};
+ghost use Rattle.turn.specs.Rank.{rank_range, limit_range, rank_found, least_dirty};
 ghost use Rattle.turn.specs.Walk.{Past};
 ghost use Rattle.turn.specs.Limit.{Weighed, Least, Between, Nearer};
+ghost use Rattle.calls.specs.Refusals.{code_of, beside_of};
 ghost use Rattle.turn.specs.Turn.{InTurn};
 
 use super::rank;
-use access::row;
+use access::Zone;
+use access::rows::Placed;
 use block_type::BlockType;
-
-fn larger(a: usize, b: usize) -> usize
-    ensures { result ≡ max a b }
-{
-    if a < b {
-        return b;
-    }
-    a
-}
-
-fn higher(a: u64, b: u64) -> u64
-    ensures { result ≡ max a b }
-{
-    if a < b {
-        return b;
-    }
-    a
-}
-
-fn lesser(a: u64, b: u64) -> u64
-    ensures { result ≡ min a b }
-{
-    if b < a {
-        return b;
-    }
-    a
-}
-
-// a where `first` holds, else b.
-fn one_of(first: bool, a: u64, b: u64) -> u64
-    ensures { result ≡ (if first then a else b) }
-{
-    if first {
-        return a;
-    }
-    b
-}
-
-// n where it counts, else 0.
-fn counted(counts: bool, n: usize) -> usize
-    ensures { (result ≡ (if counts then n else 0)) × (result ≤ n) }
-{
-    if counts {
-        return n;
-    }
-    0
-}
+use calls::Refusal;
 
 // What a walk with a limit has seen: the largest sum of the bays that it has passed, the sum of the bay it is in, the least limit with which the same
-// pages go, and the least with which more go.
+// pages go, and the least with which more go. LIMIT_RANGE where none has: it is above every limit, so that min needs no case.
 #[derive(Clone, Copy)]
 struct Sums {
     best: usize,
@@ -76,35 +30,36 @@ struct Sums {
     over: u64,
 }
 
-// One block more of the walk, of n bytes at `at`: the unlocked pages of rank below the limit t count as free.
-fn pass(z: &[u8], at: usize, n: usize, clock: u8, t: u64, w: Sums) -> Sums
-    requires { Stepped z.now at n × (w.sum ≤ at) × (t ≤ rank_range) }
-    ensures { Past clock t (block_at z.now at) n w.best w.sum w.under w.over result.best result.sum result.under result.over }
+// One block more of the walk: the unlocked pages of rank below the limit count as free.
+fn pass(z: &[u8], block: Placed, clock: u8, limit: u64, w: Sums) -> Sums
+    requires { Stepped z.now block.at block.size × (w.sum ≤ block.at) × (limit ≤ rank_range) × (w.over ≤ limit_range) }
+    ensures { Past clock limit (block_at z.now block.at) block.size w.best w.sum w.under w.over result.best result.sum result.under result.over }
 {
-    let k = block_check::type_at(z, at);
-    if k == BlockType::FIXED_CODE {
+    let kind = block_check::block_type_at(z, block.at);
+    if kind == BlockType::Fixed {
         return Sums {
-            best: larger(w.best, w.sum),
+            best: w.best.max(w.sum),
             sum: 0,
-            under: w.under,
-            over: w.over,
+            ..w
         };
     }
-    if k == BlockType::FREE_CODE {
+    if kind == BlockType::Free {
         return Sums {
-            best: w.best,
-            sum: w.sum + n,
-            under: w.under,
-            over: w.over,
+            sum: w.sum + block.size,
+            ..w
         };
     }
-    let r = rank::loose_rank(z, at, n, clock);
-    let goes = r < t;
-    Sums {
-        best: w.best,
-        sum: w.sum + counted(goes, n),
-        under: higher(w.under, one_of(goes, r + 1, 0)),
-        over: lesser(w.over, one_of(goes, rank::LIMIT_RANGE, r + 1)),
+    match rank::rank_at(z, block, clock) {
+        Some(page) if page.rank < limit => Sums {
+            sum: w.sum + block.size,
+            under: w.under.max(page.rank + 1),
+            ..w
+        },
+        Some(page) => Sums {
+            over: w.over.min(page.rank + 1),
+            ..w
+        },
+        None => w,
     }
 }
 
@@ -117,10 +72,10 @@ struct Weight {
     over: u64,
 }
 
-// One walk over all blocks, with the limit t.
-fn weigh(z: &[u8], first: usize, clock: u8, t: u64) -> Weight
-    requires { Row (drop first z.now) × (first ≤ length z.now) × (t ≤ rank_range) }
-    ensures { Weighed clock t (bays_at z.now first) result.sum result.under result.over }
+// One walk over all blocks.
+fn weigh(zone: Zone<'_>, clock: u8, limit: u64) -> Weight
+    requires { limit ≤ rank_range }
+    ensures { Weighed clock limit (bays_of (decode_zone zone.entry.bytes.now)) result.sum result.under result.over }
 {
     let mut w = Sums {
         best: 0,
@@ -128,30 +83,30 @@ fn weigh(z: &[u8], first: usize, clock: u8, t: u64) -> Weight
         under: 0,
         over: rank::LIMIT_RANGE,
     };
-    let mut at = first;
-    while at < z.len() {
-        let n = row::step(z, at);
-        w = pass(z, at, n, clock, t, w);
-        at += n;
+    for block in zone.blocks() {
+        w = pass(zone.bytes, block, clock, limit, w);
     }
     Weight {
-        sum: larger(w.best, w.sum),
+        sum: w.best.max(w.sum),
         under: w.under,
         over: w.over,
     }
 }
 
 // The least rank of an unlocked dirty page.
-fn first_dirty(z: &[u8], first: usize, clock: u8) -> u64
-    requires { Row (drop first z.now) × (first ≤ length z.now) }
-    ensures { result ≡ least_dirty clock (concat_s items (bays_at z.now first)) }
+fn first_dirty(zone: Zone<'_>, clock: u8) -> Option<u64>
+    ensures { rank_found result ≡ least_dirty clock (concat_s items (bays_of (decode_zone zone.entry.bytes.now))) }
 {
-    let mut least = rank::RANK_RANGE;
-    let mut at = first;
-    while at < z.len() {
-        let n = row::step(z, at);
-        least = lesser(least, rank::dirty_rank(z, at, n, clock));
-        at += n;
+    let mut least = None;
+    for block in zone.blocks() {
+        if let Some(page) = rank::rank_at(zone.bytes, block, clock)
+            && page.dirty
+        {
+            least = match least {
+                Some(rank) if rank <= page.rank => least,
+                _ => Some(page.rank),
+            };
+        }
     }
     least
 }
@@ -164,76 +119,63 @@ struct Limits {
 }
 
 // Two at most half as far from each other.
-fn halve(z: &[u8], first: usize, clock: u8, need: usize, low: u64, high: u64) -> Limits
-    requires { Row (drop first z.now) × (first ≤ length z.now) × (low < high) × Between clock need low high (bays_at z.now first) }
-    ensures { Nearer clock need low high result.low result.high (bays_at z.now first) }
+fn halve(zone: Zone<'_>, clock: u8, need: usize, between: Limits) -> Limits
+    requires { (between.low < between.high) × Between clock need between.low between.high (bays_of (decode_zone zone.bytes.now)) }
+    ensures { Nearer clock need between.low between.high result.low result.high (bays_of (decode_zone zone.entry.bytes.now)) }
 {
-    let w = weigh(z, first, clock, (low + high) / 2);
+    let w = weigh(zone, clock, (between.low + between.high) / 2);
     if need <= w.sum {
-        return Limits { low, high: w.under };
+        Limits {
+            high: w.under,
+            ..between
+        }
+    } else {
+        Limits {
+            low: w.over,
+            ..between
+        }
     }
-    Limits { low: w.over, high }
 }
 
-// The least limit that is enough, from two between which it lies; 41 walks at most.
-fn least_limit(z: &[u8], first: usize, clock: u8, need: usize, from: u64, to: u64) -> u64
-    requires { Row (drop first z.now) × (first ≤ length z.now) × Between clock need from to (bays_at z.now first) }
-    ensures { Least clock need result (bays_at z.now first) }
+// The least limit that is enough, from two between which it lies; 41 walks at most. No list is searched, so this is no partition_point: each step is
+// a walk over the zone, which tells the next two limits.
+fn least_limit(zone: Zone<'_>, clock: u8, need: usize, from: Limits) -> u64
+    requires { Between clock need from.low from.high (bays_of (decode_zone zone.bytes.now)) }
+    ensures { Least clock need result (bays_of (decode_zone zone.entry.bytes.now)) }
 {
-    let mut low = from;
-    let mut high = to;
-    while low < high {
-        let w = halve(z, first, clock, need, low, high);
-        low = w.low;
-        high = w.high;
+    let mut between = from;
+    while between.low < between.high {
+        between = halve(zone, clock, need, between);
     }
-    low
+    between.low
 }
 
 // The clock.
-fn clock_of(z: &[u8]) -> u8
-    requires { clock_at < length z.now }
-    ensures { result ≡ clock_field z.now }
+fn clock_of(zone: Zone<'_>) -> u8
+    ensures { result ≡ clock_field zone.entry.bytes.now }
 {
-    z[block_type::CLOCK_AT]
+    zone.bytes[block_type::CLOCK_AT]
 }
 
-// Which pages go: every unlocked one of rank below the limit. Or the refusal, with the name of the page that a 12 is for.
-#[derive(Clone, Copy)]
-pub struct Turn {
-    pub number: u32,
-    pub name: u32,
-    pub limit: u64,
-}
-
-// Those that go for need bytes, which no bay has free, in the bytes of a well-formed zone with none beyond its length.
-pub fn find_turn(z: &[u8], need: usize) -> Turn
-    requires { IsZone z.now × (max_s bay_sum (bays_of (decode_zone z.now)) < need) }
-    ensures { InTurn z.now need result.number result.name result.limit }
+// Which pages go for need bytes, which no bay has free: every unlocked one of rank below the limit that is answered.
+pub fn find_turn(zone: Zone<'_>, need: usize) -> Result<u64, Refusal>
+    requires { max_s bay_sum (bays_of (decode_zone zone.bytes.now)) < need }
+    ensures ok { IfOk result (InTurn zone.entry.bytes.now need 0 0) }
+    ensures err { IfErr result (λ e. InTurn zone.entry.bytes.now need (code_of e) (beside_of e) 0) }
 {
-    let first = bigendian::get4(z, block_type::FIRST_AT) as usize;
-    let clock = clock_of(z);
-    let all = weigh(z, first, clock, rank::RANK_RANGE);
+    let clock = clock_of(zone);
+    let all = weigh(zone, clock, rank::RANK_RANGE);
     if all.sum < need {
-        return Turn {
-            number: 5,
-            name: 0,
-            limit: 0,
-        };
+        return Err(Refusal::NoSpace);
     }
     // with the limit 0 no page goes, which is not enough
-    let limit = least_limit(z, first, clock, need, 1, all.under);
-    let dirty = first_dirty(z, first, clock);
-    if dirty < limit {
-        return Turn {
-            number: 12,
-            name: rank::name_of(dirty),
-            limit: 0,
-        };
-    }
-    Turn {
-        number: 0,
-        name: 0,
-        limit,
+    let from = Limits {
+        low: 1,
+        high: all.under,
+    };
+    let limit = least_limit(zone, clock, need, from);
+    match first_dirty(zone, clock) {
+        Some(rank) if rank < limit => Err(Refusal::DirtyPage(rank::name_of(rank))),
+        _ => Ok(limit),
     }
 }

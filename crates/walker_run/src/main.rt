@@ -4,7 +4,8 @@
 
 ghost use Rattle.std.specs.Prelude.{◌≡◌, ◌≤◌, length, OnOk};
 ghost use Rattle.std.specs.Io.KnownBytes.{Appends};
-ghost use Rattle.zone.specs.Walker.{walked, walk_step};
+ghost use Rattle.zone.specs.Walker.{walk_step};
+ghost use Rattle.inspect.specs.walker.Told.{walked_by};
 ghost use Rattle.walker_run.specs.Lines.{line, walk_lines};
 
 use inspect::walker::{Moved, Walker};
@@ -17,24 +18,24 @@ const MOST_STEPS: usize = 16384;
 
 // A walker at `at` is lent for a step. It comes back as the step left it.
 fn step(zone: &[u8], at: usize) -> Moved
-    ensures { walked result.report.number result.report.block.kind result.report.block.offset result.report.block.size result.next.at ≡ walk_step zone.now at }
+    ensures { walked_by result.block result.next.at ≡ walk_step zone.now at }
 {
     let mut w = Walker { at };
-    let report = w.advance(zone);
-    Moved { next: w, report }
+    let block = w.advance(zone);
+    Moved { next: w, block }
 }
 
-// The refusal number, the block's type, offset and size, and where the walker is then.
+// The refusal number, the block's type, offset and size, 0 for each where there is none, and where the walker is then.
 #[tactic(auto, unfolding(crate::specs::Lines::line))]
 fn show<W: Write>(m: &Moved, out: &mut W) -> io::Result<()>
-    ensures { OnOk result (Appends (W.contents out.old) (W.contents out.new) (line (walked m.now.report.number m.now.report.block.kind m.now.report.block.offset m.now.report.block.size m.now.next.at))) }
+    ensures { OnOk result (Appends (W.contents out.old) (W.contents out.new) (line (walked_by m.now.block m.now.next.at))) }
 {
-    let block = &m.report.block;
-    writeln!(
-        out,
-        "{} {} {} {} {}",
-        m.report.number, block.kind, block.offset, block.size, m.next.at
-    )
+    let (number, kind, offset, size) = match m.block {
+        Ok(Some(block)) => (0, block.kind.code(), block.offset, block.size),
+        Ok(None) => (0, 0, 0, 0),
+        Err(refusal) => (refusal.number(), 0, 0, 0),
+    };
+    writeln!(out, "{number} {kind} {offset} {size} {}", m.next.at)
 }
 
 // A step at 17, where no block starts, and then from the start on until a step leaves the walker where it is. A zone of 65,536 bytes
@@ -56,6 +57,7 @@ fn walk<W: Write>(zone: &[u8], out: &mut W) -> io::Result<()>
 }
 
 // Reads until the zone is full, the input ends or a read fails. Answers how many bytes it put at its start.
+// By `read`, again and again: std's `read_exact` does not say how much was read once it fails, as it does at the input's end.
 fn read_zone(reader: &mut impl Read, zone: &mut [u8]) -> (usize, io::Result<()>)
     ensures { result.0 ≤ length zone.new }
 {

@@ -1,25 +1,33 @@
 -- The laws of the page that is sought: what a block on the walk says of it, and what is known at the end.
-use mathlib.Core.Path.{◌≡◌, refl, sym, ◌∙◌}
+use mathlib.Core.Path.{◌≡◌, refl, sym, ap, ◌∙◌}
 use mathlib.Core.List.{List}
 use mathlib.Core.Bool.{Bool, true, false, cond, ◌&&◌}
-use Prim.Native.Nat.{ℕ, ◌+◌, ◌<◌, ◌≤◌}
+use Prim.Native.Nat.{ℕ, zero, suc, ◌+◌, ◌<◌, ◌≤◌}
 use native.Mathlib.Omega.{arith}
 use lib.Dec.{eqb}
-use borrow.Author.Tests.{ne_eqb, eqb-true}
 use lib.ListN.{length, take, drop, length-take, length-drop, drop_of_length-le}
 use lib.Seq.{drop-drop}
 use Rattle.format.specs.WellFormed.{size_of, is_page, name_of}
 use Rattle.format.specs.Steps.{Turn}
 use Rattle.format.proofs.Walk.{blocks-cons, blocks-nil, is-page-take, name-take}
-use Rattle.zone_check.specs.Sought.{page_among, page_from}
+use Rattle.std.specs.Prelude.{Option, None, Some, unwrap_or}
+use Rattle.std.proofs.lemmas.Option.{none-some}
+use Rattle.std.specs.Option.{option_or}
+use Rattle.zone_check.specs.Sought.{unless_zero, page_among, page_from}
 use Rattle.zone_check.specs.Body.{Found}
 
--- the choice between two places
-pub takes : (t : Bool) (a b : ℕ) → t ≡ true → a ≡ cond t a b
-takes t a b q = rw q
+-- an offset beyond the header is one
+pub unless-some : (n : ℕ) → 0 < n → unless_zero n ≡ Some n
+unless-some zero l = let e : ⊥ = omega arith in absurd e
+unless-some (suc n) l = refl
 
-pub keeps : (t : Bool) (a b : ℕ) → t ≡ false → b ≡ cond t a b
-keeps t a b q = rw q
+pub zero-unless : (n : ℕ) → unless_zero n ≡ None → n ≡ 0
+zero-unless zero e = refl
+zero-unless (suc n) e = absurd (none-some (suc n) (sym e))
+
+pub some-unless : (n m : ℕ) → unless_zero n ≡ Some m → (n ≡ m) × (0 < m)
+some-unless zero m e = absurd (none-some m e)
+some-unless (suc n) m e = let k : suc n ≡ m = ap (λ o. unwrap_or o 0) e in (k, omega (arith, k))
 
 -- the first block is the page, or the page is sought behind it
 pub page-cons : (x : ℕ) (z : List ℕ) (at n : ℕ) → n ≡ size_of (drop at z) → 0 < n → at + n ≤ length z
@@ -47,22 +55,21 @@ module _ (x : ℕ) (z : List ℕ) (first : ℕ) (prev : Bool) (at n : ℕ) (t : 
   page-named q = rw (← name-take n (drop at z) t.low (t.long q)) (rw q at here)
 
   -- the page that was met before stays; where there was none it is this one, if it has the name
-  pub found-on : 0 < at → is_page (drop at z) ≡ true → (v page next : ℕ) → v ≡ name_of (drop at z) → next ≡ cond (eqb v x && eqb page 0) at page → Found x z first at page → Found x z first (at + n) next
-  found-on l q v page next e f g = record { page_is = go (eqb v x) (eqb page 0) refl (rw (← e) at (page-named q)) f g.page_is }
+  pub found-on : 0 < at → is_page (drop at z) ≡ true → (v : ℕ) (page next : Option ℕ) → v ≡ name_of (drop at z) → next ≡ option_or page (cond (eqb v x) (Some at) None) → Found x z first at page → Found x z first (at + n) next
+  found-on l q v page next e f g = record { page_is = rw f (go (eqb v x) page (rw (← e) at (page-named q)) g.page_is) }
     where
-      go : (a b : Bool) → eqb page 0 ≡ b → page_from x z at ≡ cond a at (page_from x z (at + n)) → next ≡ cond (a && b) at page → cond b (page_from x z at) page ≡ page_from x z first
-          → cond (eqb next 0) (page_from x z (at + n)) next ≡ page_from x z first
-      go true true p s f i = rw (f, ne_eqb at 0 (λ k. omega arith)) (sym s ∙ i)
-      go true false p s f i = rw (f, p) i
-      go false true p s f i = rw (f, p) (sym s ∙ i)
-      go false false p s f i = rw (f, p) i
+      go : (a : Bool) (p : Option ℕ) → page_from x z at ≡ cond a at (page_from x z (at + n)) → option_or p (unless_zero (page_from x z at)) ≡ unless_zero (page_from x z first)
+          → option_or (option_or p (cond a (Some at) None)) (unless_zero (page_from x z (at + n))) ≡ unless_zero (page_from x z first)
+      go a (Some o) s i = i
+      go true None s i = sym (unless-some at l) ∙ (rw s at i)
+      go false None s i = rw s at i
 
-  pub found-past : is_page (drop at z) ≡ false → (page : ℕ) → Found x z first at page → Found x z first (at + n) page
+  pub found-past : is_page (drop at z) ≡ false → (page : Option ℕ) → Found x z first at page → Found x z first (at + n) page
   found-past q page g = record { page_is = rw (page-other q) at g.page_is }
 
-pub found-end : (x : ℕ) (z : List ℕ) (first at page : ℕ) → length z ≤ at → Found x z first at page → page ≡ page_from x z first
-found-end x z first at page l g = go (eqb page 0) refl (rw (page-end x z at l) at g.page_is)
+pub found-end : (x : ℕ) (z : List ℕ) (first at : ℕ) (page : Option ℕ) → length z ≤ at → Found x z first at page → page ≡ unless_zero (page_from x z first)
+found-end x z first at page l g = go page (rw (page-end x z at l) at g.page_is)
   where
-    go : (b : Bool) → eqb page 0 ≡ b → cond b 0 page ≡ page_from x z first → page ≡ page_from x z first
-    go true p i = eqb-true page 0 p ∙ i
-    go false p i = i
+    go : (p : Option ℕ) → option_or p None ≡ unless_zero (page_from x z first) → p ≡ unless_zero (page_from x z first)
+    go None i = i
+    go (Some o) i = i

@@ -1,12 +1,13 @@
 -- What the walk over the blocks, and the test of blocks, masters and names, promise to the check above them.
-use Rattle.std.specs.Prelude.{◌≡◌, List, [], Bool, true, false, cond, ℕ, ◌+◌, ◌%◌, ◌<◌, ◌≤◌, eqb, length, drop}
+use Rattle.std.specs.Prelude.{◌≡◌, List, [], Bool, true, false, cond, ℕ, Option, ◌+◌, ◌%◌, ◌<◌, ◌≤◌, length, drop}
+use Rattle.std.specs.Option.{option_or}
 use Rattle.block_type.specs.Limits.{longest_zone}
-use Rattle.format.specs.OneWalk.{blocks_ok, body_ok}
+use Rattle.format.specs.OneWalk.{blocks_ok}
 use Rattle.format.specs.Occurs.{occurs}
 use Rattle.format.specs.WellFormed.{is_page, relocs, distinct, split_blocks}
 use Rattle.names.specs.Pages.{names_at}
-use Rattle.names.specs.Seen.{table_size, met}
-use Rattle.zone_check.specs.Sought.{page_from}
+use Rattle.names.specs.Seen.{met}
+use Rattle.zone_check.specs.Sought.{unless_zero, page_from}
 
 -- the walk has come to `at`: what is left, behind a block that is free or not (prev), decides whether all blocks obey the rules, and with count it makes up the relocatable ones
 pub record Walked (z : List ℕ) (first at : ℕ) (prev : Bool) (count : ℕ) : Type 0 where
@@ -27,35 +28,34 @@ pub record Seen (z table : List ℕ) (first at : ℕ) (certain : Bool) : Type 0 
   pub left : (x : ℕ) → occurs x (names_at z at) ≤ occurs x (names_at z first)
   pub none : names_at z first ≡ [] → certain ≡ true
 
--- page is where the first page of that name before `at` starts; 0 for none
-pub record Found (name : ℕ) (z : List ℕ) (first at page : ℕ) : Type 0 where
-  pub page_is : cond (eqb page 0) (page_from name z at) page ≡ page_from name z first
+-- page is where the first page of that name before `at` starts, if there is one
+pub record Found (name : ℕ) (z : List ℕ) (first at : ℕ) (page : Option ℕ) : Type 0 where
+  pub page_is : option_or page (unless_zero (page_from name z at)) ≡ unless_zero (page_from name z first)
 
--- a table with no name
-pub record Empty (table : List ℕ) : Type 0 where
-  pub none : (x : ℕ) → met table x ≡ false
+-- the walk has met no page yet, and the table has no name
+pub record Unseen (z table : List ℕ) (first at : ℕ) (certain : Bool) : Type 0 where
+  pub same : names_at z at ≡ names_at z first
+  pub empty : (x : ℕ) → met table x ≡ false
+  pub sure : certain ≡ true
 
--- what a walk answers that has a table of `room` slots: where the blocks that it has met obey the rules it has come to the end, or stands before the first page, if there is too little room
+-- a block breaks a rule
+abbrev pub IsBad : List ℕ → ℕ → Type 0
+IsBad z first = blocks_ok z first false first (split_blocks (drop first z)) ≡ false
+
+-- what a walk answers, with a table for names or without: it has come to the end, or stands before the first page, if there is no table
 -- `certain` may be false though names are distinct (not where there are none, and the walk is at the end): the exact test decides then
-pub record Gone (name : ℕ) (z : List ℕ) (first room : ℕ) (ok : Bool) (at : ℕ) (prev : Bool) (count : ℕ) (certain : Bool) (page : ℕ) : Type 0 where
-  pub bad : ok ≡ false → blocks_ok z first false first (split_blocks (drop first z)) ≡ false
-  pub good : ok ≡ true → Walked z first at prev count
-  pub stops : ok ≡ true → at < length z → (room < table_size) × (names_at z at ≡ names_at z first)
-  pub page_next : ok ≡ true → at < length z → is_page (drop at z) ≡ true
-  pub is_distinct : certain ≡ true → distinct (names_at z first) ≡ true
-  pub none : ok ≡ true → length z ≤ at → names_at z first ≡ [] → certain ≡ true
-  pub finds : ok ≡ true → Found name z first at page
+pub record Gone (name : ℕ) (z : List ℕ) (first : ℕ) (table : Bool) (at : ℕ) (prev : Bool) (count : ℕ) (certain : Bool) (page : Option ℕ) : Type 0 where
+  pub good : Walked z first at prev count
+  pub stops : at < length z → (table ≡ false) × (names_at z at ≡ names_at z first) × (certain ≡ true)
+  pub page_next : at < length z → is_page (drop at z) ≡ true
+  pub is_distinct : length z ≤ at → certain ≡ true → distinct (names_at z first) ≡ true
+  pub none : length z ≤ at → names_at z first ≡ [] → certain ≡ true
+  pub finds : Found name z first at page
 
--- what the walk over all blocks answers: whether all blocks obey the rules; where they do, how many are relocatable, and where the page of that name starts; and where it is certain of it, that names are distinct
-pub record Blocks (name : ℕ) (z : List ℕ) (first : ℕ) (ok : Bool) (count : ℕ) (certain : Bool) (page : ℕ) : Type 0 where
-  pub is_ok : ok ≡ blocks_ok z first false first (split_blocks (drop first z))
-  pub is_count : ok ≡ true → count ≡ relocs (split_blocks (drop first z))
-  pub page_is : ok ≡ true → page ≡ page_from name z first
+-- what the walk over all blocks answers, where they obey the rules: how many are relocatable, and where the page of that name starts; and where it is certain of it, that names are distinct
+pub record Blocks (name : ℕ) (z : List ℕ) (first count : ℕ) (certain : Bool) (page : Option ℕ) : Type 0 where
+  pub is_ok : blocks_ok z first false first (split_blocks (drop first z)) ≡ true
+  pub is_count : count ≡ relocs (split_blocks (drop first z))
+  pub page_is : page ≡ unless_zero (page_from name z first)
   pub is_distinct : certain ≡ true → distinct (names_at z first) ≡ true
-  pub none : ok ≡ true → names_at z first ≡ [] → certain ≡ true
-
--- what the test of the body answers
-pub record Body (name : ℕ) (z : List ℕ) (first m head : ℕ) (ok : Bool) (count page : ℕ) : Type 0 where
-  pub is_ok : ok ≡ body_ok z first m head
-  pub is_count : count ≡ cond (body_ok z first m head) (relocs (split_blocks (drop first z))) 0
-  pub page_is : page ≡ cond (body_ok z first m head) (page_from name z first) 0
+  pub none : names_at z first ≡ [] → certain ≡ true

@@ -1,2 +1,5 @@
 pub mod Sought
+pub mod Table
 pub mod Body
+pub mod Header
+pub mod Checked

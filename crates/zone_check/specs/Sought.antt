@@ -1,6 +1,11 @@
 -- Where the page of a name starts, as the walk over the blocks meets it.
-use Rattle.std.specs.Prelude.{cond, ◌&&◌, List, [], ◌∷◌, ℕ, ◌+◌, length, drop, eqb}
+use Rattle.std.specs.Prelude.{cond, ◌&&◌, List, [], ◌∷◌, ℕ, zero, suc, ◌+◌, length, drop, eqb, Option, None, Some}
 use Rattle.format.specs.WellFormed.{is_page, name_of, split_blocks, first_field, zone_of, well_formed}
+
+-- 0 is the format's word for none
+abbrev pub unless_zero : ℕ → Option ℕ
+unless_zero zero = None
+unless_zero (suc n) = Some (suc n)
 
 -- where the first page of the name x starts, among blocks of which the first starts at offset `at`; 0 for none
 unfoldable pub page_among : ℕ → ℕ → List (List ℕ) → ℕ

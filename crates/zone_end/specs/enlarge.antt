@@ -1,2 +1,1 @@
 pub mod Enlarge
-pub mod Ready

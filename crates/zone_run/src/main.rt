@@ -38,19 +38,8 @@ fn fresh_buffer() -> [u8; ZONE]
     [0; ZONE]
 }
 
-fn chunk_buffer() -> [u8; CHUNK]
-    ensures { chunk_size ≡ length result }
-{
-    [0; CHUNK]
-}
-
-fn lines_buffer() -> [u8; LINES]
-    ensures { chunk_size + chunk_size ≡ length result }
-{
-    [0; LINES]
-}
-
 // Reads what comes next until the chunk is full, the input ends or a read fails. Answers how many bytes it put at the start of the chunk.
+// By `read`, again and again: std's `read_exact` says nothing of what was read once it fails, as it does at the input's end.
 fn read_chunk<R: Read>(reader: &mut R, chunk: &mut [u8]) -> (usize, io::Result<()>)
     requires { length chunk.old ≡ chunk_size }
     ensures counts { IsPrefixLen result.0 chunk.new }
@@ -70,6 +59,7 @@ fn read_chunk<R: Read>(reader: &mut R, chunk: &mut [u8]) -> (usize, io::Result<(
 }
 
 // Writes the lines of a chunk that comes after `full` full ones: whoever calls it shows that they are those.
+// By `write`, again and again: std's `write_all` says nothing of what was written once it fails.
 fn write_lines<W: Write>(writer: &mut W, full: u64, chunk: &[u8], lines: &[u8]) -> io::Result<()>
     requires { Continues (full * chunk_size) chunk.now lines.now }
     ensures { Wrote (W.contents writer.old) (W.contents writer.new) lines.now (is_ok result) }
@@ -136,8 +126,8 @@ fn run_all<R: Read, W: Write>(reader: &mut R, writer: &mut W, zone: &mut [u8]) -
     ensures end { OnOk result.last.read (result.last.got < chunk_size → IsAtEnd (R.remaining reader.new)) }
     ensures cut { OnErr result.last.read (result.last.got < chunk_size) }
 {
-    let mut chunk = chunk_buffer();
-    let mut out = lines_buffer();
+    let mut chunk = [0; CHUNK];
+    let mut out = [0; LINES];
     let mut full: u64 = 0;
     loop {
         let last = run_some(reader, writer, zone, &mut chunk, &mut out, full);

@@ -25,7 +25,9 @@ use Rattle.bay.specs.Bay.{items}
 use Rattle.zone.specs.Group.{group}
 use Rattle.access.specs.Named.{place_among, data_among}
 use Rattle.access.proofs.Named.{among-low, among-fits, among-bytes}
-use Rattle.access.specs.locate.Locate.{target_place, target_data, Located, ill_formed, absent, present}
+use Rattle.access.specs.locate.Locate.{target_place, target_data}
+use Rattle.access.specs.locate.Found.{IsFound}
+use Rattle.access.specs.declared.locate.Span.{Span}
 use Rattle.access.proofs.locate.Among.{content-among}
 
 -- ---- in a zone, and in a buffer
@@ -70,12 +72,10 @@ module _ (s : List ℕ) (y : Bytes s) (wf : well_formed s ≡ true) (t : Target)
 
 -- ---- what is found is small, and in the bays
 
-pub located-small : (s : List ℕ) (t : Target) (number at size : ℕ) → Located s t number at size → (at ≤ longest_zone) × (size ≤ longest_zone)
-located-small s t number at size (ill_formed y wf n a k) = (omega arith, omega arith)
-located-small s t number at size (absent y wf p n a k) = (omega arith, omega arith)
-located-small s t number at size (present y wf a l k n) =
-    let live : target_place t (zone_of s) ≡ 0 → ⊥ = λ e. l (a ∙ e) in
-    (omega (arith, target_fits s y wf t live, target_small s y wf t live), omega (arith, target_fits s y wf t live, target_small s y wf t live))
+pub found-small : (s : List ℕ) (t : Target) (k : Span) → IsFound s t k → (k.at ≤ longest_zone) × (k.size ≤ longest_zone)
+found-small s t k f =
+    let live : target_place t (zone_of s) ≡ 0 → ⊥ = λ e. f.some (f.at_is ∙ e) in
+    (omega (arith, f.at_is, target_fits s f.bytes f.well t live, target_small s f.bytes f.well t live), omega (arith, f.size_is, target_fits s f.bytes f.well t live, target_small s f.bytes f.well t live))
 
 pub content-none : (t : Target) (s : List ℕ) → target_place t (zone_of s) ≡ 0 → content items t (group (start (decode s)) (decode s).blocks) ≡ none
 unfolding target_place decode

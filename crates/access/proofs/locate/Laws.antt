@@ -1,20 +1,28 @@
 -- The laws that the proofs of the functions cite.
-use mathlib.Core.Path.{◌≡◌, refl, sym, ap, ap₂, ◌∙◌}
-use mathlib.Core.Bool.{Bool, true, false, cond, not, ◌&&◌}
+use mathlib.Core.Path.{◌≡◌, sym, ap, ap₂, ◌∙◌}
+use mathlib.Core.Bool.{Bool, true, false, cond, ◌&&◌}
 use mathlib.Core.List.{List}
 use Prim.Native.Nat.{ℕ, ◌+◌, ◌-◌, ◌≤◌}
 use lib.ListN.{length, take, drop}
 use lib.Dec.{eqb}
-use borrow.Author.Tests.{eqb-true, not-true}
+use native.Mathlib.Omega.{arith}
+use borrow.Author.Tests.{eqb-true}
 use Rattle.block_type.specs.Limits.{fixed_header, fixed_code}
 use Rattle.bigendian.specs.BigEndian.{Bytes}
-use Rattle.format.specs.WellFormed.{well_formed, type_of, length_field, first_field}
+use Rattle.format.specs.WellFormed.{zone_of, type_of, first_field}
 use Rattle.format.proofs.Bool.{and_right}
-use Rattle.zone_check.specs.Sought.{page_in, page_of}
+use Rattle.zone_check.specs.Sought.{unless_zero, page_in}
 use Rattle.structure.specs.Structure.{Block, start, decode_zone}
 use Rattle.structure.proofs.Table.{start_is}
 use Rattle.access.specs.Edit as Edit
-use Rattle.access.proofs.Checked.{is-well, has-page}
+use Rattle.access.specs.Checked.{Opened, IsIll}
+use Rattle.access.specs.declared.opened.Zone.{Zone}
+use Rattle.calls.specs.declared.Refusal.{Refusal}
+use Rattle.std.specs.Prelude.{Option, Some, None, MatchOption, Result, Ok, Err, IfOk, IfErr}
+use Rattle.std.specs.Option.{ok_or}
+use Rattle.std.specs.Result.{IsErrAnd}
+use Rattle.access.specs.locate.Found.{absence, NoData, IsData, NoSpan, IsSpan, IsFound, IsLost, ill_formed, absent}
+use Rattle.access.specs.declared.locate.Span.{Span}
 use Rattle.access.specs.row.Row.{blocks_of, Stepped}
 use Rattle.access.proofs.row.Laws.{row-end}
 use Rattle.access.proofs.row.Zone.{blocks-are}
@@ -22,7 +30,7 @@ use Rattle.calls.specs.Calls.{Target, by_handle, by_pointer, by_name}
 use Rattle.access.specs.declared.locate.Target.{Target as CodeTarget}
 use Rattle.access.specs.declared.locate.Target.TheVariants.{Handle, Pointer, Name}
 use Rattle.access.specs.locate.Named.{target_of}
-use Rattle.access.specs.locate.Locate.{target_place, target_data, name_in, absent_number, Located, ill_formed, absent, present}
+use Rattle.access.specs.locate.Locate.{target_place, target_data, name_in}
 use Rattle.access.specs.Named.{place_among, data_among}
 use Rattle.access.proofs.locate.Among.{pointer-place, pointer-data}
 use Rattle.access.proofs.Among.{handle-place, handle-data}
@@ -35,9 +43,13 @@ pub place-by-handle : (z : List ℕ) (h a : ℕ) → a ≡ Edit.place_in z h →
 unfolding Edit.place_in target_place
 place-by-handle z h a e = e ∙ handle-place h (start (decode_zone z)) (decode_zone z).blocks
 
-pub data-by-handle : (z : List ℕ) (h n : ℕ) → n ≡ length (Edit.data_in z h) → n ≡ length (target_data (by_handle h) z)
+data-by-handle : (z : List ℕ) (h n : ℕ) → n ≡ length (Edit.data_in z h) → n ≡ length (target_data (by_handle h) z)
 unfolding Edit.data_in target_data
 data-by-handle z h n e = e ∙ ap length (handle-data h (start (decode_zone z)) (decode_zone z).blocks)
+
+span-by-handle : (z : List ℕ) (h : ℕ) (r : Option Span) → MatchOption r (NoData z h) (IsData z h) → MatchOption r (NoSpan z (by_handle h)) (IsSpan z (by_handle h))
+span-by-handle z h None n = record { place_is = sym (place-by-handle z h 0 (sym n.place_is)); size_is = sym (data-by-handle z h 0 (sym n.size_is)) }
+span-by-handle z h (Some k) d = record { at_is = place-by-handle z h k.at d.at_is; some = d.some; size_is = data-by-handle z h k.size d.size_is }
 
 -- ---- the walk
 
@@ -63,6 +75,9 @@ module _ (z : List ℕ) (p at n : ℕ) (s : Stepped z at n) (f : Bool) (ef : f �
   pub place_here : f ≡ true → place_among (by_pointer p) at (blocks_of (drop at z)) ≡ q → p ≡ q
   place_here t inv = eqb-true p (at + fixed_header) (and_right (eqb (type_of (drop at z)) fixed_code) _ (sym ef ∙ t)) ∙ (rw t at place-step) ∙ inv
 
+  pub pointer-some : f ≡ true → p ≡ 0 → ⊥
+  pointer-some t k = let e = eqb-true p (at + fixed_header) (and_right (eqb (type_of (drop at z)) fixed_code) _ (sym ef ∙ t)) in omega (arith, e, k)
+
   pub data-here : f ≡ true → length (data_among (by_pointer p) at (blocks_of (drop at z))) ≡ q → n - fixed_header ≡ q
   data-here t inv = (rw t at data-step) ∙ inv
 
@@ -83,47 +98,43 @@ module _ (z : List ℕ) (t : Target) (at q : ℕ) (l : length z ≤ at) where
 
 -- ---- any buffer
 
-pub located-1 : (s : List ℕ) (t : Target) (ok : Bool) → ok ≡ well_formed s → not ok ≡ true → Bytes s → Located s t 1 0 0
-located-1 s t ok e q y = ill_formed y (sym e ∙ not-true ok q) refl refl refl
+module _ (s : List ℕ) (y : Bytes s) (z : Zone) (o : Opened s z) where
+  there : z.bytes.now ≡ zone_of s
+  there = sym o.there ∙ ap (λ (l : ℕ). take l s) o.has_zone.is_len
 
-module _ (s : List ℕ) (ok : Bool) (e : ok ≡ well_formed s) (q : not ok ≡ false) where
-  wf : well_formed s ≡ true
-  wf = is-well s ok e q
+  module _ (t : Target) (p : Option Span) (m : MatchOption p (NoSpan z.bytes.now t) (IsSpan z.bytes.now t)) (e : Refusal) (q : e ≡ absence t) (r : Result Span Refusal) (v : r ≡ ok_or p e) where
+    pub span-found : IfOk r (IsFound s t)
+    span-found = rw v (go p m)
+      where
+        go : (p : Option Span) → MatchOption p (NoSpan z.bytes.now t) (IsSpan z.bytes.now t) → IfOk (ok_or p e) (IsFound s t)
+        go None n = tt
+        go (Some k) i = record { bytes = y; well = o.has_zone.well; at_is = rw there at i.at_is; some = i.some; size_is = rw there at i.size_is }
 
-  -- the page is sought by the block's name, which the code has computed
-  pub sought-page : (l : ℕ) → l ≡ length_field s → (x name page : ℕ) → name ≡ x → page ≡ page_of name s → page ≡ page_in x (take l s)
-  sought-page l el x name page en ep = has-page s ok e q l el x page (rw en at ep)
+    pub span-lost : IfErr r (IsLost s t)
+    span-lost = rw v (go p m)
+      where
+        go : (p : Option Span) → MatchOption p (NoSpan z.bytes.now t) (IsSpan z.bytes.now t) → IfErr (ok_or p e) (IsLost s t)
+        go None n = absent y o.has_zone.well (rw there at n.place_is) q
+        go (Some k) i = tt
 
-  module _ (l : ℕ) (el : l ≡ length_field s) (t : Target) (at : ℕ) (ea : at ≡ target_place t (take l s)) where
-    pub located-no : (k : ℕ) → Bytes s → at ≡ 0 → k ≡ absent_number t → Located s t k 0 0
-    located-no k y z n = absent y wf (sym (rw el at ea) ∙ z) n refl refl
-
-    pub located-yes : (n : ℕ) → Bytes s → (at ≡ 0 → ⊥) → n ≡ length (target_data t (take l s)) → Located s t 0 at n
-    located-yes n y z en = present y wf (rw el at ea) z (rw el at en) refl
+pub span-ill : (s : List ℕ) (t : Target) {T : Type 0} (r : Result T Refusal) (d : Refusal) → IsErrAnd r (λ e. e ≡ d) → Bytes s → IsIll s d → IfErr r (IsLost s t)
+span-ill s t (Ok v) d k y i = absurd k
+span-ill s t (Err e) d k y i = ill_formed y (record { ill = i.ill; refusal_is = k ∙ i.refusal_is })
 
 -- ---- a block by its name
 
-module _ (z : List ℕ) (b : CodeTarget) (v n : ℕ) where
-  pub named-handle : b ≡ Handle n → v ≡ target_place (by_handle n) z → v ≡ target_place (target_of b) z
-  named-handle q e = rw q e
+module _ (z : List ℕ) (b : CodeTarget) (n : ℕ) (r : Option Span) where
+  pub span-handle : b ≡ Handle n → MatchOption r (NoData z n) (IsData z n) → MatchOption r (NoSpan z (target_of b)) (IsSpan z (target_of b))
+  span-handle q m = rw q (span-by-handle z n r m)
 
-  pub held-handle : b ≡ Handle n → v ≡ length (target_data (by_handle n) z) → v ≡ length (target_data (target_of b) z)
-  held-handle q e = rw q e
+  pub span-pointer : b ≡ Pointer n → MatchOption r (NoSpan z (by_pointer n)) (IsSpan z (by_pointer n)) → MatchOption r (NoSpan z (target_of b)) (IsSpan z (target_of b))
+  span-pointer q m = rw q m
 
-  pub page-name : b ≡ Name n → v ≡ page_in (name_in (target_of b)) z → v ≡ page_in n z
-  page-name q e = rw q at e
+  pub span-name : b ≡ Name n → MatchOption r (NoSpan z (by_name n)) (IsSpan z (by_name n)) → MatchOption r (NoSpan z (target_of b)) (IsSpan z (target_of b))
+  span-name q m = rw q m
 
-  pub named-name : b ≡ Name n → v ≡ target_place (by_name n) z → v ≡ target_place (target_of b) z
-  named-name q e = rw q e
-
-  pub held-name : b ≡ Name n → v ≡ length (target_data (by_name n) z) → v ≡ length (target_data (target_of b) z)
-  held-name q e = rw q e
-
-  pub named-pointer : b ≡ Pointer n → v ≡ target_place (by_pointer n) z → v ≡ target_place (target_of b) z
-  named-pointer q e = rw q e
-
-  pub held_pointer : b ≡ Pointer n → v ≡ length (target_data (by_pointer n) z) → v ≡ length (target_data (target_of b) z)
-  held_pointer q e = rw q e
+pub page-name : (z : List ℕ) (b : CodeTarget) (n : ℕ) (page : Option ℕ) → b ≡ Name n → page ≡ unless_zero (page_in (name_in (target_of b)) z) → page ≡ unless_zero (page_in n z)
+page-name z b n page q e = rw q at e
 
 -- ---- the test of one block
 

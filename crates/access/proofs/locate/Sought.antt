@@ -12,8 +12,10 @@ use borrow.Author.Tests.{eqb-true, eqb-false, eq-eqb, ne_eqb, ltb-true, ltb-fals
 use Rattle.block_type.specs.Limits.{page_code, fixed_header, reloc_header, page_header, smallest_block}
 use Rattle.format.specs.WellFormed.{type_of, size_of, handle_of, name_of, status_of, is_page, first_field}
 use Rattle.format.proofs.Bool.{not-both}
-use Rattle.zone_check.specs.Sought.{page_from, page_in}
-use Rattle.zone_check.proofs.Found.{page-cons, page-end}
+use Rattle.std.specs.Prelude.{Option, None, Some}
+use Rattle.zone_check.specs.Sought.{unless_zero, page_from, page_in}
+use Rattle.access.specs.locate.Found.{NoSpan, IsSpan}
+use Rattle.zone_check.proofs.Found.{page-cons, page-end, zero-unless, some-unless}
 use Rattle.kinds.specs.Kinds.{item, page, status_in}
 use Rattle.kinds.proofs.KindLaws.{name-header}
 use Rattle.bay.specs.Bay.{free, held}
@@ -126,33 +128,46 @@ module _ (name : ℕ) (s : List ℕ) where
 
 -- ---- in a zone
 
-module _ (z : List ℕ) (i : IsZone z) (name page : ℕ) (e : page ≡ page_in name z) where
-  in-zone : Spans z page (target_place (by_name name) z) (length (target_data (by_name name) z))
+module _ (z : List ℕ) (i : IsZone z) (name : ℕ) (page : Option ℕ) (e : page ≡ unless_zero (page_in name z)) where
+  in-zone : Spans z (page_in name z) (target_place (by_name name) z) (length (target_data (by_name name) z))
   unfolding page_in
   in-zone =
       let first = first_field z in
       let low = zone-first z i first refl in
-      rw (e, ← place-start z i first refl (by_name name), ← data-start z i first refl (by_name name)) (spans name z (length z) first (omega arith) (omega arith) (zone-row z i first refl))
+      rw (← place-start z i first refl (by_name name), ← data-start z i first refl (by_name name)) (spans name z (length z) first (omega arith) (omega arith) (zone-row z i first refl))
 
-  pub page-none-place : page ≡ 0 → 0 ≡ target_place (by_name name) z
-  page-none-place = in-zone.none-place
+  module _ (q : page ≡ None) where
+    none : page_in name z ≡ 0
+    none = zero-unless (page_in name z) (sym e ∙ q)
 
-  pub page-none-data : page ≡ 0 → 0 ≡ length (target_data (by_name name) z)
-  page-none-data = in-zone.none-data
+    pub page-none-place : 0 ≡ target_place (by_name name) z
+    page-none-place = in-zone.none-place none
 
-  module _ (q : page ≡ 0 → ⊥) where
-    pub page-fits : page + smallest_block ≤ length z
-    page-fits = omega (arith, in-zone.fits q, in-zone.some-data q)
+    pub page-none : NoSpan z (by_name name)
+    page-none = record { place_is = sym page-none-place; size_is = sym (in-zone.none-data none) }
 
-    pub page-word : Fits w64 (page + page_header)
+  module _ (at : ℕ) (q : page ≡ Some at) where
+    some : (page_in name z ≡ at) × (0 < at)
+    some = some-unless (page_in name z) at (sym e ∙ q)
+
+    span : Spans z at (target_place (by_name name) z) (length (target_data (by_name name) z))
+    span = rw some.0 at in-zone
+
+    met : at ≡ 0 → ⊥
+    met k = omega (arith, k, some.1)
+
+    pub page-fits : at + smallest_block ≤ length z
+    page-fits = omega (arith, span.fits met, span.some-data met)
+
+    pub page-word : Fits w64 (at + page_header)
     page-word = record { fits = omega (arith, page-fits, zone-short z i (first_field z) refl) }
 
-    pub page-place : page + page_header ≡ target_place (by_name name) z
-    page-place = in-zone.some-place q
+    pub page-place : at + page_header ≡ target_place (by_name name) z
+    page-place = span.some-place met
 
-    module _ (n : ℕ) (en : n ≡ size_of (drop page z)) where
+    module _ (n : ℕ) (en : n ≡ size_of (drop at z)) where
       pub page-room : page_header ≤ n
-      page-room = omega (arith, in-zone.some-data q)
+      page-room = omega (arith, span.some-data met)
 
-      pub page-data : n - page_header ≡ length (target_data (by_name name) z)
-      page-data = omega (arith, in-zone.some-data q)
+      pub page-span : IsSpan z (by_name name) (record { at = at + page_header; size = n - page_header })
+      page-span = record { at_is = page-place; some = λ k. omega (arith, k); size_is = omega (arith, span.some-data met) }

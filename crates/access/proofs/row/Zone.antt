@@ -19,6 +19,7 @@ use Rattle.structure.specs.IsZone.{IsZone}
 use Rattle.structure.proofs.IsZone.{whole_of}
 use Rattle.structure.proofs.Append.{occurs-own, occurs-held}
 use Rattle.access.specs.row.Row.{Sound, Row, row, blocks_of}
+use Rattle.access.specs.row.Begins.{Begins}
 
 -- ---- the sizes of a valid structure's blocks
 
@@ -56,3 +57,6 @@ module _ (z : List ℕ) (i : IsZone z) (first : ℕ) (ef : first ≡ first_field
 
   pub zone-short : length z ≤ longest_zone
   zone-short = omega (arith, w.limit, w.all)
+
+  pub begins : Begins z first
+  begins = record { first_is = ef; header = zone-first; within = zone-start; short = zone-short; row = zone-row }

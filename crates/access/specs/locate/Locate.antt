@@ -1,6 +1,5 @@
 -- The block that a handle, a pointer or a name names: where its data lie, and which they are, in the structure of a zone.
-use Rattle.std.specs.Prelude.{◌≡◌, true, false, cond, List, ℕ, length, eqb}
-use Rattle.bigendian.specs.BigEndian.{Bytes}
+use Rattle.std.specs.Prelude.{cond, List, ℕ, eqb}
 use Rattle.format.specs.WellFormed.{well_formed, zone_of}
 use Rattle.structure.specs.Structure.{start, decode_zone}
 use Rattle.access.specs.Named.{place_among, data_among}
@@ -28,9 +27,3 @@ absent_number (by_name n) = 13
 -- the refusal of a block in a buffer: 1, 6, 7 or 13; 0 for none
 unfoldable pub block_number : Target → List ℕ → ℕ
 block_number t s = cond (well_formed s) (cond (eqb (target_place t (zone_of s)) 0) (absent_number t) 0) 1
-
--- what is found in a buffer: the refusal number, 0 for none, and then where the data are and how many
-pub data Located (s : List ℕ) (t : Target) (number at size : ℕ) : Type 0 where
-  ill_formed : Bytes s → well_formed s ≡ false → number ≡ 1 → at ≡ 0 → size ≡ 0 → Located s t number at size
-  absent : Bytes s → well_formed s ≡ true → target_place t (zone_of s) ≡ 0 → number ≡ absent_number t → at ≡ 0 → size ≡ 0 → Located s t number at size
-  present : Bytes s → well_formed s ≡ true → at ≡ target_place t (zone_of s) → (at ≡ 0 → ⊥) → size ≡ length (target_data t (zone_of s)) → number ≡ 0 → Located s t number at size

@@ -4,8 +4,6 @@ use mathlib.Core.List.{List, [], ◌∷◌, ◌++◌, map, append_assoc, append-
 use Prim.Native.Nat.{ℕ, ◌+◌, ◌-◌, ◌*◌, ◌/◌, ◌≤◌}
 use native.Mathlib.Omega.{arith}
 use lib.ListN.{length, replicate, length-replicate, replicate-append-replicate}
-use mir.Val.{Fits}
-use mir.Syntax.{w32}
 use Rattle.structure.proofs.Append.{sizes-append, handles-append}
 use Rattle.block_type.specs.Limits.{fixed_code, fixed_header, longest_zone, type_unit, tag_at}
 use Rattle.bigendian.specs.BigEndian.{to_be, overwrite}
@@ -146,8 +144,8 @@ module _ (z : List ℕ) (need a e sum tail : ℕ) (x : Site z need a e sum tail)
   pub ask-end : e ≤ longest_zone
   ask-end = omega (arith, ends)
 
-  pub ask-word : Fits w32 (type_unit + need / 2)
-  ask-word = record { fits = omega (arith, x.high) }
+  pub ask-need : need ≤ longest_zone
+  ask-need = omega (arith, x.high)
 
   module _ (y : List ℕ) (q : y ≡ before_zeros z a (take_high need (bay_cells z a e)) need) where
     pub ask-put : e - need + tag_at ≤ length y

@@ -1,8 +1,8 @@
 -- The plan of a growth: what is read of the first bay and of the bays behind it are the facts that the table asks for.
-use mathlib.Core.Path.{◌≡◌, refl, sym, ap, ap₂, ◌∙◌}
+use mathlib.Core.Path.{◌≡◌, refl, sym, ap, ◌∙◌}
 use mathlib.Core.Bool.{Bool, true, false, cond, ◌&&◌, ◌||◌}
 use mathlib.Core.List.{List, [], ◌∷◌}
-use Prim.Native.Nat.{ℕ, ◌+◌, ◌-◌, ◌<◌, ◌≤◌, max}
+use Prim.Native.Nat.{ℕ, suc, ◌+◌, ◌-◌, ◌<◌, ◌≤◌, max}
 use native.Mathlib.Omega.{arith}
 use lib.Dec.{leb}
 use lib.ListN.{length}
@@ -17,34 +17,42 @@ use Rattle.structure.proofs.Sound.{valid-zone}
 use Rattle.structure.proofs.IsZone.{whole_of}
 use Rattle.calls.specs.Bays.{Bays, first_s, max_s, max_less}
 use Rattle.calls.specs.State.{Fixed}
-use Rattle.calls.specs.Calls.{allocate_relocatable}
+use Rattle.calls.specs.Calls.{Call, allocate_relocatable}
 use Rattle.calls.specs.Table.{refusal_of}
 use Rattle.calls.proofs.Order.{empty_number, empty-number}
 use Rattle.zone.specs.Work.{facts}
 use Rattle.calls.proofs.Reach.{leb-max}
 use Rattle.bay.specs.Bay.{Cell, bay_size, bay_sum}
 use Rattle.bays.specs.Places.{bays_of, bays_at}
-use Rattle.bays.specs.Read.{Cut, at_end, at_fixed, Read}
+use Rattle.bays.specs.Read.{Cut, at_end, at_fixed, Read, Begins, next_in}
 use Rattle.bays.proofs.Zone.{zone-bays}
-use Rattle.room.specs.place.Room.{SiteN, site_n, low_site}
+use Rattle.room.specs.place.Room.{SiteN, low_site}
+use Rattle.room.specs.place.Found.{site_found}
+use Rattle.room.specs.declared.place.Site.{Site}
+use Rattle.std.specs.Prelude.{Option, Some, None, is_some}
 use Rattle.room.proofs.place.LowestRoom.{low-is}
+use Rattle.room.proofs.place.Found.{found-some}
 use Rattle.room.proofs.place.Placed.{head-low}
 use Rattle.masters.specs.Grown.{front_of}
 use Rattle.masters.proofs.Grown.{count-bays}
-use Rattle.call_laws.specs.Frame.{zone_at, PlannedIn, refuses, goes}
+use Rattle.calls.specs.declared.Refusal.TheVariants.{NoFreeHandle, NoSpace}
+use Rattle.call_laws.specs.Frame.{zone_at}
+use Rattle.call_laws.specs.Refused.{Refuses}
 use Rattle.allocate.specs.growth.Grows.{room_from, left_in, GrowsIn, ReadyIn}
 
 -- ---- whether a sum reaches the need
 
-module _ (z : List ℕ) (left next need : ℕ) where
-  pub room-left : need ≤ left → true ≡ room_from z left next need
+module _ (z : List ℕ) (left need : ℕ) (o : Option ℕ) where
+  pub room-left : need ≤ left → true ≡ room_from z left (next_in z o) need
   room-left l = sym (rw (le-leb need left l))
 
-  pub room-none : left < need → length z < next → false ≡ room_from z left next need
-  room-none l k = sym (rw (lt-leb need left l, lt-leb next (length z) k))
+  pub room-none : left < need → o ≡ None → false ≡ room_from z left (next_in z o) need
+  room-none l e = rw e (sym (rw (lt-leb need left l, lt-leb (suc (length z)) (length z) (omega arith))))
 
-  pub room-found : left < need → next ≤ length z → (f : Bool) (a e at n : ℕ) (t : Bool) → site_n f a e at n t ≡ low_site need next (bays_at z next) → f ≡ room_from z left next need
-  room-found l k f a e at n t q = ap (λ (r : SiteN). r.found) q ∙ low-is need next (bays_at z next) ∙ sym (rw (lt-leb need left l, le-leb next (length z) k))
+  pub room-found : left < need → (next : ℕ) → o ≡ Some next → Begins z o → (r : Option Site) → site_found r ≡ low_site need next (bays_at z next) → is_some r ≡ room_from z left (next_in z o) need
+  room-found l next e b r q =
+      let k = (rw e at b).1 in
+      rw e (sym (found-some r) ∙ ap (λ (r : SiteN). r.found) q ∙ low-is need next (bays_at z next) ∙ sym (rw (lt-leb need left l, le-leb next (length z) k)))
 
 -- ---- the first bay
 
@@ -98,9 +106,8 @@ module _ (z : List ℕ) (i : IsZone z) (c : ℕ) (l : c ≤ reloc_limit) (need :
   abbrev st : Structure
   st = decode_zone z
 
-  -- the plan, and what it hands over
-  abbrev Plan : ℕ → ℕ → ℕ → Type 0
-  Plan number a e = PlannedIn (allocate_relocatable c) z number (ReadyIn z c need (GrowsIn z need a e))
+  abbrev call : Call
+  call = allocate_relocatable c
 
   -- the number, by the three tests
   number_of : {t u w : Bool} → leb (count st + added_masters) most_masters ≡ t → leb added_bytes (bay_sum (front_of st)) ≡ u → leb (reloc_need c) (left_in st) ≡ w
@@ -110,13 +117,13 @@ module _ (z : List ℕ) (i : IsZone z) (c : ℕ) (l : c ≤ reloc_limit) (need :
       ∙ ap (λ (m : ℕ). empty_number c m (bay_sum (front_of st)) (left_in st)) (count-bays st)
       ∙ (λ j. cond (p j && q j) (cond (r j) 0 5) 4)
 
-  module _ (number a e m : ℕ) (em : m ≡ from_be (slice z masters_at 4)) where
+  module _ (m : ℕ) (em : m ≡ from_be (slice z masters_at 4)) where
     count-m : count st ≡ m
     count-m = count-is z (whole_of z i) ∙ sym em
 
     -- too many masters
-    pub grows-many : number ≡ 4 → most_masters < m + added_masters → Plan number a e
-    grows-many q k = refuses (record { some = λ y. omega arith; is = λ buf. number_of (lt-leb (count st + added_masters) most_masters (omega (arith, count-m))) refl refl buf ∙ sym q })
+    pub grows-many : most_masters < m + added_masters → Refuses call z NoFreeHandle
+    grows-many k = record { number_is = number_of (lt-leb (count st + added_masters) most_masters (omega (arith, count-m))) refl refl; beside_is = λ buf. refl }
 
     module _ (few : m + added_masters ≤ most_masters) (first : ℕ) (ef : first ≡ from_be (slice z first_at 4)) (end sum tail next : ℕ) (r : Read z first end sum tail next) where
       some : leb (count st + added_masters) most_masters ≡ true
@@ -126,8 +133,8 @@ module _ (z : List ℕ) (i : IsZone z) (c : ℕ) (l : c ≤ reloc_limit) (need :
       front-sum = sum-front z i first ef end sum tail next r
 
       -- too few free bytes
-      pub grows_none : number ≡ 4 → sum < added_bytes → Plan number a e
-      grows_none q k = refuses (record { some = λ y. omega arith; is = λ buf. number_of some (lt-leb added_bytes (bay_sum (front_of st)) (omega (arith, front-sum))) refl buf ∙ sym q })
+      pub grows_none : sum < added_bytes → Refuses call z NoFreeHandle
+      grows_none k = record { number_is = number_of some (lt-leb added_bytes (bay_sum (front_of st)) (omega (arith, front-sum))) refl; beside_is = λ buf. refl }
 
       module _ (h : added_bytes ≤ sum) where
         enough : leb added_bytes (bay_sum (front_of st)) ≡ true
@@ -136,11 +143,11 @@ module _ (z : List ℕ) (i : IsZone z) (c : ℕ) (l : c ≤ reloc_limit) (need :
         reach : (t : Bool) → t ≡ room_from z (sum - added_bytes) next need → leb (reloc_need c) (left_in st) ≡ t
         reach t et = ap (λ (k : ℕ). leb k (left_in st)) (sym en) ∙ sym (room-is z i first ef end sum tail next r need) ∙ sym et
 
-        pub grows-no : number ≡ 5 → (t : Bool) → t ≡ room_from z (sum - added_bytes) next need → t ≡ false → Plan number a e
-        grows-no q t et f = refuses (record { some = λ y. omega arith; is = λ buf. number_of some enough (reach t et ∙ f) buf ∙ sym q })
+        pub grows-no : (t : Bool) → t ≡ room_from z (sum - added_bytes) next need → t ≡ false → Refuses call z NoSpace
+        grows-no t et f = record { number_is = number_of some enough (reach t et ∙ f); beside_is = λ buf. refl }
 
-        pub grows-yes : number ≡ 0 → (t : Bool) → t ≡ room_from z (sum - added_bytes) next need → t ≡ true → a ≡ first → e ≡ end → Plan number a e
-        grows-yes q t et y ea ee = goes q (record {
+        pub grows-yes : (t : Bool) → t ≡ room_from z (sum - added_bytes) next need → t ≡ true → ReadyIn z c need (GrowsIn z need first end)
+        grows-yes t et y = record {
           is_need = en;
           passed = number_of some enough (reach t et ∙ y);
           goes = record {
@@ -148,11 +155,11 @@ module _ (z : List ℕ) (i : IsZone z) (c : ℕ) (l : c ≤ reloc_limit) (need :
               zone = i;
               none = no-chain z i ec;
               few = omega (arith, count-m);
-              first_is = ea ∙ ef ∙ sym (start_is z (whole_of z i));
-              end_is = ee ∙ r.between.end_is ∙ ap₂ (λ (o : ℕ) (b : List Cell). o + bay_size b) (sym ea) (front-is z i first ef end sum tail next r);
+              first_is = ef ∙ sym (start_is z (whole_of z i));
+              end_is = r.between.end_is ∙ ap (λ (b : List Cell). first + bay_size b) (front-is z i first ef end sum tail next r);
               enough = omega (arith, front-sum);
             };
             size = record { low = omega arith; high = omega arith; four = omega arith };
             enough = leb-true need (left_in st) (ap (λ (k : ℕ). leb k (left_in st)) en ∙ reach t et ∙ y);
           };
-        })
+        }

@@ -1,6 +1,6 @@
 -- The new block after masters have been added: the zone is one again, and has room for it.
 use mathlib.Core.Path.{◌≡◌, sym, ap, ap₂, ◌∙◌, subst}
-use mathlib.Core.Bool.{Bool, true}
+use mathlib.Core.Bool.{true}
 use mathlib.Core.List.{List}
 use Prim.Native.Nat.{ℕ, ◌+◌, ◌<◌, ◌≤◌}
 use native.Mathlib.Omega.{arith}
@@ -32,12 +32,15 @@ use Rattle.access.specs.row.Row.{Row}
 use Rattle.access.proofs.Checked.{bytes_of}
 use Rattle.access.proofs.row.Zone.{zone-row, zone-start, zone-short}
 use Rattle.bays.specs.Places.{bays_of, bays_at}
-use Rattle.room.specs.place.Room.{site_n, low_site}
-use Rattle.room.proofs.place.LowestRoom.{low-reach, low-room}
+use Rattle.room.specs.place.Room.{low_site}
+use Rattle.room.specs.place.Found.{site_found}
+use Rattle.room.specs.declared.place.Site.{Site}
+use Rattle.room.proofs.place.Found.{reached, found, found-some}
+use Rattle.std.specs.Prelude.{Option, Some, is_some}
 use Rattle.masters.specs.Grown.{grown_in}
 use Rattle.masters.proofs.Grown.{count-bays, grown-start}
 use Rattle.allocate.specs.growth.Grows.{GrowsIn}
-use Rattle.allocate.specs.relocatable.Ready.{allocated, RoomIn}
+use Rattle.allocate.specs.relocatable.Ready.{allocated, RoomAt}
 
 module _ (z : List ℕ) (need first end : ℕ) (x : GrowsIn z need first end) where
   abbrev s : Structure
@@ -92,17 +95,20 @@ module _ (z : List ℕ) (need first end : ℕ) (x : GrowsIn z need first end) wh
     pub added-short : length z₁ ≤ longest_zone
     added-short = zone-short z₁ zone₁ (first + added_bytes) first₁
 
-    pub added-room : (f : Bool) (a e at n : ℕ) (t : Bool) → site_n f a e at n t ≡ low_site need (first + added_bytes) (bays_at z₁ (first + added_bytes)) → RoomIn z₁ need first a e at n t
-    added-room f a e at n t q =
-        let reach = low-reach z₁ zone₁ (first + added_bytes) first₁ need f a e at n t q in
-        let y : f ≡ true = sym reach ∙ ap (λ (w : Structure). leb need (max_s bay_sum (bays_of w))) back₁ ∙ enough in
-        record {
-          zone = zone₁;
-          ks = rest (handles_from first added_masters);
-          is_chain = ap (λ (w : Structure). w.chain) back₁ ∙ ap (λ (o : ℕ). handles_from o added_masters) (ap first_block (count-bays s) ∙ sym x.growing.first_is);
-          size = x.size;
-          lowest = low-room z₁ zone₁ (first + added_bytes) first₁ need f a e at n t q y;
-        }
+    module _ (r : Option Site) (q : site_found r ≡ low_site need (first + added_bytes) (bays_at z₁ (first + added_bytes))) where
+      pub added-some : is_some r ≡ true
+      added-some =
+          sym (found-some r) ∙ sym (reached z₁ zone₁ (first + added_bytes) first₁ need r q) ∙ ap (λ (w : Structure). leb need (max_s bay_sum (bays_of w))) back₁ ∙ enough
+
+      pub added-room : (p : Site) → r ≡ Some p → RoomAt z₁ need first p
+      added-room p e =
+          record {
+            zone = zone₁;
+            ks = rest (handles_from first added_masters);
+            is_chain = ap (λ (w : Structure). w.chain) back₁ ∙ ap (λ (o : ℕ). handles_from o added_masters) (ap first_block (count-bays s) ∙ sym x.growing.first_is);
+            size = x.size;
+            lowest = found z₁ zone₁ (first + added_bytes) first₁ need r q p e;
+          }
 
     pub added-done : (y : List ℕ) (need' : ℕ) → need' ≡ need → y ≡ encode (allocated need' (decode_zone z₁)) → y ≡ encode (allocated need (grown_in (decode_zone z)))
     added-done y need' n q = q ∙ ap₂ (λ (k : ℕ) (w : Structure). encode (allocated k w)) n back₁

@@ -1,5 +1,5 @@
 -- What the plan of a relocatable allocation hands over, and what the call leaves.
-use Rattle.std.specs.Prelude.{◌≡◌, Bool, true, false, cond, List, ◌∷◌, ℕ}
+use Rattle.std.specs.Prelude.{◌≡◌, Bool, cond, List, ◌∷◌, ℕ}
 use Rattle.structure.specs.Structure.{Structure, head_of, decode_zone}
 use Rattle.calls.specs.State.{top, rest}
 use Rattle.calls.specs.Table.{is_empty}
@@ -8,9 +8,12 @@ use Rattle.zone.specs.Work.{place_low}
 use Rattle.bays.specs.Places.{bays_of}
 use Rattle.room.specs.place.Fit.{blank, Size}
 use Rattle.room.specs.place.Room.{LowestRoom}
+use Rattle.room.specs.declared.place.Site.{Site}
 use Rattle.masters.specs.Grown.{grown_in}
 use Rattle.allocate.specs.growth.Grows.{GrowsIn, ReadyIn}
+use Rattle.allocate.specs.declared.relocatable.Spot.{Spot}
 use Rattle.allocate.specs.declared.relocatable.Plan.{Plan}
+use Rattle.allocate.specs.declared.relocatable.Plan.TheVariants.{InBay, AfterGrowth}
 use Rattle.structure.specs.IsZone.{IsZone}
 
 -- the structure with a new block of need bytes in the lowest bay whose sum reaches them, the chain's head being its handle
@@ -34,19 +37,26 @@ pub record GoingIn (z : List ℕ) (need h next a e at n : ℕ) (tidy : Bool) : T
   pub room_in : RoomIn z need h a e at n tidy
   pub is_next : next ≡ head_of room_in.ks
 
--- the block goes where the plan p says, in the zone z as it is
-abbrev pub Going : List ℕ → Plan → Type 0
-Going z p = GoingIn z p.need p.handle p.next p.start p.end p.at p.size p.tidy
+abbrev pub RoomAt : List ℕ → ℕ → ℕ → Site → Type 0
+RoomAt z need h r = RoomIn z need h r.start r.end r.hole.at r.hole.size r.tidy
 
--- the block goes in the zone as it is, or masters are added first, of which it gets the first one
-pub data WayIn (z : List ℕ) (need h a e : ℕ) (grows : Bool) (Goes : Type 0) : Type 0 where
-  as_it_is : grows ≡ false → Goes → WayIn z need h a e grows Goes
-  after_growth : grows ≡ true → h ≡ a → GrowsIn z need a e → WayIn z need h a e grows Goes
+-- the block goes to the spot p, in the zone z as it is
+abbrev pub Going : List ℕ → Spot → Type 0
+Going z p = GoingIn z p.need p.handle p.next p.site.start p.site.end p.site.hole.at p.site.hole.size p.site.tidy
 
--- the plan p may be carried out in the zone z
+-- the plan may be carried out in the zone z: as it is, or masters are added first
 abbrev pub Way : List ℕ → Plan → Type 0
-Way z p = WayIn z p.need p.handle p.start p.end p.grows (Going z p)
+Way z (InBay p) = Going z p
+Way z (AfterGrowth g) = GrowsIn z g.need g.first g.end
+
+abbrev pub need_in : Plan → ℕ
+need_in (InBay p) = p.need
+need_in (AfterGrowth g) = g.need
+
+abbrev pub handle_in : Plan → ℕ
+handle_in (InBay p) = p.handle
+handle_in (AfterGrowth g) = g.first
 
 -- it is the plan of an allocation of c data bytes, which nothing refuses
 abbrev pub Ready : List ℕ → ℕ → Plan → Type 0
-Ready z c p = ReadyIn z c p.need (Way z p)
+Ready z c p = ReadyIn z c (need_in p) (Way z p)

@@ -6,7 +6,7 @@ use Rattle.bays.proofs.Walk.{Seen}
 use Rattle.bays.proofs.read_bay.Given as goal
 
 abbrev pub invariant-loop-at : goal.invariant-loop-at
-invariant-loop-at l = (l.sum ≤ l.at) × (l.at ≤ length l.z) × (length l.z ≤ longest_zone) × Row (drop l.at l.z) × Seen l.z l.p l.at l.sum l.tail
+invariant-loop-at l = (l.sum ≤ l.at) × (l.at ≤ length l.z) × (length l.z ≤ longest_zone) × Row (drop l.at l.z) × Seen l.z l.start l.at l.sum l.tail
 
 abbrev pub decreases-loop-at : goal.decreases-loop-at
 decreases-loop-at l = length l.z - l.at

@@ -1,8 +1,8 @@
 use Rattle.block_check.proofs.Leaves.{free-rule-prev, free-rule}
 use Rattle.block_check.proofs.free_ok.Goals as goal
 
-pub returns-then-prev : goal.returns-then-prev
-returns-then-prev c = search free-rule-prev
+pub returns-then-not-prev : goal.returns-then-not-prev
+returns-then-not-prev c = search free-rule
 
-pub returns : goal.returns
-returns c = search free-rule
+pub returns-else-not-prev : goal.returns-else-not-prev
+returns-else-not-prev c = search free-rule-prev

@@ -1,9 +1,9 @@
-use Rattle.block_check.proofs.Word.{reloc-word, reloc-type, handle-four, size-four, reloc-block}
+use Rattle.block_check.proofs.Word.{reloc-word, reloc-type, reloc-block}
 use native.Mathlib.Omega.{arith}
 use Rattle.block_check.proofs.good_block.Goals as goal
 
-pub reloc_size-n-requires : goal.reloc_size-n-requires
-reloc_size-n-requires c = (omega arith, omega arith, omega arith, omega arith, search reloc-word, search reloc-type, search handle-four, search size-four)
+pub reloc_size-requires : goal.reloc_size-requires
+reloc_size-requires c = (omega arith, omega arith, omega arith, omega arith, search reloc-word, search reloc-type, omega arith, omega arith)
 
-pub returns-then-n-gt0 : goal.returns-then-n-gt0
-returns-then-n-gt0 c = search reloc-block
+pub returns-in-Some : goal.returns-in-Some
+returns-in-Some c = search (reloc-block, c.in-Some.ensures)

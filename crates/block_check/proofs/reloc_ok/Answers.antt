@@ -7,5 +7,5 @@ get4-requires c = search master-fits
 pub returns-then-is_master : goal.returns-then-is_master
 returns-then-is_master c = search reloc-rule
 
-pub returns : goal.returns
-returns c = search reloc-rule-no
+pub returns-else-is_master : goal.returns-else-is_master
+returns-else-is_master c = search reloc-rule-no

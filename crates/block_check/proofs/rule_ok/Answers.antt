@@ -1,17 +1,14 @@
-use Rattle.block_check.proofs.Leaves.{rule-reloc, rule-free, rule-page, rule-none, rule-fixed}
+use Rattle.block_check.proofs.Leaves.{rule-reloc, rule-free, rule-page, rule-fixed}
 use Rattle.block_check.proofs.rule_ok.Goals as goal
 
-pub returns-then-k-eq-RELOCATABLE_CODE : goal.returns-then-k-eq-RELOCATABLE_CODE
-returns-then-k-eq-RELOCATABLE_CODE c = search rule-reloc
+pub returns-in-Free : goal.returns-in-Free
+returns-in-Free c = search rule-free
 
-pub returns-then-k-eq-PAGE_CODE : goal.returns-then-k-eq-PAGE_CODE
-returns-then-k-eq-PAGE_CODE c = search rule-page
+pub returns-in-Fixed : goal.returns-in-Fixed
+returns-in-Fixed c = search rule-fixed
 
-pub returns-then-k-gt-FIXED_CODE : goal.returns-then-k-gt-FIXED_CODE
-returns-then-k-gt-FIXED_CODE c = search rule-none
+pub returns-in-Relocatable : goal.returns-in-Relocatable
+returns-in-Relocatable c = search rule-reloc
 
-pub returns-then-k-eq-FREE_CODE : goal.returns-then-k-eq-FREE_CODE
-returns-then-k-eq-FREE_CODE c = search rule-free
-
-pub returns : goal.returns
-returns c = search rule-fixed
+pub returns-in-Page : goal.returns-in-Page
+returns-in-Page c = search rule-page

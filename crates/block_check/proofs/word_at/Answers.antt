@@ -9,5 +9,5 @@ get4-requires c = omega arith
 pub returns-then-at-z : goal.returns-then-at-z
 returns-then-at-z c = (search rules, λ _. search word-law)
 
-pub returns : goal.returns
-returns c = (search word_end, search rules)
+pub returns-else-at-z : goal.returns-else-at-z
+returns-else-at-z c = (search word_end, search rules)

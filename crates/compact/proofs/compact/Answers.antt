@@ -1,22 +1,15 @@
-use Rattle.access.proofs.Checked.{take_len}
-use Rattle.call_laws.proofs.Frame.{frame-fits, frame-no}
-use Rattle.compact.proofs.Call.{call-zone, call-first, call-word, call-end}
+use Rattle.call_laws.proofs.Refused.{refused-ill}
+use Rattle.compact.proofs.Call.{call-first, call-word, call-end}
 use Rattle.compact.proofs.compact.Goals as goal
 
-pub slice_bounds-compact_all-end : goal.slice_bounds-compact_all-end
-slice_bounds-compact_all-end c = search frame-fits
-
-pub slice_bounds-compact_all-end-then-number-eq0 : goal.slice_bounds-compact_all-end-then-number-eq0
-slice_bounds-compact_all-end-then-number-eq0 c = search (take_len, frame-fits)
+pub returns-in_err-z : goal.returns-in_err-z
+returns-in_err-z c = search (refused-ill, c.in_err-z.ensures)
 
 pub compact_all-best-requires : goal.compact_all-best-requires
-compact_all-best-requires c = (search call-zone, search call-first)
+compact_all-best-requires c = (search c.in_ok-z.ensures, search (call-first, c.in_ok-z.ensures, c.first_block-first.ensures))
 
-pub overflow_cast-value : goal.overflow_cast-value
-overflow_cast-value c = search call-word
-
-pub returns-then-number-eq0 : goal.returns-then-number-eq0
-returns-then-number-eq0 c = search call-end
+pub overflow_cast-result : goal.overflow_cast-result
+overflow_cast-result c = search (call-word, c.in_ok-z.ensures)
 
 pub returns : goal.returns
-returns c = search frame-no
+returns c = search (call-end, c.in_ok-z.ensures)

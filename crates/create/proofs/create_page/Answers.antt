@@ -1,19 +1,18 @@
-use Rattle.access.proofs.Checked.{take_len}
-use Rattle.call_laws.proofs.Frame.{frame-fits}
-use Rattle.create.proofs.Made.{create-ready, create-out, create-no}
+use Rattle.call_laws.proofs.Refused.{refused-ill, refused-opened}
+use Rattle.create.proofs.Made.{create-ready, create-out}
 use Rattle.create.proofs.create_page.Goals as goal
 
-pub slice_bounds-create_in-end : goal.slice_bounds-create_in-end
-slice_bounds-create_in-end c = search frame-fits
+pub returns-in_err-sought : goal.returns-in_err-sought
+returns-in_err-sought c = search (refused-ill, c.in_err-sought.ensures)
 
-pub slice_bounds-create_in-end-then-number-eq0 : goal.slice_bounds-create_in-end-then-number-eq0
-slice_bounds-create_in-end-then-number-eq0 c = search (take_len, frame-fits)
+pub plan_in-requires : goal.plan_in-requires
+plan_in-requires c = c.in_ok-sought.ensures.ok.page_is
 
-pub create_in-place-requires : goal.create_in-place-requires
-create_in-place-requires c = search create-ready
+pub returns-in_err-plan : goal.returns-in_err-plan
+returns-in_err-plan c = search (refused-opened, c.in_ok-sought.ensures, c.in_err-plan.ensures)
 
-pub returns-then-number-eq0 : goal.returns-then-number-eq0
-returns-then-number-eq0 c = search create-out
+pub create_in-requires : goal.create_in-requires
+create_in-requires c = search (create-ready, c.in_ok-sought.ensures, c.in_ok-plan.ensures)
 
 pub returns : goal.returns
-returns c = search create-no
+returns c = search (create-out, c.in_ok-sought.ensures, c.in_ok-plan.ensures)

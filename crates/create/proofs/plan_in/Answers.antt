@@ -1,18 +1,25 @@
-use Rattle.create.proofs.Number.{in-11, value-11, in-3, value-3, in-room, value_room, no_room_lem, in-turn, value-turn}
-use borrow.Author.Rules.{rules}
+use Rattle.std.proofs.Common.{arith}
+use Rattle.access.proofs.Checked.{by_type}
+use Rattle.create.proofs.Number.{in-11, in-3, in-room, no_room_lem, in-turn, out-of-turn}
 use Rattle.create.proofs.plan_in.Goals as goal
 
-pub returns-then-place-ne0 : goal.returns-then-place-ne0
-returns-then-place-ne0 c = (search in-11, search value-11)
+pub returns-then-is_some-clause-err : goal.returns-then-is_some-clause-err
+returns-then-is_some-clause-err c = search (in-11, by_type)
 
-pub returns-then-c-gt-PAGE_LIMIT : goal.returns-then-c-gt-PAGE_LIMIT
-returns-then-c-gt-PAGE_LIMIT c = (search in-3, search value-3)
+pub returns-then-c-gt-PAGE_LIMIT-clause-err : goal.returns-then-c-gt-PAGE_LIMIT-clause-err
+returns-then-c-gt-PAGE_LIMIT-clause-err c = search (in-3, by_type)
 
-pub returns-then-found : goal.returns-then-found
-returns-then-found c = (search in-room, search value_room)
+pub find_site-requires : goal.find_site-requires
+find_site-requires c = (search by_type, omega arith)
 
-pub find_turn-t-requires : goal.find_turn-t-requires
-find_turn-t-requires c = (search rules, search no_room_lem)
+pub returns-in-Some-clause-ok : goal.returns-in-Some-clause-ok
+returns-in-Some-clause-ok c = search (in-room, by_type)
 
-pub returns : goal.returns
-returns c = (search in-turn, search value-turn)
+pub find_turn-requires : goal.find_turn-requires
+find_turn-requires c = search (no_room_lem, by_type)
+
+pub returns-in_err-limit-in-None-clause-err : goal.returns-in_err-limit-in-None-clause-err
+returns-in_err-limit-in-None-clause-err c = search (out-of-turn, by_type, c.in_err-limit-in-None.ensures)
+
+pub returns-in_ok-limit-in-None-clause-ok : goal.returns-in_ok-limit-in-None-clause-ok
+returns-in_ok-limit-in-None-clause-ok c = search (in-turn, by_type, c.in_ok-limit-in-None.ensures)

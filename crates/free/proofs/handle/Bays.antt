@@ -4,7 +4,6 @@ use mathlib.Core.Bool.{false}
 use mathlib.Core.Option.{Option}
 use mathlib.Core.List.{List, [], ◌∷◌}
 use Prim.Native.Nat.{ℕ}
-use native.Mathlib.Omega.{arith}
 use lib.ListN.{length}
 use Rattle.structure.specs.Structure.{decode_zone}
 use Rattle.access.specs.Edit.{place_in}
@@ -15,7 +14,9 @@ use Rattle.calls.specs.Table.{cause, is_none, first, order}
 use Rattle.access.proofs.locate.Live.{place-gone}
 use Rattle.free_block.specs.Freed.{freed}
 use Rattle.free_block.proofs.Live.{free-passed}
-use Rattle.call_laws.specs.Frame.{Refuses, Does}
+use Rattle.calls.specs.declared.Refusal.TheVariants.{HandleNotLive}
+use Rattle.call_laws.specs.Frame.{Does}
+use Rattle.call_laws.specs.Refused.{Refuses}
 use Rattle.structure.specs.IsZone.{IsZone}
 
 module _ (z : List ℕ) (h : ℕ) where
@@ -23,9 +24,9 @@ module _ (z : List ℕ) (h : ℕ) where
   abbrev number : Option Item → ℕ
   number o = first order (cause 1 false ∷ cause 6 (is_none (over length (over (λ (e : Item). e.bytes) o))) ∷ [])
 
-  pub no_block : place_in z h ≡ 0 → Refuses (free_handle h) z 6
+  pub no_block : place_in z h ≡ 0 → Refuses (free_handle h) z HandleNotLive
   unfolding place_in
-  no_block e = record { some = λ x. omega arith; is = λ buf. ap number (place-gone h (decode_zone z) e) }
+  no_block e = record { number_is = λ buf. ap number (place-gone h (decode_zone z) e); beside_is = λ buf. refl }
 
   pub frees : IsZone z → (place_in z h ≡ 0 → ⊥) → (buf : ℕ) → Does (free_handle h) buf z (told 0 0) (freed h (decode_zone z))
   frees i ne buf = record { passed = free-passed z i h ne buf; answer = refl; line = refl }

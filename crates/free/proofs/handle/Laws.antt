@@ -1,5 +1,5 @@
 -- The laws that the call's proofs cite.
-use mathlib.Core.Path.{◌≡◌, refl, sym, ap, ◌∙◌}
+use mathlib.Core.Path.{◌≡◌, refl, ap, ◌∙◌}
 use mathlib.Core.List.{List, [], ◌∷◌, ◌++◌, append-nil}
 use Prim.Native.Nat.{ℕ, ◌+◌, ◌-◌, ◌<◌, ◌≤◌}
 use native.Mathlib.Omega.{arith}
@@ -9,20 +9,26 @@ use lib.ListN.{length, get_or, take, drop}
 use Rattle.access.proofs.Checked.{zone-14}
 use Rattle.bigendian.specs.BigEndian.{to_be, overwrite}
 use Rattle.block_type.specs.Limits.{master_size, reloc_header, argument_range, chain_at}
-use Rattle.format.specs.WellFormed.{first_field, chain_field}
+use Rattle.format.specs.WellFormed.{chain_field}
 use Rattle.bay.specs.Bay.{free, held}
 use Rattle.structure.specs.Structure.{decode_zone, encode, encode_block, cell, handles_of}
 use Rattle.access.specs.Edit.{place_in, data_in}
 use Rattle.slide.specs.blank.Between.{Between}
 use Rattle.free_block.specs.Freed.{freed}
-use Rattle.free_block.specs.Walk.{Stopped, Extended}
+use Rattle.free_block.specs.Extends.{Extends}
 use Rattle.free_block.proofs.Live.{block, its, live-is, freeing-in}
 use Rattle.free_block.proofs.Between.{freeing-between, freeing-master, freeing-owned}
 use Rattle.calls.specs.Calls.{told, free_handle}
 use Rattle.zone.specs.Call.{result_of, call}
-use Rattle.call_laws.specs.Frame.{PlannedIn, refuses, goes, Planned}
-use Rattle.call_laws.proofs.Frame.{frame-ready, frame-done}
-use Rattle.free.specs.handle.Ready.{ReadyIn}
+use Rattle.calls.specs.declared.Refusal.TheVariants.{HandleNotLive}
+use Rattle.access.specs.locate.Found.{NoData}
+use Rattle.access.specs.Checked.{Opened}
+use Rattle.access.specs.declared.opened.Zone.{Zone}
+use Rattle.call_laws.specs.Refused.{Refuses}
+use Rattle.call_laws.proofs.Refused.{zone-opened}
+use Rattle.free.specs.handle.Ready.{ReadyIn, Ready}
+use Rattle.free.specs.declared.handle.Plan.{Plan}
+use Rattle.slide.specs.declared.blank.Extent.{Extent}
 use Rattle.free.proofs.handle.Bays.{no_block, frees}
 use Rattle.structure.specs.IsZone.{IsZone}
 use Rattle.kinds.specs.Kinds.{masters_of}
@@ -30,15 +36,14 @@ use Rattle.kinds.proofs.KindLaws.{is_masters}
 
 -- ---- the plan
 
-pub in-6 : (z : List ℕ) (h a number : ℕ) (R : Type 0) → a ≡ place_in z h → a ≡ 0 → number ≡ 6 → PlannedIn (free_handle h) z number R
-in-6 z h a number R e q k = refuses (rw k (no_block z h (sym e ∙ q)))
+pub in-6 : (z : List ℕ) (h : ℕ) → NoData z h → Refuses (free_handle h) z HandleNotLive
+in-6 z h x = no_block z h x.place_is
 
-pub in-0 : (z : List ℕ) (i : IsZone z) (h place : ℕ) → place ≡ place_in z h → (place ≡ 0 → ⊥) → (n : ℕ) → n ≡ length (data_in z h) → (first : ℕ) → first ≡ first_field z
-    → (prev stop : ℕ) → Stopped z first (place - reloc_header) prev stop → (head from to : ℕ) → Extended z prev (place - reloc_header) (place + n) from to → head ≡ chain_field z
-    → PlannedIn (free_handle h) z 0 (ReadyIn z h head from (place - reloc_header) (place + n) to)
-in-0 z i h place e ne n en first ef prev stop p head from to x q =
+pub in-0 : (z : List ℕ) (i : IsZone z) (h place : ℕ) → place ≡ place_in z h → (place ≡ 0 → ⊥) → (n : ℕ) → n ≡ length (data_in z h)
+    → (x : Extent) → Extends z (place - reloc_header) (place + n) x → (head : ℕ) → head ≡ chain_field z → ReadyIn z h head x.from x.at x.end x.to
+in-0 z i h place e ne n en x q head k =
     let l = live-is z i h place e ne in
-    goes refl (record { live = l; block = block z i h l; its = its z i h l; freeing = freeing-in z i h place e ne n en first ef prev stop p from to x; is_head = q })
+    record { live = l; block = block z i h l; its = its z i h l; freeing = freeing-in z i h place e ne n en x q; is_head = k }
 
 -- ---- the writes
 
@@ -66,9 +71,9 @@ module _ (z : List ℕ) (h head from at end to : ℕ) (r : ReadyIn z h head from
 
 -- ---- the call
 
-module _ (s : List ℕ) (h number l head from at end to : ℕ) (p : Planned (free_handle h) s number l (ReadyIn (take l s) h head from at end to)) (z : number ≡ 0) where
-  pub call-ready : ReadyIn (take l s) h head from at end to
-  call-ready = frame-ready (free_handle h) s number l _ p z
+module _ (s : List ℕ) (z : Zone) (o : Opened s z) (h : ℕ) (p : Plan) (r : Ready z.bytes.now h p) where
+  pub call-ready : Ready (take (length z.bytes.now) s) h p
+  call-ready = rw o.there r
 
-  pub call-out : (y : List ℕ) → ((i : ℕ) → Fits w8 (get_or s i 0)) → y ≡ encode (freed h (decode_zone (take l s))) → result_of (told 0 0) (y ++ drop l s) ≡ call (free_handle h) s
-  call-out y g q = frame-done (free_handle h) s number l _ p g z (frees (take l s) h call-ready.freeing.zone call-ready.live (length s)) tt refl y q
+  pub call-out : (y : List ℕ) → ((i : ℕ) → Fits w8 (get_or s i 0)) → y ≡ encode (freed h (decode_zone (take (length z.bytes.now) s))) → result_of (told 0 0) (y ++ drop (length z.bytes.now) s) ≡ call (free_handle h) s
+  call-out y g q = zone-opened (free_handle h) s z o g (frees z.bytes.now h r.freeing.zone r.live (length s)) tt refl y (rw o.there at q)

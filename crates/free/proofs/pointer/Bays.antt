@@ -20,7 +20,9 @@ use Rattle.calls.specs.Table.{cause, is_none, first, order}
 use Rattle.zone.specs.Group.{group, flatten}
 use Rattle.zone.specs.Work.{pointer_freed}
 use Rattle.zone.proofs.Places.{Tiled, tile-last, tile-more}
-use Rattle.call_laws.specs.Frame.{Refuses, Does}
+use Rattle.calls.specs.declared.Refusal.TheVariants.{PointerNotFixed}
+use Rattle.call_laws.specs.Frame.{Does}
+use Rattle.call_laws.specs.Refused.{Refuses}
 use Rattle.access.specs.locate.Locate.{target_place}
 use Rattle.access.specs.Named.{place_among, data_among}
 use Rattle.access.proofs.locate.Among.{content-among}
@@ -71,8 +73,8 @@ module _ (z : List ℕ) (p : ℕ) where
   unfolding target_place
   content-none e = content-among (by_pointer p) (start (decode_zone z)) (decode_zone z).blocks ∙ (rw e)
 
-  pub no_block : target_place (by_pointer p) z ≡ 0 → Refuses (free_pointer p) z 7
-  no_block e = record { some = λ x. omega arith; is = λ buf. ap number (content-none e) }
+  pub no_block : target_place (by_pointer p) z ≡ 0 → Refuses (free_pointer p) z PointerNotFixed
+  no_block e = record { number_is = λ buf. ap number (content-none e); beside_is = λ buf. refl }
 
   module _ (live : target_place (by_pointer p) z ≡ 0 → ⊥) where
     content-is : content items (by_pointer p) bays ≡ some (data_among (by_pointer p) (start (decode_zone z)) (decode_zone z).blocks)

@@ -31,11 +31,15 @@ use Rattle.access.specs.locate.Locate.{target_place}
 use Rattle.free_block.specs.Around.{Around}
 use Rattle.free_block.specs.Walk.{Stopped, Extended}
 use Rattle.free_block.proofs.Around.{around-same}
-use Rattle.free_block.proofs.Found.{here-size, freeing}
+use Rattle.free_block.proofs.Found.{around-size, freeing}
 use Rattle.free_block.proofs.Between.{freeing-between, freeing-plain}
-use Rattle.call_laws.specs.Frame.{PlannedIn, refuses, goes, Planned}
-use Rattle.call_laws.proofs.Frame.{frame-ready, frame-done}
-use Rattle.free.specs.pointer.Ready.{freed, ReadyIn}
+use Rattle.calls.specs.declared.Refusal.TheVariants.{PointerNotFixed}
+use Rattle.access.specs.Checked.{Opened}
+use Rattle.access.specs.declared.opened.Zone.{Zone}
+use Rattle.call_laws.specs.Refused.{Refuses}
+use Rattle.call_laws.proofs.Refused.{zone-opened}
+use Rattle.free.specs.pointer.Ready.{freed, ReadyIn, Ready}
+use Rattle.slide.specs.declared.blank.Extent.{Extent}
 use Rattle.free.proofs.pointer.Bays.{Named, named, no_block, found, frees}
 use Rattle.free.proofs.pointer.Walk.{absent-low, absent-high, absent-end, absent-other, present}
 use Rattle.structure.specs.IsZone.{IsZone}
@@ -43,21 +47,21 @@ use Rattle.structure.proofs.IsZone.{whole_of}
 
 -- ---- the plan refuses
 
-module _ (z : List ℕ) (i : IsZone z) (p number : ℕ) (R : Type 0) (k : number ≡ 7) where
-  refused : target_place (by_pointer p) z ≡ 0 → PlannedIn (free_pointer p) z number R
-  refused e = refuses (rw k (no_block z p e))
+module _ (z : List ℕ) (i : IsZone z) (p : ℕ) where
+  refused : target_place (by_pointer p) z ≡ 0 → Refuses (free_pointer p) z PointerNotFixed
+  refused e = no_block z p e
 
-  pub in-low : p < fixed_header → PlannedIn (free_pointer p) z number R
+  pub in-low : p < fixed_header → Refuses (free_pointer p) z PointerNotFixed
   in-low l = refused (absent-low z i p l)
 
-  pub in-high : length z < p → PlannedIn (free_pointer p) z number R
+  pub in-high : length z < p → Refuses (free_pointer p) z PointerNotFixed
   in-high l = refused (absent-high z i p l)
 
   module _ (first : ℕ) (ef : first ≡ first_field z) (h : fixed_header ≤ p) (prev at : ℕ) (s : Stopped z first (p - fixed_header) prev at) where
-    pub in_end : length z ≤ at → PlannedIn (free_pointer p) z number R
+    pub in_end : length z ≤ at → Refuses (free_pointer p) z PointerNotFixed
     in_end l = refused (absent-end z i p first ef h prev at s l)
 
-    pub in-other : (f : Bool) → f ≡ (eqb (type_of (drop at z)) fixed_code && eqb p (at + fixed_header)) → at < length z → f ≡ false → PlannedIn (free_pointer p) z number R
+    pub in-other : (f : Bool) → f ≡ (eqb (type_of (drop at z)) fixed_code && eqb p (at + fixed_header)) → at < length z → f ≡ false → Refuses (free_pointer p) z PointerNotFixed
     in-other f e l q = refused (absent-other z i p first ef h prev at s f e l q)
 
 -- the block at which the walk stops fits
@@ -96,25 +100,23 @@ module _ (z : List ℕ) (i : IsZone z) (p first : ℕ) (ef : first ≡ first_fie
   there = let k : p - fixed_header ≡ at = omega (arith, is-p) in subst (λ (t : ℕ). Stopped z first t prev at) k s
 
   end_is : at + n ≡ at + fsize x
-  end_is = omega (arith, st.size_is, here-size z i first ef (freed p d).blocks (fixed x.bytes) a at at_is prev at there)
+  end_is = omega (arith, st.size_is, around-size z i (freed p d).blocks (fixed x.bytes) a at at_is first ef prev at there)
 
-  pub in-0 : (from to : ℕ) → Extended z prev at (at + n) from to → PlannedIn (free_pointer p) z 0 (ReadyIn z p from at (at + n) to)
-  in-0 from to g = goes refl (record { live = live; bytes = x.bytes; freeing = freeing z i first ef (freed p d).blocks (fixed x.bytes) a at at_is prev at there (at + n) end_is from to g })
+  pub in-0 : (e : Extent) → Extended z prev at (at + n) e.from e.to → e.at ≡ at → e.end ≡ at + n → ReadyIn z p e.from e.at e.end e.to
+  in-0 e g ea ee = rw (ea, ee) (record { live = live; bytes = x.bytes; freeing = freeing z i (freed p d).blocks (fixed x.bytes) a at at_is first ef prev at there (at + n) end_is e.from e.to g })
 
 -- ---- the call
 
-module _ (s : List ℕ) (p number l from at end to : ℕ) (f : Planned (free_pointer p) s number l (ReadyIn (take l s) p from at end to)) (z : number ≡ 0) where
-  is-ready : ReadyIn (take l s) p from at end to
-  is-ready = frame-ready (free_pointer p) s number l _ f z
+module _ (s : List ℕ) (z : Zone) (o : Opened s z) (p : ℕ) (f : Extent) (r : Ready z.bytes.now p f) where
+  pub call-between : Between (take (length z.bytes.now) s) f.from f.at f.end f.to
+  call-between = rw o.there (freeing-between z.bytes.now _ _ f.from f.at f.end f.to r.freeing)
 
-  pub call-between : Between (take l s) from at end to
-  call-between = freeing-between (take l s) _ _ from at end to is-ready.freeing
-
-  none : handles_of (fixed is-ready.bytes ∷ []) ≡ []
+  none : handles_of (fixed r.bytes ∷ []) ≡ []
   unfolding handles_of
   none = refl
 
-  pub call-out : (y : List ℕ) → ((i : ℕ) → Fits w8 (get_or s i 0)) → y ≡ overwrite (take l s) from (encode_block (cell (free (to - from)))) → result_of (told 0 0) (y ++ drop l s) ≡ call (free_pointer p) s
+  pub call-out : (y : List ℕ) → ((i : ℕ) → Fits w8 (get_or s i 0)) → y ≡ overwrite (take (length z.bytes.now) s) f.from (encode_block (cell (free (f.to - f.from))))
+      → result_of (told 0 0) (y ++ drop (length z.bytes.now) s) ≡ call (free_pointer p) s
   call-out y g e =
-      frame-done (free_pointer p) s number l _ f g z (frees (take l s) p is-ready.live (length s)) tt refl y
-      (freeing-plain (take l s) _ _ from at end to is-ready.freeing none y e)
+      zone-opened (free_pointer p) s z o g (frees z.bytes.now p r.live (length s)) tt refl y
+      (freeing-plain z.bytes.now _ _ f.from f.at f.end f.to r.freeing none y (rw o.there at e))

@@ -7,7 +7,7 @@ use Rattle.structure.specs.Structure.{decode_zone, cell}
 use Rattle.access.specs.Edit.{place_in}
 use Rattle.free_block.specs.Around.{Freeing}
 use Rattle.free_block.specs.Freed.{freed}
-use Rattle.free.specs.declared.handle.FreePlan.{FreePlan}
+use Rattle.free.specs.declared.handle.Plan.{Plan}
 
 pub record ReadyIn (z : List ℕ) (h head from at end to : ℕ) : Type 0 where
   pub live : place_in z h ≡ 0 → ⊥
@@ -17,5 +17,5 @@ pub record ReadyIn (z : List ℕ) (h head from at end to : ℕ) : Type 0 where
   pub is_head : head ≡ chain_field z
 
 -- the plan p of freeing h in the zone z is ready
-abbrev pub Ready : List ℕ → ℕ → FreePlan → Type 0
-Ready z h p = ReadyIn z h p.head p.from p.at p.end p.to
+abbrev pub Ready : List ℕ → ℕ → Plan → Type 0
+Ready z h p = ReadyIn z h p.head p.extent.from p.extent.at p.extent.end p.extent.to

@@ -6,7 +6,7 @@ use Rattle.zone.specs.Group.{group, flatten}
 use Rattle.zone.specs.Work.{pointer_freed}
 use Rattle.access.specs.locate.Locate.{target_place}
 use Rattle.free_block.specs.Around.{Freeing}
-use Rattle.free.specs.declared.pointer.FreePlan.{FreePlan}
+use Rattle.slide.specs.declared.blank.Extent.{Extent}
 
 -- the structure without the fixed block of pointer p
 abbrev pub freed : ℕ → Structure → Structure
@@ -17,6 +17,6 @@ pub record ReadyIn (z : List ℕ) (p from at end to : ℕ) : Type 0 where
   pub bytes : List ℕ
   pub freeing : Freeing z (freed p (decode_zone z)).blocks (fixed bytes) from at end to
 
--- the plan f of freeing p in the zone z is ready
-abbrev pub Ready : List ℕ → ℕ → FreePlan → Type 0
+-- f is the extent of the block that p names in the zone z
+abbrev pub Ready : List ℕ → ℕ → Extent → Type 0
 Ready z p f = ReadyIn z p f.from f.at f.end f.to

@@ -7,5 +7,5 @@ returns-then-z-end c = search behind-none
 pub returns-then-is_free : goal.returns-then-is_free
 returns-then-is_free c = search behind-free
 
-pub returns : goal.returns
-returns c = search behind-used
+pub returns-else-is_free : goal.returns-else-is_free
+returns-else-is_free c = search behind-used

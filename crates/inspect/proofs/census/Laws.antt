@@ -1,18 +1,21 @@
 -- The laws that the census's proofs cite.
-use mathlib.Core.Path.{◌≡◌, refl, ap, ap₂, sym, ◌∙◌}
-use mathlib.Core.Bool.{Bool, true, false, not, ◌&&◌}
+use mathlib.Core.Path.{◌≡◌, refl, ap, sym, ◌∙◌}
+use mathlib.Core.Bool.{Bool, true, false}
 use mathlib.Core.List.{List, [], ◌∷◌}
 use Prim.Native.Nat.{ℕ, zero, suc, ◌+◌, ◌/◌, ◌≤◌, ◌<◌}
 use native.Mathlib.Omega.{arith}
 use native.Mathlib.Nat.{zero-add, add-zero}
 use native.Mathlib.Decide.{ℕ_discrete}
 use lib.Dec.{eqb}
-use borrow.Author.Tests.{ne_eqb}
-use Rattle.format.proofs.Bool.{and_left, and_right}
+use Rattle.std.specs.Prelude.{Result, Ok, Err}
+use Rattle.std.specs.Result.{IsErrAnd}
+use Rattle.calls.specs.declared.Refusal.{Refusal}
+use Rattle.access.specs.Checked.{HasZone, Opened, IsIll}
+use Rattle.access.specs.declared.opened.Zone.{Zone}
 use lib.ListN.{length, get_or, set, take, drop, replicate, length-set}
 use lib.Seq.{get_or-set_same, get_or-set_other}
 use Rattle.block_type.specs.Limits.{free_code, longest_zone, zone_header, strata}
-use Rattle.format.specs.WellFormed.{is_free, well_formed, first_field, zone_of, length_field}
+use Rattle.format.specs.WellFormed.{is_free, well_formed, first_field, zone_of}
 use Rattle.structure.specs.Structure.{Block, fixed, size, decode, cell}
 use Rattle.bay.specs.Bay.{free, held}
 use Rattle.access.specs.row.Row.{blocks_of, Stepped, block_at, free_b}
@@ -22,12 +25,15 @@ use Rattle.calls.specs.LentLimits.{rising, lent_ok}
 use Rattle.calls.proofs.Order.{census-number}
 use Rattle.zone.specs.Work.{facts}
 use Rattle.zone.specs.Call.{zone_in}
-use Rattle.zone.specs.Census.{limits_of, counts_of, free_words, census_number, census}
+use Rattle.zone.specs.Census.{counts_of, free_words, counted, census_number, census}
 use Rattle.zone.specs.Formula.{FreeSize}
 use Rattle.zone.proofs.Counts.{length-counts, zero-counts, one_more}
-use Rattle.zone.proofs.Strata.{limits-long, limits-ruled}
 use Rattle.inspect.specs.strata.Stratum.{InStratum}
-use Rattle.inspect.specs.census.Tally.{counted, adding, CountsIn, counts_in, number_by}
+use Rattle.inspect.specs.strata.Limits.{limits_by, Lends}
+use Rattle.inspect.specs.declared.strata.Limits.{Limits}
+use Rattle.inspect.proofs.strata.Laws.{by-long, by-rises}
+use Rattle.inspect.specs.census.Tally.{adding, CountsIn, counts_in}
+use Rattle.inspect.specs.census.Told.{counted_of}
 
 -- ---- one block more
 
@@ -84,24 +90,21 @@ pub record Tally (limits z : List ℕ) (first p : ℕ) (cs₀ cs : List ℕ) : T
   pub few : (k : ℕ) → get_or cs k 0 ≤ p
   pub same : adding cs (counts_of limits (free_words (blocks_of (drop p z)))) ≡ adding cs₀ (counts_of limits (free_words (blocks_of (drop first z))))
 
-pub tally-start : (limits z : List ℕ) (first : ℕ) (cs : List ℕ) → length cs ≡ strata → ((k : ℕ) → get_or cs k 0 ≤ first) → Tally limits z first first cs cs
-tally-start limits z first cs e low = record { long = e; few = low; same = refl }
-
-module _ (lent z : List ℕ) (first p n : ℕ) (s : Stepped z p n) (f : Bool) (ef : f ≡ is_free (drop p z)) (cs₀ cs ds : List ℕ) (t : Tally (limits_of lent) z first p cs₀ cs) where
+module _ (l : Limits) (z : List ℕ) (first p n : ℕ) (s : Stepped z p n) (f : Bool) (ef : f ≡ is_free (drop p z)) (cs₀ cs ds : List ℕ) (t : Tally (limits_by l) z first p cs₀ cs) where
   free-is : free_b (block_at z p) ≡ f
   unfolding is_free
   free-is = free-code (block_at z p) ∙ ap (λ (k : ℕ). eqb k free_code) s.kind ∙ sym ef
 
-  pub tally-free : (j : ℕ) → f ≡ true → lent_ok lent ≡ true → InStratum (limits_of lent) (n / 2) j → ds ≡ set cs j (get_or cs j 0 + 1) → Tally (limits_of lent) z first (p + n) cs₀ ds
-  tally-free j q ok i e =
-      let o = counts-more (limits_of lent) cs (n / 2) j (t.long ∙ sym (limits-long lent)) (limits-ruled lent ok).rises i in
+  pub tally-free : (j : ℕ) → f ≡ true → InStratum (limits_by l) (n / 2) j → ds ≡ set cs j (get_or cs j 0 + 1) → Tally (limits_by l) z first (p + n) cs₀ ds
+  tally-free j q i e =
+      let o = counts-more (limits_by l) cs (n / 2) j (t.long ∙ sym (by-long l)) (by-rises l) i in
       rw e record {
         long = length-set cs j (get_or cs j 0 + 1) ∙ t.long;
         few = λ k. omega (arith, o.few k p (t.few k), s.low);
         same = o.same (free_words (blocks_of (drop (p + n) z))) ∙ (rw (s.blocks, words-free (block_at z p) (blocks_of (drop (p + n) z)) (free-is ∙ q), s.bytes) at t.same);
       }
 
-  pub tally-used : f ≡ false → ds ≡ cs → Tally (limits_of lent) z first (p + n) cs₀ ds
+  pub tally-used : f ≡ false → ds ≡ cs → Tally (limits_by l) z first (p + n) cs₀ ds
   tally-used q e = rw e record {
     long = t.long;
     few = λ k. omega (arith, t.few k);
@@ -124,56 +127,47 @@ zeros-added zero (c ∷ cs) = refl
 zeros-added (suc n) [] = refl
 zeros-added (suc n) (c ∷ cs) = rw (add-zero, zeros-added n cs)
 
-pub zeros-low : (n k p : ℕ) → get_or (replicate n 0) k 0 ≤ p
+zeros-low : (n k p : ℕ) → get_or (replicate n 0) k 0 ≤ p
 zeros-low zero k p = omega arith
 zeros-low (suc n) zero p = omega arith
 zeros-low (suc n) (suc k) p = zeros-low n k p
 
-pub tally-end : (limits z : List ℕ) (first p : ℕ) (cs₀ cs : List ℕ) → length z ≤ p → Tally limits z first p cs₀ cs → cs ≡ adding cs₀ (counts_of limits (free_words (blocks_of (drop first z))))
+pub tally-start : (limits z : List ℕ) (first : ℕ) → first ≡ first_field z → Tally limits z (first_field z) first (replicate strata 0) (replicate strata 0)
+tally-start limits z first e = record { long = refl; few = λ k. zeros-low strata k first; same = rw e refl }
+
+tally-end : (limits z : List ℕ) (first p : ℕ) (cs₀ cs : List ℕ) → length z ≤ p → Tally limits z first p cs₀ cs → cs ≡ adding cs₀ (counts_of limits (free_words (blocks_of (drop first z))))
 unfolding free_words
 tally-end limits z first p cs₀ cs l t = sym (zeros-added (length limits) cs) ∙ ap (adding cs) (sym (zero-counts limits)) ∙ (rw (row-end z p l) at t.same)
 
 -- ---- the call
 
-pub in-law : (lent z : List ℕ) (first : ℕ) (cs : List ℕ) → first ≡ first_field z → cs ≡ adding (replicate strata 0) (counts_of (limits_of lent) (free_words (blocks_of (drop first z)))) → CountsIn (limits_of lent) z cs
-in-law lent z first cs e q =
-    let ws = free_words (blocks_of (drop first z)) in
-    counts_in (rw (← e) (q ∙ adding-zeros strata (counts_of (limits_of lent) ws) (length-counts (limits_of lent) ws ∙ limits-long lent)))
+pub counts-done : (l : Limits) (z : List ℕ) (p : ℕ) (cs : List ℕ) → length z ≤ p → Tally (limits_by l) z (first_field z) p (replicate strata 0) cs → CountsIn (limits_by l) z cs
+counts-done l z p cs e t =
+    let ws = free_words (blocks_of (drop (first_field z) z)) in
+    counts_in (tally-end (limits_by l) z (first_field z) p (replicate strata 0) cs e t ∙ adding-zeros strata (counts_of (limits_by l) ws) (length-counts (limits_by l) ws ∙ by-long l))
 
-module _ (ok may : Bool) where
-  pub number-0 : (ok && may) ≡ true → number_by ok may ≡ 0
-  number-0 e = rw (and_left ok may e, and_right ok may e) refl
+module _ (s lent : List ℕ) where
+  -- there is no zone
+  pub census-ill : (r : Result (List ℕ) Refusal) (d : Refusal) → IsErrAnd r (λ y. y ≡ d) → IsIll s d → counted_of r ≡ census s lent
+  census-ill (Ok cs) d k i = absurd k
+  census-ill (Err e) d k i =
+      let q : e ≡ d = k in
+      let n : census_number s lent ≡ 1 = census-number (facts (well_formed s) (zone_in s)) lent ∙ (rw i.ill) in
+      rw (q, i.refusal_is, n)
 
-  pub number-14 : (ok && may) ≡ false → ok ≡ true → number_by ok may ≡ 14
-  number-14 e q = let n : may ≡ false = rw q at e in rw (q, n) refl
+  module _ (z : Zone) (o : Opened s z) where
+    abbrev h : HasZone s (length z.bytes.now)
+    h = o.has_zone
 
-  pub number-1 : ok ≡ false → number_by ok may ≡ 1
-  number-1 e = rw e refl
+    -- there is one, and the limits break a rule
+    pub census-bad : lent_ok lent ≡ false → counted 14 (replicate strata 0) ≡ census s lent
+    census-bad m =
+        let n : census_number s lent ≡ 14 = census-number (facts (well_formed s) (zone_in s)) lent ∙ (rw (h.well, m)) in
+        rw n
 
-module _ (ok may : Bool) (n : ℕ) (q : n ≡ number_by ok may) (z : n ≡ 0) where
-  both : (ok ≡ true) × (may ≡ true)
-  both = go ok may (sym q ∙ z)
-    where
-      go : (a b : Bool) → number_by a b ≡ 0 → (a ≡ true) × (b ≡ true)
-      go true true h = (refl, refl)
-      go true false h = absurd (omega arith)
-      go false b h = absurd (omega arith)
-
-  pub accepted-zone : not ok ≡ false
-  accepted-zone = ap not both.0
-
-  pub accepted-limits : (lent : List ℕ) → may ≡ lent_ok lent → lent_ok lent ≡ true
-  accepted-limits lent m = sym m ∙ both.1
-
--- the tests' answers, and the number that they give
-module _ (s lent : List ℕ) (ok may : Bool) (n : ℕ) (e : ok ≡ well_formed s) (m : may ≡ lent_ok lent) (q : n ≡ number_by ok may) where
-  number_is : n ≡ census_number s lent
-  number_is = q ∙ ap₂ number_by e m ∙ sym (census-number (facts (well_formed s) (zone_in s)) lent)
-
-  pub census-refused : (n ≡ 0 → ⊥) → counted n (replicate strata 0) ≡ census s lent
-  census-refused ne = rw (← number_is, ne_eqb n 0 ne) refl
-
-  pub census-done : (l : ℕ) (cs : List ℕ) → n ≡ 0 → l ≡ length_field s → CountsIn (limits_of lent) (take l s) cs → counted n cs ≡ census s lent
-  unfolding decode
-  census-done l cs z el (counts_in c) =
-      rw (← number_is, z, c, el) (ap (λ (bs : List Block). counted 0 (counts_of (limits_of lent) (free_words bs))) (blocks-are (zone_of s) (first_field (zone_of s)) refl))
+    pub census-done : (l : Limits) (cs : List ℕ) → Lends lent l → CountsIn (limits_by l) z.bytes.now cs → counted 0 cs ≡ census s lent
+    unfolding decode
+    census-done l cs m (counts_in d) =
+        let c : cs ≡ counts_of (limits_by l) (free_words (blocks_of (drop (first_field (take (length z.bytes.now) s)) (take (length z.bytes.now) s)))) = rw o.there d in
+        let n : census_number s lent ≡ 0 = census-number (facts (well_formed s) (zone_in s)) lent ∙ (rw (h.well, m.ok)) in
+        rw (n, ← m.same, c, h.is_len) (ap (λ (bs : List Block). counted 0 (counts_of (limits_by l) (free_words bs))) (blocks-are (zone_of s) (first_field (zone_of s)) refl))

@@ -2,23 +2,29 @@
 use mathlib.Core.Path.{◌≡◌, refl, ap, sym, ◌∙◌}
 use mathlib.Core.Logic.{◌⊎◌, inl, inr}
 use mathlib.Core.Bool.{Bool, true, false, ◌&&◌, ◌||◌}
-use mathlib.Core.List.{List}
+use mathlib.Core.List.{List, []}
 use Prim.Native.Nat.{ℕ, zero, suc, ◌+◌, ◌-◌, ◌*◌, ◌/◌, ◌^◌, ◌≤◌, ◌<◌}
 use native.Mathlib.Omega.{arith}
 use native.Mathlib.Nat.{zero-add}
 use native.Mathlib.Decide.{ℕ_discrete}
 use lib.Dec.{eqb, leb}
 use lib.ListN.{length, get_or}
-use borrow.Author.Tests.{eq-eqb, ne_eqb, eqb-true}
+use borrow.Author.Tests.{eq-eqb, ne_eqb}
 use Rattle.bigendian.specs.BigEndian.{from_be, slice}
 use Rattle.block_type.specs.Limits.{strata, limit_size, limits_length, highest_limit}
-use Rattle.format.proofs.Bool.{and_left, and_right}
 use Rattle.calls.specs.LentLimits.{limits_in, rising, limits_ok, lent_ok}
 use Rattle.calls.proofs.LentLimits.{length-limits, limit_is, rise-step, risen, ok-ruled}
-use Rattle.zone.specs.Census.{limits_from, lower_limits, limits_of}
+use Rattle.zone.specs.Census.{limits_from, lower_limits}
 use Rattle.zone.specs.Formula.{Stratum, FreeSize, stratum_of}
 use Rattle.zone.proofs.Formula.{free-stratum}
-use Rattle.inspect.specs.strata.Stratum.{WithinRules, InStratum}
+use Rattle.std.specs.Array.{IsWholeChunk}
+use Rattle.std.specs.Prelude.{◌==◌}
+use Rattle.zone.proofs.Strata.{limits-ruled}
+use Rattle.inspect.specs.strata.Stratum.{InStratum}
+use Rattle.inspect.specs.strata.Limits.{limits_by, Lends}
+use Rattle.inspect.specs.declared.strata.LentLimits.{LentLimits}
+use Rattle.inspect.specs.declared.strata.Limits.{Limits}
+use Rattle.inspect.specs.declared.strata.Limits.TheVariants.{Formula, Lent}
 
 -- ---- one limit
 
@@ -69,17 +75,6 @@ module _ (lent : List ℕ) (i v next : ℕ) (r : Risen lent i v) (l : i < strata
 pub rise-end : (lent : List ℕ) (i v : ℕ) → Risen lent i v → strata ≤ i → true ≡ rising (limits_in strata lent)
 rise-end lent i v r l = sym (risen (limits_in strata lent) (λ k b. r.rise k (omega (arith, length-limits strata lent))))
 
--- ---- what holds of limits that may be lent
-
-pub steps : (lent : List ℕ) → lent_ok lent ≡ true → (length lent ≡ 0 → ⊥) → WithinRules lent
-steps lent ok ne =
-    let q : eqb (length lent) 0 ≡ false = ne_eqb (length lent) 0 ne in
-    let e : (eqb (length lent) limits_length && limits_ok (limits_in strata lent)) ≡ true = rw q at ok in
-    record {
-      long = eqb-true (length lent) limits_length (and_left (eqb (length lent) limits_length) (limits_ok (limits_in strata lent)) e);
-      ok = and_right (eqb (length lent) limits_length) (limits_ok (limits_in strata lent)) e;
-    }
-
 -- ---- whether they may be lent
 
 module _ (lent : List ℕ) where
@@ -87,14 +82,30 @@ module _ (lent : List ℕ) where
       → ((eqb first 1 || eqb first 2) && (rise && leb last highest_limit)) ≡ limits_ok (limits_in strata lent)
   within-rules first last rise f l r = rw (f, l, r) refl
 
-  pub lend-none : length lent ≡ 0 → true ≡ lent_ok lent
-  lend-none e = rw (eq-eqb (length lent) 0 e) refl
+  module _ (b : Bool) (e : b ≡ (length lent == 0)) where
+    pub lend-none : b ≡ true → Lends lent Formula
+    lend-none t = let q : eqb (length lent) 0 ≡ true = sym e ∙ t in record { ok = rw q refl; same = rw q refl }
 
-  pub lend-other : (length lent ≡ 0 → ⊥) → (length lent ≡ limits_length → ⊥) → false ≡ lent_ok lent
-  lend-other n m = rw (ne_eqb (length lent) 0 n, ne_eqb (length lent) limits_length m) refl
+    module _ (f : b ≡ false) where
+      some : eqb (length lent) 0 ≡ false
+      some = sym e ∙ f
 
-  pub lend-limits : (r : Bool) → (length lent ≡ 0 → ⊥) → length lent ≡ limits_length → r ≡ limits_ok (limits_in strata lent) → r ≡ lent_ok lent
-  lend-limits r n e q = rw (ne_eqb (length lent) 0 n, eq-eqb (length lent) limits_length e) q
+      pub lend-other : (length lent ≡ limits_length → ⊥) → lent_ok lent ≡ false
+      lend-other m = rw (some, ne_eqb (length lent) limits_length m) refl
+
+      module _ (bs : List ℕ) (w : IsWholeChunk lent bs limits_length) where
+        pub lend-not : (r : Bool) → r ≡ limits_ok (limits_in strata bs) → r ≡ false → lent_ok lent ≡ false
+        lend-not r q n =
+            let k : limits_ok (limits_in strata lent) ≡ false = ap (λ (x : List ℕ). limits_ok (limits_in strata x)) (sym w.same) ∙ sym q ∙ n in
+            rw (some, eq-eqb (length lent) limits_length w.long, k)
+
+      pub lend-limits : (l : LentLimits) → IsWholeChunk lent l.bytes.now limits_length → Lends lent (Lent l)
+      lend-limits l w =
+          let k : limits_ok (limits_in strata lent) ≡ true = ap (λ (x : List ℕ). limits_ok (limits_in strata x)) (sym w.same) ∙ l.within in
+          record {
+            ok = rw (some, eq-eqb (length lent) limits_length w.long, k);
+            same = rw some (ap (limits_in strata) w.same);
+          }
 
 -- ---- a size by halving
 
@@ -105,8 +116,8 @@ pub record Halved (lent : List ℕ) (w low high : ℕ) : Type 0 where
   pub reached : get_or (limits_in strata lent) low 0 ≤ w
   pub beyond : high < strata → w < get_or (limits_in strata lent) high 0
 
-pub halve-start : (lent : List ℕ) (w : ℕ) → WithinRules lent → FreeSize w → Halved lent w 0 strata
-halve-start lent w s f = record { apart = omega arith; most = omega arith; reached = go (ok-ruled (limits_in strata lent) s.ok).first; beyond = λ l. absurd (omega arith) }
+pub halve-start : (lent : List ℕ) (w : ℕ) → limits_ok (limits_in strata lent) ≡ true → FreeSize w → Halved lent w 0 strata
+halve-start lent w s f = record { apart = omega arith; most = omega arith; reached = go (ok-ruled (limits_in strata lent) s).first; beyond = λ l. absurd (omega arith) }
   where
     v : ℕ
     v = get_or (limits_in strata lent) 0 0
@@ -147,15 +158,25 @@ by-power i w s = record {
 
 -- ---- either way
 
-module _ (lent : List ℕ) (w r : ℕ) where
+module _ (w r : ℕ) where
   pub formula-in : FreeSize w → r ≡ stratum_of w → r < strata
   formula-in f e = omega (arith, (free-stratum w f).within)
 
-  pub stratum-formula : length lent ≡ 0 → FreeSize w → r ≡ stratum_of w → InStratum (limits_of lent) w r
-  stratum-formula q f e = rw (eq-eqb (length lent) 0 q, e) (by-power (stratum_of w) w (free-stratum w f))
+  pub stratum-formula : FreeSize w → r ≡ stratum_of w → InStratum lower_limits w r
+  stratum-formula f e = rw e (by-power (stratum_of w) w (free-stratum w f))
 
-  pub limits-in : InStratum (limits_in strata lent) w r → r < strata
-  limits-in s = omega (arith, s.within, length-limits strata lent)
+  pub limits-in : (lent : List ℕ) → InStratum (limits_in strata lent) w r → r < strata
+  limits-in lent s = omega (arith, s.within, length-limits strata lent)
 
-  pub stratum-limits : (length lent ≡ 0 → ⊥) → InStratum (limits_in strata lent) w r → InStratum (limits_of lent) w r
-  stratum-limits q s = rw (ne_eqb (length lent) 0 q) s
+-- any limits are nineteen, and rise
+length-powers : (i n : ℕ) → length (limits_from i n) ≡ n
+length-powers i zero = refl
+length-powers i (suc n) = ap suc (length-powers (suc i) n)
+
+pub by-long : (l : Limits) → length (limits_by l) ≡ strata
+by-long Formula = length-powers 0 strata
+by-long (Lent l) = length-limits strata l.bytes.now
+
+pub by-rises : (l : Limits) → rising (limits_by l) ≡ true
+by-rises Formula = (limits-ruled [] refl).rises
+by-rises (Lent l) = (ok-ruled (limits_in strata l.bytes.now) l.within).rises

@@ -1,26 +1,34 @@
 -- The laws that the walker's proofs cite.
 use mathlib.Core.Path.{◌≡◌, refl, ap₂, sym, ◌∙◌}
-use mathlib.Core.Bool.{Bool, true, false, not}
+use mathlib.Core.Bool.{true}
+use Rattle.std.specs.Prelude.{Option, Some, None, Result, Ok, Err}
+use Rattle.std.specs.Result.{IsErrAnd}
+use Rattle.calls.specs.declared.Refusal.{Refusal}
 use mathlib.Core.List.{List}
 use Prim.Native.Nat.{ℕ, ◌+◌, ◌≤◌, max}
 use native.Mathlib.Omega.{arith}
-use borrow.Author.Tests.{not-true, eq-eqb, ne_eqb}
-use lib.ListN.{length, get_or, take, drop}
+use borrow.Author.Tests.{eq-eqb, ne_eqb}
+use lib.ListN.{length, get_or, drop}
 use mir.Val.{Fits}
 use mir.Syntax.{w8}
+use Rattle.block_type.specs.Types.{type_code}
+use Rattle.block_type.specs.declared.BlockType.{BlockType}
 use Rattle.block_type.specs.Limits.{longest_zone}
 use Rattle.bigendian.specs.BigEndian.{Bytes}
-use Rattle.format.specs.WellFormed.{type_of, well_formed, first_field, zone_of, length_field}
+use Rattle.format.specs.WellFormed.{type_of, well_formed, first_field, zone_of}
 use Rattle.structure.specs.Structure.{Block, fixed, cell, decode, start, code}
 use Rattle.bay.specs.Bay.{free, held}
 use Rattle.structure.proofs.Table.{whole, start_is}
 use Rattle.access.specs.row.Row.{blocks_of, Stepped, block_at}
 use Rattle.access.proofs.row.Laws.{row-end}
 use Rattle.access.proofs.row.Zone.{blocks-are}
-use Rattle.zone.specs.Walker.{describe, start_of_walk, walk_step}
-use Rattle.access.proofs.Checked.{is-well}
-use Rattle.inspect.specs.walker.Found.{described, walked, FoundFrom, Found, found}
-use Rattle.structure.specs.IsZone.{IsZone}
+use Rattle.zone.specs.Walker.{describe}
+use Rattle.access.specs.Checked.{Opened, IsIll}
+use Rattle.access.specs.declared.opened.Zone.{Zone}
+use Rattle.access.proofs.Checked.{by_type}
+use Rattle.inspect.specs.walker.Found.{size_in, FoundFrom, Found, found, Seen}
+use Rattle.inspect.specs.walker.Told.{described_of}
+use Rattle.inspect.specs.declared.walker.Described.{Described}
 use Rattle.structure.proofs.IsZone.{whole_of}
 
 -- ---- the search
@@ -31,11 +39,11 @@ code-kind (fixed d) = refl
 code-kind (cell (held e)) = refl
 
 module _ (z : List ℕ) (first at p : ℕ) where
-  pub describe-here : (n k : ℕ) → Stepped z p n → p ≡ at → k ≡ type_of (drop p z)
-      → describe at p (blocks_of (drop p z)) ≡ describe at first (blocks_of (drop first z)) → FoundFrom z first at k p n
+  pub describe-here : (n : ℕ) (k : BlockType) → Stepped z p n → p ≡ at → type_code k ≡ type_of (drop at z)
+      → describe at p (blocks_of (drop p z)) ≡ describe at first (blocks_of (drop first z)) → FoundFrom z first at (Some (record { kind = k; offset = at; size = n }))
   unfolding describe
   describe-here n k s e ek inv = record {
-    is = sym (rw (s.blocks, eq-eqb at p (sym e), code-kind (block_at z p), s.kind, s.bytes, ek)) ∙ inv;
+    is = sym (rw (s.blocks, eq-eqb at p (sym e), code-kind (block_at z p), s.kind, s.bytes, ek, e)) ∙ inv;
     ends = omega (arith, s.fits);
   }
 
@@ -44,39 +52,33 @@ module _ (z : List ℕ) (first at p : ℕ) where
   unfolding describe
   describe-step n s ne inv = sym (rw (s.blocks, ne_eqb at p (λ e. ne (sym e)), s.bytes)) ∙ inv
 
-  pub describe-end : length z ≤ p → describe at p (blocks_of (drop p z)) ≡ describe at first (blocks_of (drop first z)) → FoundFrom z first at 0 0 0
-  unfolding describe
-  describe-end l inv = record { is = sym (rw (row-end z p l)) ∙ inv; ends = omega arith }
+pub describe-end : (z : List ℕ) (first at p : ℕ) → length z ≤ p → describe at p (blocks_of (drop p z)) ≡ describe at first (blocks_of (drop first z)) → FoundFrom z first at None
+unfolding describe
+describe-end z first at p l inv = record { is = sym (rw (row-end z p l)) ∙ inv; ends = omega arith }
 
-pub find-law : (z : List ℕ) (first at k o n : ℕ) → first ≡ first_field z → FoundFrom z first at k o n → Found z at k o n
-find-law z first at k o n e f = found (rw (← e) f)
-
-pub find-ends : (z : List ℕ) (first at k o n : ℕ) → IsZone z → FoundFrom z first at k o n → at + n ≤ max at longest_zone
-find-ends z first at k o n i f = omega (arith, f.ends, (whole_of z i).all, (whole_of z i).limit)
-
--- ---- the start
-
-pub start-1 : (s : List ℕ) (ok : Bool) → ok ≡ well_formed s → not ok ≡ true → ◌≡◌ {A = ℕ} 0 (start_of_walk s)
-start-1 s ok e q = rw (← e, not-true ok q)
-
-pub start-0 : (s : List ℕ) (ok : Bool) (v : ℕ) → ok ≡ well_formed s → not ok ≡ false → v ≡ first_field s → v ≡ start_of_walk s
-start-0 s ok v e q ev = rw (is-well s ok e q) ev
+pub find-done : (z : Zone) (at : ℕ) (o : Option Described) → FoundFrom z.bytes.now (first_field z.bytes.now) at o → Found z.bytes.now at o × (at + size_in o ≤ max at longest_zone)
+find-done z at o f = let w = whole_of z.bytes.now (by_type z) in (found f, omega (arith, f.ends, w.all, w.limit))
 
 -- ---- the step
 
-pub go-1 : (s : List ℕ) (at : ℕ) (ok : Bool) → ok ≡ well_formed s → not ok ≡ true → walked 1 0 0 0 at ≡ walk_step s at
-go-1 s at ok e q = rw (← e, not-true ok q)
-
 -- the block that the walk finds is the one of the structure
-found-is : (s : List ℕ) (at k o n : ℕ) → Bytes s → well_formed s ≡ true → Found (zone_of s) at k o n → described k o n ≡ describe at (start (decode s)) (decode s).blocks
+found-is : (s : List ℕ) (at : ℕ) (o : Option Described) → Bytes s → well_formed s ≡ true → Found (zone_of s) at o → described_of o ≡ describe at (start (decode s)) (decode s).blocks
 unfolding decode
-found-is s at k o n y h (found f) =
+found-is s at o y h (found f) =
     let w = whole s y h in
     f.is ∙ ap₂ (describe at) (sym (start_is (zone_of s) w)) (blocks-are (zone_of s) (first_field (zone_of s)) refl)
 
-pub go-0 : (s : List ℕ) (at : ℕ) (ok : Bool) (l k o n : ℕ) → ok ≡ well_formed s → not ok ≡ false → l ≡ length_field s → ((i : ℕ) → Fits w8 (get_or s i 0))
-    → Found (take l s) at k o n → walked 0 k o n (at + n) ≡ walk_step s at
-go-0 s at ok l k o n e q el y f =
-    let h : well_formed s ≡ true = is-well s ok e q in
-    let d = found-is s at k o n (λ j. (y j).fits) h (rw el at f) in
-    rw (h, ← d)
+module _ (s : List ℕ) (at : ℕ) where
+  pub see-ill : (r : Result (Option Described) Refusal) (d : Refusal) → IsErrAnd r (λ y. y ≡ d) → IsIll s d → Seen s at r
+  see-ill (Ok o) d k i = absurd k
+  see-ill (Err e) d k i =
+      let q : e ≡ d = k in
+      let z : at + 0 ≡ at = omega arith in
+      record { is = rw (q, i.refusal_is, i.ill, z); ends = omega arith }
+
+  pub see-done : (z : Zone) (o : Option Described) → Opened s z → ((i : ℕ) → Fits w8 (get_or s i 0)) → Found z.bytes.now at o → at + size_in o ≤ max at longest_zone → Seen s at (Ok o)
+  see-done z o p y f e =
+      let h = p.has_zone in
+      let q : zone_of s ≡ z.bytes.now = (rw h.is_len at p.there) in
+      let d = found-is s at o (λ j. (y j).fits) h.well (rw q f) in
+      record { is = rw (h.well, ← d); ends = e }

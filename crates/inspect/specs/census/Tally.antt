@@ -1,9 +1,8 @@
 -- The counts of a census, met by one walk.
-use Rattle.std.specs.Prelude.{◌≡◌, Bool, cond, List, [], ◌∷◌, ℕ, ◌+◌, drop}
+use Rattle.std.specs.Prelude.{◌≡◌, List, [], ◌∷◌, ℕ, ◌+◌, drop}
 use Rattle.format.specs.WellFormed.{first_field}
 use Rattle.access.specs.row.Row.{blocks_of}
 use Rattle.zone.specs.Census.{counts_of, free_words}
-pub use Rattle.zone.specs.Census.{counted}
 
 -- counts added one by one
 unfoldable pub adding : List ℕ → List ℕ → List ℕ
@@ -14,7 +13,3 @@ adding (c ∷ cs) (d ∷ ds) = (c + d) ∷ adding cs ds
 -- the counts of a zone by these limits, with no bytes beyond its length
 pub data CountsIn (limits z cs : List ℕ) : Type 0 where
   counts_in : cs ≡ counts_of limits (free_words (blocks_of (drop (first_field z) z))) → CountsIn limits z cs
-
--- the refusal number, by whether the zone is well-formed and the limits may be lent
-abbrev pub number_by : Bool → Bool → ℕ
-number_by ok may = cond ok (cond may 0 14) 1

@@ -1,16 +1,9 @@
-use mathlib.Core.Path.{refl}
-use native.Mathlib.Omega.{arith}
-use Rattle.memory.proofs.Writes.{part-zero, part-other, rest-zero}
+use Rattle.std.proofs.Common.{arith, refl}
+use Rattle.memory.proofs.Writes.{chunk_nonzero, chunk_zero}
 use Rattle.memory.proofs.all_zero.Goals as goal
 
-pub loop-at-init : goal.loop-at-init
-loop-at-init c = (omega arith, refl)
+pub returns-then-bits-ne0 : goal.returns-then-bits-ne0
+returns-then-bits-ne0 c = chunk_nonzero 1024 _ _ _ _ _ _ _ _ c.as_chunks.ensures.front (omega arith) refl c.bits.ensures c.loop-chunk.invariant c.if-bits-ne0.true
 
-pub returns-then-bits_of_1024-ne0 : goal.returns-then-bits_of_1024-ne0
-returns-then-bits_of_1024-ne0 c = search part-other
-
-pub loop-at-preserved : goal.loop-at-preserved
-loop-at-preserved c = (omega arith, search part-zero)
-
-pub returns : goal.returns
-returns c = search rest-zero
+pub loop-chunk-preserved : goal.loop-chunk-preserved
+loop-chunk-preserved c = chunk_zero 1024 _ _ _ _ _ _ _ _ c.as_chunks.ensures.front (omega arith) refl c.bits.ensures c.loop-chunk.invariant c.if-bits-ne0.false

@@ -1,13 +1,9 @@
-use mathlib.Core.Path.{◌≡◌}
-use mathlib.Core.Bool.{◌&&◌}
-use Prim.Native.Nat.{◌-◌, ◌≤◌}
-use lib.Dec.{eqb}
-use Rattle.bigendian.specs.BigEndian.{slice}
+use Rattle.std.proofs.Common.{◌≡◌, ◌&&◌, ◌*◌, eqb, drop}
 use Rattle.memory.specs.Zeros.{all_zero}
 use Rattle.memory.proofs.bits.Given as goal
 
-abbrev pub invariant-loop-i : goal.invariant-loop-i
-invariant-loop-i l = (l.i ≤ l.to) × (eqb l.all 0 && all_zero (slice l.s l.i (l.to - l.i)) ≡ all_zero (slice l.s l.from (l.to - l.from)))
+abbrev pub invariant-loop-word : goal.invariant-loop-word
+invariant-loop-word l = eqb l.all 0 && all_zero (drop (8 * l.word-index) l.s) ≡ all_zero l.s
 
-abbrev pub decreases-loop-i : goal.decreases-loop-i
-decreases-loop-i l = l.to - l.i
+abbrev pub invariant-loop-x : goal.invariant-loop-x
+invariant-loop-x l = eqb l.all 0 && all_zero (drop l.x-index l.rest) ≡ all_zero l.s

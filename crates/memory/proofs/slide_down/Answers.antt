@@ -1,3 +1,4 @@
+use Rattle.std.proofs.Common.{◌≤◌, ◌-◌}
 use mathlib.Core.Path.{refl}
 use native.Mathlib.Nat.{add-zero, sub-zero}
 use native.Mathlib.Omega.{arith}
@@ -8,7 +9,9 @@ pub loop-k-init : goal.loop-k-init
 loop-k-init c = (omega arith, refl, omega arith, simp (add-zero, sub-zero))
 
 pub loop-k-preserved : goal.loop-k-preserved
-loop-k-preserved c = (omega arith, omega arith, omega arith, search down_step)
+loop-k-preserved c =
+    let fits : c.min-m.result ≤ c.args.n - c.loop-k.k = omega arith in
+    (omega arith, omega arith, omega arith, search down_step)
 
 pub returns : goal.returns
 returns c = search down-done

@@ -1,3 +1,4 @@
+use Rattle.std.proofs.Common.{◌≤◌}
 use mathlib.Core.Path.{refl}
 use native.Mathlib.Omega.{arith}
 use Rattle.memory.proofs.Slide.{up_step, up_done}
@@ -7,7 +8,9 @@ pub loop-k-init : goal.loop-k-init
 loop-k-init c = (omega arith, refl, omega arith, refl)
 
 pub loop-k-preserved : goal.loop-k-preserved
-loop-k-preserved c = (omega arith, omega arith, omega arith, search up_step)
+loop-k-preserved c =
+    let fits : c.min-m.result ≤ c.loop-k.k = omega arith in
+    (omega arith, omega arith, omega arith, search up_step)
 
 pub returns : goal.returns
 returns c = search up_done

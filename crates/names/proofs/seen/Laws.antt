@@ -9,6 +9,7 @@ use borrow.Author.Tests.{eq-eqb, ne_eqb}
 use lib.ListN.{length, get_or, set, replicate}
 use lib.Seq.{get_or-set_same, get_or-set_other}
 use Rattle.format.proofs.Bool.{not-both}
+use Rattle.names.proofs.Zeros.{zeros}
 use Rattle.names.specs.Mix.{mixed, head_of}
 use Rattle.names.specs.Seen.{slots, probes, table_size, print_range, home, print, finds, met, Past, Noted}
 
@@ -143,12 +144,7 @@ module _ (before : List ℕ) (x : ℕ) where
 
 -- ---- an empty table
 
-get_d-zeros : (n p : ℕ) → get_or {A = ℕ} (replicate n 0) p 0 ≡ 0
-get_d-zeros zero p = refl
-get_d-zeros (suc n) zero = refl
-get_d-zeros (suc n) (suc p) = get_d-zeros n p
-
 -- it has met nothing
 pub none-met : (n x : ℕ) → met (replicate n 0) x ≡ false
 unfolding met
-none-met n x = finds-none (replicate n 0) (home x) probes (print x) (get_d-zeros n (home x))
+none-met n x = finds-none (replicate n 0) (home x) probes (print x) (zeros n (home x))

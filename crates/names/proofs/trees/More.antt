@@ -1,8 +1,8 @@
 -- A name more in the trees: a search for any other name finds what it found, and nothing else.
 use mathlib.Core.Path.{◌≡◌, refl, sym, ap, ◌∙◌}
 use mathlib.Core.List.{List}
-use mathlib.Core.Bool.{Bool, true, false}
-use Prim.Native.Nat.{ℕ, zero, suc, ◌+◌, ◌*◌, ◌/◌, ◌%◌, ◌<◌, ◌≤◌}
+use mathlib.Core.Bool.{Bool, true, false, cond}
+use Prim.Native.Nat.{ℕ, zero, suc, ◌+◌, ◌*◌, ◌/◌, ◌%◌, ◌<◌}
 use native.Mathlib.Decide.{ℕ_discrete}
 use native.Mathlib.Omega.{arith}
 use lib.Dec.{ltb}
@@ -13,8 +13,9 @@ use Rattle.format.proofs.Bool.{and_left, and_right, is_false, not-both}
 use Rattle.format.proofs.Count.{one_same, one-other}
 use Rattle.format.specs.Occurs.{one}
 use Rattle.names.specs.Mix.{mixed, head_of}
-use Rattle.names.specs.Tree.{branches, name_bits, turned, node_at, key_at, ends, end_of, has, Tree}
-use Rattle.names.specs.Steps.{held, Put}
+use Rattle.names.specs.Tree.{branches, many_heads, name_bits, turned, node_at, key_at, ends, end_of, has, Tree}
+use Rattle.names.specs.Steps.{has_name, held, place_of, Put}
+use Rattle.names.specs.declared.trees.Trees.{Trees}
 use Rattle.names.proofs.trees.Search.{ends-zero, ends-none, ends_same, ends-go}
 
 -- the two parts of a search that finds
@@ -163,52 +164,52 @@ module _ (link key : List ℕ) (heads node x q : ℕ) (t : Tree link key heads n
                 let s = get_or-set_other key node (get_or link' p 0) x 0 e in
                 rw (← k, s) (t.found (get_or link' p 0) l (omega (arith, new-below p)))
 
-    pub held_more : (y : ℕ) → held link' key' heads y ≡ held link key heads y + one y x
+    pub held_more : (y : ℕ) → cond (has link' key' heads y) 1 0 ≡ cond (has link key heads y) 1 0 + one y x
     held_more y = go (ℕ_discrete y x) (has link key heads y) refl
       where
-        go : Dec (y ≡ x) → (b : Bool) → has link key heads y ≡ b → held link' key' heads y ≡ held link key heads y + one y x
+        go : Dec (y ≡ x) → (b : Bool) → has link key heads y ≡ b → cond (has link' key' heads y) 1 0 ≡ cond (has link key heads y) 1 0 + one y x
         go (yes e) b h = rw (e, has_new, has_no) (omega (arith, one_same x x refl))
         go (no e) true h = rw (h, has-again y h, one-other y x e)
         go (no e) false h = rw (h, is_false _ (λ w. not-both (has-only y e w) h), one-other y x e)
 
--- ---- what `put` leaves
+-- ---- what `insert` leaves
 
-module _ (link key : List ℕ) (heads node x : ℕ) (t : Tree link key heads node) where
-  nothing : (node_at link (end_of link key heads x) ≡ 0 → node ≡ length key) → Put link key link key heads node x 0
+module _ (t : Trees) (x : ℕ) where
+  nothing : (node_at t.links (place_of t x) ≡ 0 → t.free ≡ length t.keys) → Put t t x false
   nothing h =
       record {
-        is_next = λ l. let z : ⊥ = omega arith in absurd z;
-        is_link = λ l. let z : ⊥ = omega arith in absurd z;
-        is_key = λ l. let z : ⊥ = omega arith in absurd z;
-        kept = λ l. let z : ⊥ = omega arith in absurd z;
-        more = λ l. let z : ⊥ = omega arith in absurd z;
-        same_link = λ e. refl;
-        same_key = λ e. refl;
+        is_free = λ y. absurd (not-both y refl);
+        is_links = λ y. absurd (not-both y refl);
+        is_keys = λ y. absurd (not-both y refl);
+        more = λ y. absurd (not-both y refl);
+        same = λ e. refl;
         why = λ e. h;
       }
 
-  pub put_full : node ≡ length key → Put link key link key heads node x 0
-  put_full e = nothing (λ z. e)
+  pub insert-full : t.free ≡ length t.keys → Put t t x false
+  insert-full e = nothing (λ z. e)
 
-  pub put-there : (p i : ℕ) → p ≡ end_of link key heads x → i ≡ get_or link p 0 → 0 < i → Put link key link key heads node x 0
-  put-there p i s e l = nothing (λ z. let q : get_or link p 0 ≡ 0 = rw s z in let w : ⊥ = omega arith in absurd w)
+  pub insert-there : (p : ℕ) → p ≡ place_of t x → (get_or t.links p 0 ≡ 0 → ⊥) → Put t t x false
+  insert-there p s ne = nothing (λ z. absurd (ne (rw s z)))
 
-  pub put-new : (p i : ℕ) → (node ≡ length key → ⊥) → p ≡ end_of link key heads x → p < length link → i ≡ get_or link p 0 → i ≤ 0
-      → Put link key (set link p node) (set key node x) heads node x (node + 1)
-  put-new p i ne e l q n =
-      let free : node < length key = omega (arith, t.room) in
-      let none : get_or link p 0 ≡ 0 = omega arith in
-      record {
-        is_next = λ g. refl;
-        is_link = λ g. rw e;
-        is_key = λ g. refl;
-        kept = λ g. tree-more link key heads node x p t free l none e;
-        more = λ g. held_more link key heads node x p t free l none e;
-        same_link = λ g. let z : ⊥ = omega arith in absurd z;
-        same_key = λ g. let z : ⊥ = omega arith in absurd z;
-        why = λ g. let z : ⊥ = omega arith in absurd z;
-      }
+  module _ (p : ℕ) (ne : t.free ≡ length t.keys → ⊥) (e : p ≡ place_of t x) (l : p < length t.links) (none : get_or t.links p 0 ≡ 0) where
+    free : t.free < length t.keys
+    free = omega (arith, t.grown.room)
+
+    pub insert-tree : Tree (set t.links p t.free) (set t.keys t.free x) many_heads (t.free + 1)
+    insert-tree = tree-more t.links t.keys many_heads t.free x p t.grown free l none e
+
+    pub insert-new : (after : Trees) → after.links ≡ set t.links p t.free → after.keys ≡ set t.keys t.free x → after.free ≡ t.free + 1 → Put t after x true
+    insert-new after el ek ef =
+        record {
+          is_free = λ _. ef;
+          is_links = λ _. rw e at el;
+          is_keys = λ _. ek;
+          more = λ _ y. rw (el, ek) (held_more t.links t.keys many_heads t.free x p t.grown free l none e y);
+          same = λ n. absurd (not-both refl n);
+          why = λ n. absurd (not-both refl n);
+        }
 
 -- trees with no node
-pub held_none : (link key : List ℕ) (heads : ℕ) → Tree link key heads 1 → (x : ℕ) → held link key heads x ≡ 0
-held_none link key heads t x = rw (is_false (has link key heads x) (λ h. let l = has-node link key heads x h in omega (arith, t.below (end_of link key heads x))))
+pub held_none : (t : Trees) → t.free ≡ 1 → (x : ℕ) → held t x ≡ 0
+held_none t e x = rw (is_false (has_name t x) (λ h. let l = has-node t.links t.keys many_heads x h in omega (arith, e, t.grown.below (place_of t x))))

@@ -1,12 +1,13 @@
 -- The laws of one search through trees of names: each concludes what the loop has or answers, from facts that stand there.
 use mathlib.Core.Path.{◌≡◌, refl, sym, ap, ◌∙◌}
 use mathlib.Core.List.{List}
-use mathlib.Core.Bool.{Bool, true, false, cond, ◌||◌}
+use mathlib.Core.Bool.{Bool, true, false, cond, ◌&&◌, ◌||◌}
 use Prim.Native.Nat.{ℕ, zero, suc, ◌+◌, ◌*◌, ◌-◌, ◌/◌, ◌%◌, ◌<◌, ◌≤◌}
 use native.Mathlib.Decide.{ℕ_discrete}
 use native.Mathlib.Omega.{arith}
-use lib.Dec.{eqb}
-use borrow.Author.Tests.{eq-eqb, ne_eqb}
+use lib.Dec.{eqb, ltb}
+use Rattle.std.proofs.lemmas.Bool.{or_right}
+use borrow.Author.Tests.{eq-eqb, ne_eqb, lt-ltb}
 use lib.ListN.{length, get_or}
 use Rattle.block_type.specs.Limits.{argument_range}
 use Rattle.names.specs.Mix.{mixed, head_of}
@@ -17,10 +18,6 @@ unfolding turned
 turn-law m = refl
 
 -- ---- one step
-
-or_right : (a b : Bool) → b ≡ true → (a || b) ≡ true
-or_right true b e = refl
-or_right false b e = e
 
 module _ (link key : List ℕ) (heads x : ℕ) where
   pub ends-zero : (p y : ℕ) → ends link key heads x 0 p y ≡ p
@@ -43,12 +40,6 @@ module _ (link key : List ℕ) (heads x : ℕ) where
   ends-go n p y e q = rw (ne_eqb (node_at link p) 0 e, ne_eqb (key_at link key p) x q)
 
 -- ---- the root, and the step from it
-
-pub below_stays : (key : List ℕ) (heads x bits p i : ℕ) → (eqb i 0 || eqb (get_or key i 0) x) ≡ true → p ≡ below_of key heads x bits p i
-below_stays key heads x bits p i e = rw e
-
-pub below-goes : (key : List ℕ) (heads x bits p i : ℕ) → (eqb i 0 || eqb (get_or key i 0) x) ≡ false → heads + i * branches + bits % branches ≡ below_of key heads x bits p i
-below-goes key heads x bits p i e = rw e
 
 module _ (link key : List ℕ) (heads x bits root i p : ℕ) (is : i ≡ get_or link root 0) (e : p ≡ below_of key heads x bits root i) where
   pub seek-start : (m : ℕ) → m ≡ mixed x → bits ≡ turned m → root ≡ head_of heads m → ends link key heads x (name_bits - 1) p (bits / branches) ≡ end_of link key heads x
@@ -77,21 +68,21 @@ module _ (link key : List ℕ) (heads x bits root i p : ℕ) (is : i ≡ get_or 
 
 -- ---- the loop
 
-module _ (link key : List ℕ) (heads x left p y : ℕ) (inv : ends link key heads x left p y ≡ end_of link key heads x) where
+module _ (link key : List ℕ) (heads x n p y : ℕ) (inv : ends link key heads x (name_bits - n) p y ≡ end_of link key heads x) where
   pub seek-none : (i : ℕ) → i ≡ get_or link p 0 → i ≡ 0 → p ≡ end_of link key heads x
-  seek-none i e q = sym (ends-none link key heads x left p y (sym e ∙ q)) ∙ inv
+  seek-none i e q = sym (ends-none link key heads x (name_bits - n) p y (sym e ∙ q)) ∙ inv
 
   pub seek-same : (i : ℕ) → i ≡ get_or link p 0 → get_or key i 0 ≡ x → p ≡ end_of link key heads x
-  seek-same i e q = sym (ends_same link key heads x left p y (rw e at q)) ∙ inv
+  seek-same i e q = sym (ends_same link key heads x (name_bits - n) p y (rw e at q)) ∙ inv
 
-  pub seek-go : (i : ℕ) → 0 < left → i ≡ get_or link p 0 → (i ≡ 0 → ⊥) → (get_or key i 0 ≡ x → ⊥)
-      → ends link key heads x (left - 1) (heads + i * branches + y % branches) (y / branches) ≡ end_of link key heads x
+  pub seek-go : (i : ℕ) → n < name_bits → i ≡ get_or link p 0 → (i ≡ 0 → ⊥) → (get_or key i 0 ≡ x → ⊥)
+      → ends link key heads x (name_bits - (n + 1)) (heads + i * branches + y % branches) (y / branches) ≡ end_of link key heads x
   seek-go i l e q r =
-      let s : left ≡ suc (left - 1) = omega arith in
-      rw e (sym (ends-go link key heads x (left - 1) p y (rw e at q) (rw e at r)) ∙ ap (λ (n : ℕ). ends link key heads x n p y) (sym s) ∙ inv)
+      let s : name_bits - n ≡ suc (name_bits - (n + 1)) = omega arith in
+      rw e (sym (ends-go link key heads x (name_bits - (n + 1)) p y (rw e at q) (rw e at r)) ∙ ap (λ (k : ℕ). ends link key heads x k p y) (sym s) ∙ inv)
 
-  pub seek-out : left ≤ 0 → p ≡ end_of link key heads x
-  seek-out l = let e : left ≡ 0 = omega arith in sym (ap (λ (n : ℕ). ends link key heads x n p y) e ∙ ends-zero link key heads x p y) ∙ inv
+  pub seek-out : name_bits ≤ n → p ≡ end_of link key heads x
+  seek-out l = let e : name_bits - n ≡ 0 = omega arith in sym (ap (λ (k : ℕ). ends link key heads x k p y) e ∙ ends-zero link key heads x p y) ∙ inv
 
 pub link-within : (link key : List ℕ) (heads p i : ℕ) → Links link key heads → i ≡ get_or link p 0 → i < length key
 link-within link key heads p i l e = rw e (l.within p)
@@ -99,6 +90,18 @@ link-within link key heads p i l e = rw e (l.within p)
 pub place-within : (link key : List ℕ) (heads p i y : ℕ) → Links link key heads → i ≡ get_or link p 0 → heads + i * branches + y % branches < length link
 place-within link key heads p i y l e = omega (arith, l.sizes, link-within link key heads p i l e)
 
-pub is-in-law : (link key : List ℕ) (heads x p i : ℕ) → p ≡ end_of link key heads x → i ≡ get_or link p 0 → is_at key i x ≡ has link key heads x
-unfolding has
-is-in-law link key heads x p i e q = rw (q, e)
+none-of : (i : ℕ) (b r : Bool) → i ≤ 0 → (ltb 0 i && b) ≡ r → ltb 0 i ≡ r
+none-of zero b r l h = h
+none-of (suc i) b r l h = let q : ⊥ = omega arith in absurd q
+
+module _ (link key : List ℕ) (heads x p i : ℕ) (e : p ≡ end_of link key heads x) (q : i ≡ get_or link p 0) where
+  found-there : is_at key i x ≡ has link key heads x
+  unfolding has
+  found-there = rw (q, e)
+
+  -- by the test of a node, and of its name where there is one
+  pub is-in-node : 0 < i → eqb (get_or key i 0) x ≡ has link key heads x
+  is-in-node l = rw (lt-ltb 0 i l) at found-there
+
+  pub is-in-none : i ≤ 0 → ltb 0 i ≡ has link key heads x
+  is-in-none l = none-of i _ _ l found-there

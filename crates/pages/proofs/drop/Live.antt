@@ -1,9 +1,8 @@
 -- The page of a name in the bytes of a zone: where it lies among the blocks, its size, and the zone without it.
-use Rattle.std.proofs.Common.{◌≡◌, ℕ, ◌+◌, ◌-◌, ◌<◌, ◌≤◌, true, List, ◌∷◌, ◌++◌, map, length, drop, sym, refl, ap, ◌∙◌, subst, append_assoc, arith, w64, Fits}
+use Rattle.std.proofs.Common.{◌≡◌, ℕ, ◌+◌, ◌-◌, ◌≤◌, true, List, ◌∷◌, ◌++◌, map, length, sym, refl, ap, ◌∙◌, subst, append_assoc, arith, w64, Fits}
 use Rattle.block_type.specs.Limits.{page_header}
 use Rattle.format.specs.Occurs.{occurs}
-use Rattle.format.specs.WellFormed.{first_field}
-use Rattle.kinds.specs.Kinds.{Item, header_of, item_size, has_name}
+use Rattle.kinds.specs.Kinds.{Item, header_of, has_name}
 use Rattle.kinds.proofs.KindLaws.{name-header}
 use Rattle.bay.specs.Bay.{held, bay_size}
 use Rattle.calls.specs.Calls.{by_name}
@@ -12,18 +11,18 @@ use Rattle.structure.specs.Valid.{Valid}
 use Rattle.structure.proofs.Sound.{valid-zone}
 use Rattle.structure.specs.IsZone.{IsZone}
 use Rattle.structure.proofs.IsZone.{whole_of}
-use Rattle.access.specs.row.Row.{Row}
 use Rattle.access.specs.Named.{place_among}
 use Rattle.access.specs.locate.Locate.{target_place, target_data}
 use Rattle.zone.specs.Group.{group}
 use Rattle.zone.proofs.GroupLaws.{flatten-group}
 use Rattle.zone.proofs.Grouped.{whole-bays}
 use Rattle.free_block.specs.Around.{Around, Freeing}
-use Rattle.free_block.specs.Walk.{Stopped, Extended}
+use Rattle.free_block.specs.Extends.{BlockIn, Extends}
 use Rattle.free_block.proofs.Around.{around-same}
 use Rattle.free_block.proofs.Own.{own_block}
 use Rattle.free_block.proofs.Parts.{lows-sizes}
-use Rattle.free_block.proofs.Found.{block-fits, prev-fits, end_row, freeing}
+use Rattle.free_block.proofs.Extends.{held-low, held-word, held-in, held-freeing}
+use Rattle.slide.specs.declared.blank.Extent.{Extent}
 use Rattle.pages.specs.drop.Ready.{dropped}
 use Rattle.pages.proofs.Page.{name-alone, its-place, page-live}
 
@@ -74,7 +73,7 @@ module _ (z : List ℕ) (i : IsZone z) (n : ℕ) (live : target_place (by_name n
   data_is : length (target_data (by_name n) z) ≡ length page.bytes
   data_is = ap length (sym found.3)
 
--- ---- the search for its free neighbours: each step may be done
+-- ---- its extent
 
 module _ (z : List ℕ) (i : IsZone z) (n place : ℕ) (e : place ≡ target_place (by_name n) z) (ne : place ≡ 0 → ⊥) where
   pub live-is : target_place (by_name n) z ≡ 0 → ⊥
@@ -89,37 +88,21 @@ module _ (z : List ℕ) (i : IsZone z) (n place : ℕ) (e : place ≡ target_pla
   head : header_of b ≡ page_header
   head = name-header n b (its z i n live-is)
 
+  at_is : place ≡ start (decode_zone z) + (sizes a.pre + bay_size a.low) + header_of b
+  at_is = e ∙ place_is z i n live-is
+
   pub data-low : page_header ≤ place
-  data-low = omega (arith, place_is z i n live-is, head)
-
-  abbrev at : ℕ
-  at = place - page_header
-
-  at_is : at ≡ start (decode_zone z) + (sizes a.pre + bay_size a.low)
-  at_is = omega (arith, place_is z i n live-is, head)
-
-  room : at + item_size b ≤ length z
-  room = block-fits z i (first_field z) refl (dropped n (decode_zone z)).blocks (cell (held b)) a at at_is
-
-  pub at-fits : place - page_header ≤ length z
-  at-fits = omega (arith, room)
+  data-low = held-low z i (dropped n (decode_zone z)).blocks b a page_header place (length b.bytes) head at_is refl
 
   module _ (k : ℕ) (ek : k ≡ length (target_data (by_name n) z)) where
-    end_is : place + k ≡ at + item_size b
-    end_is = omega (arith, data_is z i n live-is, data-low, head)
+    long : k ≡ length b.bytes
+    long = ek ∙ data_is z i n live-is
 
     pub end-word : Fits w64 (place + k)
-    end-word = record { fits = omega (arith, end_is, room, (whole_of z i).limit, (whole_of z i).all) }
+    end-word = held-word z i (dropped n (decode_zone z)).blocks b a page_header place k head at_is long
 
-    module _ (first : ℕ) (ef : first ≡ first_field z) (prev stop : ℕ) (p : Stopped z first (place - page_header) prev stop) where
-      pub prev-in : prev < length z
-      prev-in = prev-fits z i first ef (dropped n (decode_zone z)).blocks (cell (held b)) a at at_is prev stop p
+    pub block-in : BlockIn z (place - page_header) (place + k)
+    block-in = held-in z i (dropped n (decode_zone z)).blocks b a page_header place k head at_is long
 
-      pub row_in : Row (drop (place + k) z)
-      row_in = end_row z i first ef (dropped n (decode_zone z)).blocks (cell (held b)) a at at_is prev stop p (place + k) end_is
-
-      pub end-in : place + k ≤ length z
-      end-in = omega (arith, end_is, room)
-
-      pub freeing-in : (from to : ℕ) → Extended z prev (place - page_header) (place + k) from to → Freeing z (dropped n (decode_zone z)).blocks (cell (held b)) from (place - page_header) (place + k) to
-      freeing-in from to x = freeing z i first ef (dropped n (decode_zone z)).blocks (cell (held b)) a at at_is prev stop p (place + k) end_is from to x
+    pub freeing-in : (x : Extent) → Extends z (place - page_header) (place + k) x → Freeing z (dropped n (decode_zone z)).blocks (cell (held b)) x.from x.at x.end x.to
+    freeing-in x q = held-freeing z i (dropped n (decode_zone z)).blocks b a page_header place k head at_is long x q

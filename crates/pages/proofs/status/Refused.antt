@@ -6,7 +6,13 @@ use Rattle.calls.specs.Calls.{Mark, PageCall, use_page, mark_page, by_name, told
 use Rattle.calls.specs.Table.{Facts, page_causes, page_value, no_block, not_well_formed, first, order}
 use Rattle.zone.specs.Work.{facts}
 use Rattle.zone.specs.Call.{zone_in, number_of, result_of, call_with, call}
-use Rattle.access.specs.locate.Locate.{Located, ill_formed, absent, present}
+use Rattle.std.proofs.Common.{arith}
+use Rattle.std.specs.Prelude.{Result, Ok, Err}
+use Rattle.std.specs.Result.{IsErrAnd}
+use Rattle.calls.specs.Refusals.{code_of, answer_by}
+use Rattle.calls.specs.declared.Refusal.{Refusal}
+use Rattle.calls.specs.declared.Refusal.TheVariants.{NotWellFormed, NameAbsent}
+use Rattle.access.specs.locate.Found.{IsLost, ill_formed, absent}
 use Rattle.pages.proofs.Page.{number-gone}
 
 -- a call whose only cause is that there is no such page
@@ -29,13 +35,15 @@ module _ (s : List ℕ) (n : ℕ) (c : PageCall) (p : Plain n c) where
       ap (λ (u : Bool). first order (not_well_formed (facts u (zone_in s)) ∷ page_causes n c (facts u (zone_in s)))) e
       ∙ ap (λ cs. first order (not_well_formed (facts t (zone_in s)) ∷ cs)) (p.causes (facts t (zone_in s)))
 
-  refused-with : (k : ℕ) → (k ≡ 0 → ⊥) → number_of (on_page n c) s ≡ k → result_of (told k 0) s ≡ call (on_page n c) s
-  refused-with k ne e =
-      ap (λ (v : ℕ). result_of (told k v) s) (sym (p.value k (facts (well_formed s) (zone_in s))))
-      ∙ sym (ap (λ (j : ℕ). call_with j (on_page n c) s) e ∙ rw (ne_eqb k 0 ne))
+  refused-with : (e : Refusal) → (code_of e ≡ 0 → ⊥) → number_of (on_page n c) s ≡ code_of e → result_of (told (code_of e) 0) s ≡ call (on_page n c) s
+  refused-with d ne e =
+      ap (λ (v : ℕ). result_of (told (code_of d) v) s) (sym (p.value (code_of d) (facts (well_formed s) (zone_in s))))
+      ∙ sym (ap (λ (j : ℕ). call_with j (on_page n c) s) e ∙ rw (ne_eqb (code_of d) 0 ne))
 
-  pub refuses : (k at size : ℕ) → Located s (by_name n) k at size → (k ≡ 0 → ⊥) → result_of (told k 0) s ≡ call (on_page n c) s
+  -- whether a value stands beside other refusals (g) or not
+  pub refuses : {T : Type 0} (f : T → ℕ) (g : Refusal → ℕ) → g NotWellFormed ≡ 0 → g NameAbsent ≡ 0 → (r : Result T Refusal) (d : Refusal) → IsErrAnd r (λ y. y ≡ d) → IsLost s (by_name n) d
+      → result_of (answer_by f g [] r) s ≡ call (on_page n c) s
   unfolding decode
-  refuses k at size (ill_formed y wf e a b) ne = refused-with k ne (number_is false wf ∙ sym e)
-  refuses k at size (absent y wf t e a b) ne = refused-with k ne (number_is true wf ∙ number-gone (zone_of s) n t ∙ sym e)
-  refuses k at size (present y wf t l b e) ne = absurd (ne e)
+  refuses f g a b (Ok v) d k x = absurd k
+  refuses f g a b (Err e) d k (ill_formed y i) = let q : e ≡ d = k in rw (q, i.refusal_is, a) (refused-with NotWellFormed (λ z. omega arith) (number_is false i.ill))
+  refuses f g a b (Err e) d k (absent y wf t i) = let q : e ≡ d = k in rw (q, i, b) (refused-with NameAbsent (λ z. omega arith) (number_is true wf ∙ number-gone (zone_of s) n t))

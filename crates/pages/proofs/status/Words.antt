@@ -52,5 +52,5 @@ mark-stamp clear_lock s l = l
 
 -- ---- the stamp
 
-pub stamp-set : (w clock : ℕ) → Reworded (stamped clock) w (w / lock_bit * lock_bit + clock)
-stamp-set w clock = record { is = λ s l e. omega (arith, (parts s w l e).flags) }
+pub stamp-set : (w clock stamp : ℕ) → stamp ≡ clock → Reworded (stamped clock) w (w / lock_bit * lock_bit + stamp)
+stamp-set w clock stamp q = record { is = λ s l e. omega (arith, (parts s w l e).flags) }

@@ -8,7 +8,7 @@ use Rattle.structure.specs.Structure.{Structure, start, decode_zone, cell}
 use Rattle.zone.specs.Group.{group, flatten}
 use Rattle.access.specs.locate.Locate.{target_place}
 use Rattle.free_block.specs.Around.{Freeing}
-use Rattle.pages.specs.declared.drop.DropPlan.{DropPlan}
+use Rattle.slide.specs.declared.blank.Extent.{Extent}
 
 -- the structure without the page of name n
 abbrev pub dropped : ℕ → Structure → Structure
@@ -20,6 +20,6 @@ pub record ReadyIn (z : List ℕ) (n from at end to : ℕ) : Type 0 where
   pub its : has_name n page ≡ true
   pub freeing : Freeing z (dropped n (decode_zone z)).blocks (cell (held page)) from at end to
 
--- the plan p of dropping n in the zone z is ready
-abbrev pub Ready : List ℕ → ℕ → DropPlan → Type 0
+-- p is the extent of the page of name n in the zone z
+abbrev pub Ready : List ℕ → ℕ → Extent → Type 0
 Ready z n p = ReadyIn z n p.from p.at p.end p.to

@@ -1,5 +1,6 @@
 -- A page's status word changed: what a function of the word is to give, and what the zone is then.
-use Rattle.std.specs.Prelude.{◌≡◌, ℕ, ◌-◌, ◌<◌}
+use Rattle.std.specs.Prelude.{◌≡◌, List, ℕ, ◌-◌, ◌<◌}
+use Rattle.bigendian.specs.BigEndian.{from_be, slice}
 use Rattle.block_type.specs.Limits.{page_header, status_at, stamp_range}
 use Rattle.kinds.specs.Kinds.{Status, status_word, has_name, on_status}
 use Rattle.calls.specs.Calls.{Mark, set_dirty, clear_dirty, set_lock, clear_lock}
@@ -20,6 +21,10 @@ mark_of ClearLock = clear_lock
 -- the status word ends a page's header: as many bytes as it has, it lies before the data
 abbrev pub status_length : ℕ
 status_length = page_header - status_at
+
+-- the status word of the page whose data lie at `place`
+abbrev pub word_before : List ℕ → ℕ → ℕ
+word_before z place = from_be (slice z (place - status_length) 2)
 
 -- where w is the word of a status, r is that of the status changed by g
 pub record Reworded (g : Status → Status) (w r : ℕ) : Type 0 where

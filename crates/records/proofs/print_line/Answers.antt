@@ -4,11 +4,11 @@ use Rattle.records.proofs.print_line.Goals as goal
 pub put_skip-requires : goal.put_skip-requires
 put_skip-requires c = search skip-room
 
-pub returns-then-line : goal.returns-then-line
-returns-then-line c = search skip-line
+pub returns-in-Skip : goal.returns-in-Skip
+returns-in-Skip c = search skip-line
 
 pub put_numbers-requires : goal.put_numbers-requires
 put_numbers-requires c = search numbers-room
 
-pub returns : goal.returns
-returns c = search numbers-line
+pub returns-in-Said : goal.returns-in-Said
+returns-in-Said c = search numbers-line

@@ -1,38 +1,35 @@
-use Rattle.records.proofs.Acts.{code-0, code-1, code-2, code-3, code-4, code-5, code-6, code-7, code-8, code-9, code-10, code-above}
+use Rattle.records.proofs.Acts.{initializes, allocates, allocates_fixed, frees, frees_fixed, resizes, writes, reads, compacts, enlarges, shrinks}
 use Rattle.records.proofs.run_code.Goals as goal
 
-pub returns-in-0 : goal.returns-in-0
-returns-in-0 c = search code-0
+pub returns-in-Initialize : goal.returns-in-Initialize
+returns-in-Initialize c = search initializes
 
-pub returns-in-1 : goal.returns-in-1
-returns-in-1 c = search code-1
+pub returns-in-AllocateRelocatable : goal.returns-in-AllocateRelocatable
+returns-in-AllocateRelocatable c = search allocates
 
-pub returns-in-2 : goal.returns-in-2
-returns-in-2 c = search code-2
+pub returns-in-AllocateFixed : goal.returns-in-AllocateFixed
+returns-in-AllocateFixed c = search allocates_fixed
 
-pub returns-in-3 : goal.returns-in-3
-returns-in-3 c = search code-3
+pub returns-in-FreeHandle : goal.returns-in-FreeHandle
+returns-in-FreeHandle c = search frees
 
-pub returns-in-4 : goal.returns-in-4
-returns-in-4 c = search code-4
+pub returns-in-FreePointer : goal.returns-in-FreePointer
+returns-in-FreePointer c = search frees_fixed
 
-pub returns-in-5 : goal.returns-in-5
-returns-in-5 c = search code-5
+pub returns-in-Resize : goal.returns-in-Resize
+returns-in-Resize c = search resizes
 
-pub returns-in-6 : goal.returns-in-6
-returns-in-6 c = search code-6
+pub returns-in-WriteByte : goal.returns-in-WriteByte
+returns-in-WriteByte c = search writes
 
-pub returns-in-7 : goal.returns-in-7
-returns-in-7 c = search code-7
+pub returns-in-ReadByte : goal.returns-in-ReadByte
+returns-in-ReadByte c = search reads
 
-pub returns-in-8 : goal.returns-in-8
-returns-in-8 c = search code-8
+pub returns-in-Compact : goal.returns-in-Compact
+returns-in-Compact c = search compacts
 
-pub returns-in-9 : goal.returns-in-9
-returns-in-9 c = search code-9
+pub returns-in-Enlarge : goal.returns-in-Enlarge
+returns-in-Enlarge c = search enlarges
 
-pub returns-in-10 : goal.returns-in-10
-returns-in-10 c = search code-10
-
-pub returns-in_default : goal.returns-in_default
-returns-in_default c = search code-above
+pub returns-in-Shrink : goal.returns-in-Shrink
+returns-in-Shrink c = search shrinks

@@ -1,25 +1,24 @@
-use Rattle.access.proofs.Checked.{zone-8}
 use Rattle.resize.proofs.reshape.Plan.{known-word}
-use Rattle.resize.proofs.Zone.{in-6, in-3, in_here, in-lacking, in-bays}
+use Rattle.resize.proofs.Zone.{in-6, in-3, in-5, in-here, in-lacking, in-way}
 use Rattle.resize.proofs.plan_in.Goals as goal
 
-pub returns-then-at-eq0 : goal.returns-then-at-eq0
-returns-then-at-eq0 c = search in-6
+pub returns-in_default-clause-err : goal.returns-in_default-clause-err
+returns-in_default-clause-err c = search (in-6, c.in_default.ensures)
 
-pub returns-then-c-gt-RELOCATABLE_LIMIT : goal.returns-then-c-gt-RELOCATABLE_LIMIT
-returns-then-c-gt-RELOCATABLE_LIMIT c = search in-3
+pub returns-then-c-gt-RELOCATABLE_LIMIT-clause-err : goal.returns-then-c-gt-RELOCATABLE_LIMIT-clause-err
+returns-then-c-gt-RELOCATABLE_LIMIT-clause-err c = search (in-3, c.in-Some.ensures)
 
-pub overflow_add-b : goal.overflow_add-b
-overflow_add-b c = search known-word
+pub overflow_add-block : goal.overflow_add-block
+overflow_add-block c = search known-word
 
-pub returns-then-a-b : goal.returns-then-a-b
-returns-then-a-b c = search in_here
+pub returns-then-block-free-clause-ok : goal.returns-then-block-free-clause-ok
+returns-then-block-free-clause-ok c = search (in-here, c.in-Some.ensures)
 
-pub get4-first-requires : goal.get4-first-requires
-get4-first-requires c = search zone-8
+pub way_to_bay-requires : goal.way_to_bay-requires
+way_to_bay-requires c = search (in-lacking, c.in-Some.ensures)
 
-pub plan_bays-requires : goal.plan_bays-requires
-plan_bays-requires c = search in-lacking
+pub returns-in_err-way-clause-err : goal.returns-in_err-way-clause-err
+returns-in_err-way-clause-err c = search (in-5, c.in-Some.ensures, c.in_err-way.ensures)
 
-pub returns : goal.returns
-returns c = search in-bays
+pub returns-clause-ok : goal.returns-clause-ok
+returns-clause-ok c = search (in-way, c.in-Some.ensures, c.in_ok-way.ensures)

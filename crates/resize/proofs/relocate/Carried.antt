@@ -4,7 +4,6 @@ use mathlib.Core.List.{List, [], ◌∷◌, ◌++◌, map}
 use Prim.Native.Nat.{ℕ, ◌+◌, ◌-◌, ◌%◌}
 use native.Mathlib.Omega.{arith}
 use lib.ListN.{length}
-use Rattle.format.specs.WellFormed.{first_field}
 use Rattle.block_type.specs.Limits.{reloc_header}
 use Rattle.bigendian.specs.BigEndian.{to_be, slice, overwrite}
 use Rattle.kinds.specs.Kinds.{Item, item_size, header_of, is}
@@ -19,13 +18,15 @@ use Rattle.structure.specs.Valid.{Valid}
 use Rattle.structure.proofs.Table.{encode-zone}
 use Rattle.access.specs.Edit.{place_in, data_in}
 use Rattle.zone.specs.Group.{flatten}
-use Rattle.free_block.specs.Walk.{Stopped, Extended}
+use Rattle.free_block.specs.Extends.{Extends}
+use Rattle.slide.specs.declared.blank.Extent.{Extent}
+use Rattle.resize.specs.declared.relocate.Old.{Old}
 use Rattle.free_block.specs.Freed.{freed}
 use Rattle.free_block.proofs.Live.{freed-valid}
 use Rattle.bay.specs.Bay as Bay
 use Rattle.bays.specs.Slot.{Slot, others, blocks_before, blocks_after}
 use Rattle.resize.specs.relocate.Move.{moved_bytes}
-use Rattle.resize.specs.relocate.Relocate.{item_of, OldPlace, old_place, Carry, carry_in, carried_to, Carried}
+use Rattle.resize.specs.relocate.Relocate.{item_of, OldPlace, Carry, carry_in, carried_to, Carried}
 use Rattle.bays.proofs.Slots.{plug-flat, others-sizes}
 use Rattle.free_block.proofs.Itself.{its-place, its-data}
 use Rattle.resize.proofs.relocate.Moved.{moved}
@@ -66,7 +67,13 @@ module _ (z : List ℕ) (h b a at n : ℕ) (x : Carry z h b a at n) where
   place-new : at ≡ start s + sizes (blocks_before k') + bay_size x.hole.before
   place-new = omega (arith, x.at_is, others-sizes (release (is h)) (release-size (is h)) x.slot)
 
-  module _ (old first prev stop from to : ℕ) (eo : old ≡ place_in z h) (ef : first ≡ first_field z) (p : Stopped z first (old - reloc_header) prev stop) (q : Extended z prev (old - reloc_header) (old + b) from to) where
+  module _ (old : ℕ) (eo : old ≡ place_in z h) (o : Extent) (q : Extends z (old - reloc_header) (old + b) o) where
+    abbrev from : ℕ
+    from = o.from
+
+    abbrev to : ℕ
+    to = o.to
+
     data-here : slice z old b ≡ data_in z h
     unfolding place_in
     data-here =
@@ -89,8 +96,8 @@ module _ (z : List ℕ) (h b a at n : ℕ) (x : Carry z h b a at n) where
         ∙ ap (λ (t : List ℕ). overwrite (overwrite t h m) from u) (new-data z d at h a (n - (reloc_header + a)) (omega (arith, x.grows.more, x.grows.is_b)) (omega (arith, f.inside)))
         ∙ ap₂ (λ (t : List ℕ) (i : ℕ). overwrite (overwrite (overwrite t at (bytes_of (held e ∷ gap i []))) h m) from u) (sym is-z) j
         ∙ moved s (v z h b a at n (carry_in x)) (around z h b a at n (carry_in x)) h (its z h b a at n (carry_in x)) valid-freed (blocks_before k') (blocks_after k') x.bay freed-parts x.hole x.is e refl refl ok (omega (arith, size_is, x.fits)) long
-        at from to place-new (from_place z h b a at n (carry_in x) old eo first ef prev stop p from to q) (to-place z h b a at n (carry_in x) old eo first ef prev stop p from to q) (apart z h b a at n (carry_in x) old eo first ef prev stop p from to q)
+        at from to place-new (from_place z h b a at n (carry_in x) old eo o q) (to-place z h b a at n (carry_in x) old eo o q) (apart z h b a at n (carry_in x) old eo o q)
         ∙ ap (λ (bs : List Block). encode (record { clock = s.clock; chain = s.chain; blocks = bs })) (sym (plug-flat k' (fill e x.hole)))
 
-pub carry-done : (z : List ℕ) (h b a at n old from to : ℕ) → OldPlace z h b old from to → (y : List ℕ) → y ≡ moved_bytes z h from to at n (reloc_header + a) (slice z old b) → Carried z h b a at n y
-carry-done z h b a at n old from to (old_place first prev stop eo ef p q) y ey = record { left = λ x. done z h b a at n x old first prev stop from to eo ef p q y ey }
+pub carry-done : (z : List ℕ) (h b a at n : ℕ) (o : Old) → OldPlace z h b o → (y : List ℕ) → y ≡ moved_bytes z h o.extent.from o.extent.to at n (reloc_header + a) (slice z o.place b) → Carried z h b a at n y
+carry-done z h b a at n o p y ey = record { left = λ x. done z h b a at n x o.place p.place_is o.extent p.extends y ey }

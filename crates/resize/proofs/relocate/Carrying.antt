@@ -1,14 +1,11 @@
 -- A block that is to go to another bay, in the bytes of a zone: where it stands, and that the writes may be done.
-use mathlib.Core.Path.{◌≡◌, refl, sym, ap, ◌∙◌, subst}
+use mathlib.Core.Path.{◌≡◌, sym, ap, ◌∙◌, subst}
 use mathlib.Core.Option.{some}
 use mathlib.Core.List.{List, [], ◌∷◌}
 use mathlib.Core.Bool.{true}
 use Prim.Native.Nat.{ℕ, ◌+◌, ◌-◌, ◌<◌, ◌≤◌}
 use native.Mathlib.Omega.{arith}
-use mir.Val.{Fits}
-use mir.Syntax.{w64}
 use lib.ListN.{length}
-use Rattle.format.specs.WellFormed.{first_field}
 use Rattle.block_type.specs.Limits.{reloc_header, zone_header, master_size, argument_range}
 use Rattle.kinds.specs.Kinds.{Item, header_of, item_size, is}
 use Rattle.kinds.proofs.KindLaws.{is-header}
@@ -34,7 +31,10 @@ use Rattle.zone.proofs.GroupLaws.{flatten-group}
 use Rattle.zone.proofs.Grouped.{whole-bays, single-live}
 use Rattle.zone.proofs.Keep as Keep
 use Rattle.free_block.specs.Around.{Around, Freeing}
-use Rattle.free_block.specs.Walk.{Stopped, Extended}
+use Rattle.free_block.specs.Extends.{Extends}
+use Rattle.free_block.proofs.Extends.{end-in}
+use Rattle.slide.specs.declared.blank.Extent.{Extent}
+use Rattle.resize.specs.declared.relocate.Old.{Old}
 use Rattle.free_block.proofs.Around.{around-same}
 use Rattle.free_block.proofs.Parts as Parts
 use Rattle.free_block.proofs.Found as Found
@@ -48,7 +48,7 @@ use Rattle.room.proofs.place.Cut.{blank-size}
 use Rattle.room.proofs.place.InBay.{room-fit}
 use Rattle.bays.specs.Slot.{Slot, plug, others, blocks_before, blocks_after}
 use Rattle.resize.specs.relocate.Move.{Apart, below, above, MoveAt}
-use Rattle.resize.specs.relocate.Relocate.{LiveIn, live_in, OldPlace, old_place, Carry, CarryIn, carry_of}
+use Rattle.resize.specs.relocate.Relocate.{LiveIn, live_in, OldPlace, Carry, CarryIn, carry_of}
 use Rattle.bays.proofs.Slots.{plug-flat, plug-map, plug-all}
 use Rattle.resize.proofs.relocate.Beside.{end_low, low_end, high_end_of, Beside, beside}
 use Rattle.free_block.proofs.Itself.{its-place}
@@ -130,9 +130,6 @@ module _ (z : List ℕ) (h b a at n : ℕ) (y : CarryIn z h b a at n) where
   pub carry-live : LiveIn z h b
   carry-live = live_in carry-zone word x.grows.live x.grows.is_b
 
-  pub carry-need : Fits w64 (reloc_header + a)
-  carry-need = record { fits = omega (arith, x.grows.size.high) }
-
   -- ---- the new place
 
   abbrev need : ℕ
@@ -168,56 +165,52 @@ module _ (z : List ℕ) (h b a at n : ℕ) (y : CarryIn z h b a at n) where
     low-is : low ≡ start s + (sizes around.pre + bay_size around.low)
     low-is = omega (arith, head, place_is)
 
-    room : low + item_size block ≤ length z
-    room = Found.block-fits z carry-zone (first_field z) refl (freed h s).blocks (cell (held block)) around low low-is
-
     high_is : old + b ≡ low + item_size block
     high_is = omega (arith, head, b-is, carry-low)
 
-    module _ (first : ℕ) (ef : first ≡ first_field z) (prev stop : ℕ) (p : Stopped z first low prev stop) where
-      high-in : old + b ≤ length z
-      high-in = omega (arith, high_is, room)
+    high-in : old + b ≤ length z
+    high-in = end-in z low (old + b) (Found.around-in z carry-zone (freed h s).blocks (cell (held block)) around low low-is (old + b) high_is)
 
-      module _ (from to : ℕ) (q : Extended z prev low (old + b) from to) where
-        freeing : Freeing z (freed h s).blocks (cell (held block)) from low (old + b) to
-        freeing = Found.freeing z carry-zone first ef (freed h s).blocks (cell (held block)) around low low-is prev stop p (old + b) high_is from to q
+    module _ (e : Extent) (q : Extends z low (old + b) e) where
+      freeing : Freeing z (freed h s).blocks (cell (held block)) e.from low (old + b) e.to
+      freeing = Found.around-freeing z carry-zone (freed h s).blocks (cell (held block)) around low low-is (old + b) high_is e q
 
-        from_is : from + end_free around.low ≡ low
-        from_is = Found.from_low z carry-zone first ef (freed h s).blocks (cell (held block)) around low low-is prev stop p (old + b) high_is from to q
+      from_is : e.from + end_free around.low ≡ low
+      from_is = Found.around-from z carry-zone (freed h s).blocks (cell (held block)) around low low-is (old + b) high_is e q
 
-        to_is : to ≡ old + b + start_free around.high
-        to_is = Found.to_high z carry-zone first ef (freed h s).blocks (cell (held block)) around low low-is prev stop p (old + b) high_is from to q
+      to_is : e.to ≡ old + b + start_free around.high
+      to_is = Found.around-to z carry-zone (freed h s).blocks (cell (held block)) around low low-is (old + b) high_is e q
 
-        pub from_place : from ≡ start s + sizes (Parts.before s v around)
-        from_place = omega (arith, from_is, low-is, Parts.before-sizes s v around)
+      pub from_place : e.from ≡ start s + sizes (Parts.before s v around)
+      from_place = omega (arith, from_is, low-is, Parts.before-sizes s v around)
 
-        pub to-place : to ≡ from + Parts.amount s v around
-        to-place = omega (arith, from_is, to_is, high_is)
+      pub to-place : e.to ≡ e.from + Parts.amount s v around
+      to-place = omega (arith, from_is, to_is, high_is)
 
-        pub apart : Apart from to at x.hole.size
-        apart = go side.apart
-          where
-            bay-is : bay_size x.bay ≡ bay_size x.hole.before + (x.hole.size + bay_size x.hole.after)
-            bay-is = ap bay_size x.is ∙ bsize-append x.hole.before (free x.hole.size ∷ x.hole.after)
+      pub apart : Apart e.from e.to at x.hole.size
+      apart = go side.apart
+        where
+          bay-is : bay_size x.bay ≡ bay_size x.hole.before + (x.hole.size + bay_size x.hole.after)
+          bay-is = ap bay_size x.is ∙ bsize-append x.hole.before (free x.hole.size ∷ x.hole.after)
 
-            go : Apart (low_end side.around) (high_end_of (item_size block) side.around) (sizes (blocks_before k)) (bay_size x.bay) → Apart from to at x.hole.size
-            go (below l) = below (omega (arith, x.at_is, to_is, high_is, low-is))
-            go (above l) = above (omega (arith, x.at_is, bay-is, from_is, low-is, end_low side.around.low))
+          go : Apart (low_end side.around) (high_end_of (item_size block) side.around) (sizes (blocks_before k)) (bay_size x.bay) → Apart e.from e.to at x.hole.size
+          go (below l) = below (omega (arith, x.at_is, to_is, high_is, low-is))
+          go (above l) = above (omega (arith, x.at_is, bay-is, from_is, low-is, end_low side.around.low))
 
-        pub at_old : MoveAt z h old b at n (reloc_header + a) from to
-        at_old = record {
-          fit = fit;
-          long = long;
-          data_inside = high-in;
-          small = omega (arith, x.grows.more);
-          apart = go apart;
-          place = omega (arith, from_is, to_is, high_is, Parts.block-low s v around);
-          place_inside = (freeing-between z _ _ from low (old + b) to freeing).fits;
-        }
-          where
-            go : Apart from to at x.hole.size → Apart old (old + b) at n
-            go (below l) = below (omega (arith, to_is))
-            go (above l) = above (omega (arith, x.size_is, from_is, carry-low))
+      pub at_old : MoveAt z h old b at n (reloc_header + a) e.from e.to
+      at_old = record {
+        fit = fit;
+        long = long;
+        data_inside = high-in;
+        small = omega (arith, x.grows.more);
+        apart = go apart;
+        place = omega (arith, from_is, to_is, high_is, Parts.block-low s v around);
+        place_inside = (freeing-between z _ _ e.from low (old + b) e.to freeing).fits;
+      }
+        where
+          go : Apart e.from e.to at x.hole.size → Apart old (old + b) at n
+          go (below l) = below (omega (arith, to_is))
+          go (above l) = above (omega (arith, x.size_is, from_is, carry-low))
 
-pub carry-at : (z : List ℕ) (h b a at n : ℕ) → CarryIn z h b a at n → (old from to : ℕ) → OldPlace z h b old from to → MoveAt z h old b at n (reloc_header + a) from to
-carry-at z h b a at n y old from to (old_place first prev stop eo ef p q) = at_old z h b a at n y old eo first ef prev stop p from to q
+pub carry-at : (z : List ℕ) (h b a at n : ℕ) → CarryIn z h b a at n → (o : Old) → OldPlace z h b o → MoveAt z h o.place b at n (reloc_header + a) o.extent.from o.extent.to
+carry-at z h b a at n y o p = at_old z h b a at n y o.place p.place_is o.extent p.extends

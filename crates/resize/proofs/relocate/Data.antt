@@ -1,10 +1,11 @@
 -- The bytes of a block that is cut out of a free one, and of the same block with its data.
 use mathlib.Core.Path.{◌≡◌, sym, ap, ◌∙◌}
 use mathlib.Core.List.{List, [], ◌∷◌, ◌++◌, append_assoc}
-use Prim.Native.Nat.{ℕ, zero, suc, ◌+◌, ◌-◌, ◌*◌, ◌/◌, ◌%◌, ◌≤◌}
+use Prim.Native.Nat.{ℕ, ◌+◌, ◌-◌, ◌*◌, ◌/◌, ◌%◌, ◌≤◌}
 use native.Mathlib.Omega.{arith}
 use lib.ListN.{length, take, drop, replicate, length-append, length-replicate}
 use lib.Seq.{take_all, length-take-le}
+use Rattle.std.proofs.lemmas.List.{replicate-append-replicate}
 use Rattle.block_type.specs.Limits.{reloc_code, reloc_header, type_unit, longest_zone}
 use Rattle.bigendian.specs.BigEndian.{to_be, overwrite}
 use Rattle.bigendian.proofs.Laws.{length-to_be}
@@ -46,10 +47,6 @@ write-data z u w r g at h k e l =
     ∙ ap (λ (j : ℕ). (p ++ x) ++ (w ++ ((r ++ g) ++ drop (at + j) z))) m
     ∙ sym (q w)
 
-zeros-two : (b k : ℕ) → replicate {A = ℕ} (b + k) 0 ≡ replicate b 0 ++ replicate k 0
-zeros-two zero k = let e : 0 + k ≡ k = omega arith in rw e
-zeros-two (suc b) k = let e : suc b + k ≡ suc (b + k) = omega arith in rw e (ap (0 ∷◌) (zeros-two b k))
-
 -- the data d in the zeros of a new block of a data bytes
 pub new-data : (z d : List ℕ) (at h a n : ℕ) → length d ≤ a → at ≤ length z
     → overwrite (overwrite z at (bytes_of (held (blank (reloc_header + a) h) ∷ gap n []))) (at + reloc_header) d ≡ overwrite z at (bytes_of (held (item h (sized a d)) ∷ gap n []))
@@ -57,7 +54,7 @@ new-data z d at h a n l k =
     let r = replicate {A = ℕ} (a - length d) 0 in
     let u = replicate {A = ℕ} (length d) 0 in
     let ea : reloc_header + a - reloc_header ≡ length d + (a - length d) = omega arith in
-    let q : replicate {A = ℕ} (reloc_header + a - reloc_header) 0 ≡ u ++ r = ap (λ (j : ℕ). replicate {A = ℕ} j 0) ea ∙ zeros-two (length d) (a - length d) in
+    let q : replicate {A = ℕ} (reloc_header + a - reloc_header) 0 ≡ u ++ r = ap (λ (j : ℕ). replicate {A = ℕ} j 0) ea ∙ sym (replicate-append-replicate (length d) (a - length d) 0) in
     let w : sized a d ≡ d ++ r = ap (◌++ r) (take_all a d l) in
     let lu : length u ≡ length d = length-replicate {A = ℕ} (length d) 0 in
     let m : length (u ++ r) ≡ length (d ++ r) = omega (arith, length-append u r, length-append d r) in

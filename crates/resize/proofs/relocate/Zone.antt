@@ -43,6 +43,7 @@ use Rattle.settle.proofs.Bay.{bay-at}
 use Rattle.settle.proofs.Compact.{compact-settled}
 use Rattle.settle.proofs.Tidy.{bay-valid, bay-start}
 use Rattle.access.proofs.locate.Live.{place-live}
+use Rattle.room.specs.place.Prepared.{prepared}
 use Rattle.room.specs.place.Room.{Room}
 use Rattle.bays.specs.Slot.{Slot, plug, others, blocks_before, blocks_after, Under}
 use Rattle.resize.specs.relocate.Relocate.{relocated, item_of, Carry, CarryIn, carry_in, Carried, Relocate, RelocateIn, relocate_of}
@@ -148,10 +149,10 @@ module _ (z : List ℕ) (h b a from to at n : ℕ) (t : Bool) (y : RelocateIn z 
       size_is = room.size;
     }
 
-    pub carry-there : CarryIn z h b a at n
+    carry-there : CarryIn z h b a at n
     carry-there = carry_in there
 
-    pub done-there : (u : List ℕ) → Carried z h b a at n u → u ≡ encode (relocated h a (decode_zone z))
+    done-there : (u : List ℕ) → Carried z h b a at n u → u ≡ encode (relocated h a (decode_zone z))
     unfolding there
     done-there u c = c.left there ∙ left
 
@@ -226,12 +227,29 @@ module _ (z : List ℕ) (h b a from to at n : ℕ) (t : Bool) (y : RelocateIn z 
         size_is = room.size;
       }
 
-      pub carry-made : CarryIn z₁ h b a at n
+      carry-made : CarryIn z₁ h b a at n
       carry-made = carry_in made
 
-      pub done-made : (u : List ℕ) → Carried z₁ h b a at n u → u ≡ encode (relocated h a (decode_zone z))
+      done-made : (u : List ℕ) → Carried z₁ h b a at n u → u ≡ encode (relocated h a (decode_zone z))
       unfolding made
       done-made u c =
           c.left made
           ∙ ap₂ (λ (r : Structure) (d : List ℕ). encode (record { clock = r.clock; chain = r.chain; blocks = flatten (plug (others (release (is h)) k) (fill (item h (sized a d)) room.hole)) })) back same-data
           ∙ left
+
+  -- ---- in the bay that is ready for it
+
+  module _ (z₁ : List ℕ) (e₁ : z₁ ≡ prepared t from to z) (g : (i : ℕ) → Fits w8 (get_or z₁ i 0)) where
+    pub carry-ready : CarryIn z₁ h b a at n
+    carry-ready = go t refl
+      where
+        go : (u : Bool) → t ≡ u → CarryIn z₁ h b a at n
+        go true f = carry-made f z₁ (e₁ ∙ ap (λ (u : Bool). prepared u from to z) f) g
+        go false f = rw (e₁ ∙ ap (λ (u : Bool). prepared u from to z) f) (carry-there f)
+
+    pub done-ready : (u : List ℕ) → Carried z₁ h b a at n u → u ≡ encode (relocated h a (decode_zone z))
+    done-ready u c = go t refl
+      where
+        go : (v : Bool) → t ≡ v → u ≡ encode (relocated h a (decode_zone z))
+        go true f = done-made f z₁ (e₁ ∙ ap (λ (v : Bool). prepared v from to z) f) g u c
+        go false f = done-there f u (rw (e₁ ∙ ap (λ (v : Bool). prepared v from to z) f) at c)

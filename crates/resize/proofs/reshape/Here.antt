@@ -1,9 +1,10 @@
 -- The writes that give a block another size where it stands.
 use mathlib.Core.Path.{◌≡◌, sym, ap, ap₂, ◌∙◌}
 use mathlib.Core.List.{List, [], ◌∷◌, ◌++◌, append_assoc}
-use Prim.Native.Nat.{ℕ, zero, suc, ◌+◌, ◌-◌, ◌*◌, ◌/◌, ◌%◌, ◌<◌, ◌≤◌, min}
+use Prim.Native.Nat.{ℕ, ◌+◌, ◌-◌, ◌*◌, ◌/◌, ◌%◌, ◌<◌, ◌≤◌, min}
 use native.Mathlib.Omega.{arith}
 use lib.ListN.{length, take, drop, replicate, length-replicate, length-append, length-take, length-drop, take-append-drop, replicate-append-replicate}
+use Rattle.std.proofs.lemmas.List.{take_min}
 use Rattle.block_type.specs.Limits.{free_header, type_unit, tag_at}
 use Rattle.bigendian.specs.BigEndian.{to_be, slice, overwrite}
 use Rattle.bigendian.proofs.Laws.{length-to_be}
@@ -26,11 +27,6 @@ deep a w u k x x' t p e l =
     let lq : length q ≡ p = omega (arith, length-append a (w ++ (u ++ k)), length-append w (u ++ k), length-append u k) in
     let g : (y : List ℕ) → a ++ (w ++ (u ++ (k ++ y))) ≡ q ++ y = λ y. simp append_assoc in
     ap (λ (y : List ℕ). overwrite y p x') (g (x ++ t)) ∙ write_mid q x x' t p lq l ∙ sym (g (x' ++ t))
-
-take-keep : (a : ℕ) (d : List ℕ) → take (min a (length d)) d ≡ take a d
-take-keep zero d = let e : min 0 (length d) ≡ 0 = omega arith in rw e
-take-keep (suc a) [] = let e : min (suc a) 0 ≡ 0 = omega arith in rw e
-take-keep (suc a) (x ∷ d) = let e : min (suc a) (suc (length d)) ≡ suc (min a (length d)) = omega arith in rw e (ap (x ∷◌) (take-keep a d))
 
 abbrev zeros : ℕ → List ℕ
 zeros n = replicate n 0
@@ -89,7 +85,7 @@ module _ (z : List ℕ) (e : Item) (o at b f a : ℕ) (ea : at ≡ o + header_of
     data_is : sized a d ≡ take keep d ++ zeros (a - keep)
     data_is =
         let n : a - length d ≡ a - keep = omega arith in
-        ap₂ (λ (x : List ℕ) (k : ℕ). x ++ replicate k 0) (sym (ap (λ (k : ℕ). take k d) (ek ∙ ap (min a) eb) ∙ take-keep a d)) n
+        ap₂ (λ (x : List ℕ) (k : ℕ). x ++ replicate k 0) (sym (ap (λ (k : ℕ). take k d) (ek ∙ ap (min a) eb) ∙ take_min a d)) n
 
     new_is : (t : List ℕ) → bytes_of (gap g []) ≡ t → front ++ (word e a ++ (tag_of e ++ ((take keep d ++ zeros (a - keep)) ++ (t ++ back)))) ≡ front ++ (bytes_of new ++ back)
     unfolding bytes_of

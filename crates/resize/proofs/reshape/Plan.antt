@@ -56,9 +56,6 @@ module _ (z : List ℕ) (h at b f : ℕ) (k : Known z h at b f) where
       go : Known z h at b f → Here z h at b f a
       go (known i o ea eb ef) = here_in z i h o at b f ea eb ef a four high l
 
-  pub known-low : reloc_header ≤ at
-  known-low = (here_of 0 refl (omega arith) (omega arith)).low
-
   pub known-word : Fits w64 (b + f)
   known-word = let x = here_of 0 refl (omega arith) (omega arith) in record { fits = omega (arith, x.end, x.short) }
 

@@ -1,7 +1,6 @@
 -- A block that moves to another bay: what is asked, and what is left.
 use Rattle.std.specs.Prelude.{◌≡◌, Bool, List, ◌∷◌, ◌++◌, ℕ, ◌+◌, ◌-◌, ◌<◌, ◌≤◌, length}
 use Rattle.block_type.specs.Limits.{reloc_header, argument_range}
-use Rattle.format.specs.WellFormed.{first_field}
 use Rattle.structure.specs.Structure.{Structure, sizes, start, encode, decode_zone}
 use Rattle.access.specs.Edit.{place_in, data_in, data_of}
 use Rattle.kinds.specs.Kinds.{Item, item, is}
@@ -12,7 +11,8 @@ use Rattle.bay.specs.Counted.{count}
 use Rattle.zone.specs.Group.{flatten}
 use Rattle.zone.specs.Work.{place_low}
 use Rattle.bays.specs.Places.{bays_of}
-use Rattle.free_block.specs.Walk.{Stopped, Extended}
+use Rattle.free_block.specs.Extends.{Extends}
+use Rattle.resize.specs.declared.relocate.Old.{Old}
 use Rattle.room.specs.place.Fit.{Size}
 use Rattle.room.specs.place.Room.{LowestRoom}
 use Rattle.bays.specs.Slot.{Slot, plug, others, blocks_before}
@@ -38,9 +38,10 @@ pub record Grows (z : List ℕ) (h b a : ℕ) : Type 0 where
 pub data LiveIn (z : List ℕ) (h b : ℕ) : Type 0 where
   live_in : IsZone z → h < argument_range → (place_in z h ≡ 0 → ⊥) → b ≡ length (data_in z h) → LiveIn z h b
 
--- its data lie at old, and its block with the free blocks beside it from `from` up to `to`
-pub data OldPlace (z : List ℕ) (h b old from to : ℕ) : Type 0 where
-  old_place : (first prev stop : ℕ) → old ≡ place_in z h → first ≡ first_field z → Stopped z first (old - reloc_header) prev stop → Extended z prev (old - reloc_header) (old + b) from to → OldPlace z h b old from to
+-- o says where its data lie, and its block's extent
+pub record OldPlace (z : List ℕ) (h b : ℕ) (o : Old) : Type 0 where
+  pub place_is : o.place ≡ place_in z h
+  pub extends : Extends z (o.place - reloc_header) (o.place + b) o.extent
 
 -- a free block of n bytes at `at`, in a bay that has not h, has room for the block
 pub record Carry (z : List ℕ) (h b a at n : ℕ) : Type 0 where

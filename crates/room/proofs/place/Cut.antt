@@ -2,7 +2,10 @@
 use mathlib.Core.Path.{◌≡◌, refl, sym, ap, ap₂, ◌∙◌}
 use mathlib.Core.List.{List, [], ◌∷◌, ◌++◌, append_assoc, append-nil}
 use Prim.Native.Nat.{ℕ, ◌+◌, ◌-◌, ◌*◌, ◌/◌, ◌<◌, ◌≤◌}
+use mathlib.Core.Bool.{Bool, true, false, cond}
 use native.Mathlib.Omega.{arith}
+use lib.Dec.{ltb}
+use borrow.Author.Tests.{ltb-true, ltb-false}
 use lib.ListN.{length, replicate, length-replicate, length-append}
 use Rattle.block_type.specs.Limits.{free_header, reloc_code, page_code, reloc_header, page_header, type_unit, tag_at, status_at}
 use Rattle.bigendian.specs.BigEndian.{to_be, overwrite}
@@ -14,7 +17,7 @@ use Rattle.bay.specs.Bay.{held, gap}
 use Rattle.bay.specs.Bytes.{encode_cell}
 use Rattle.bay.specs.Sound.{bytes_of}
 use Rattle.bay.proofs.BayBytes.{gap-some, gap-none, free-zeros}
-use Rattle.room.specs.place.Fit.{blank, blank_page, Fit}
+use Rattle.room.specs.place.Fit.{blank, blank_page, with_rest, Fit}
 
 -- ---- a block of any kind
 
@@ -62,6 +65,13 @@ module _ (z z₁ z₂ : List ℕ) (at n need h : ℕ) (x : Fit z at n need h) (e
       (free-zeros z at n (need + free_header) (r - free_header) x.bytes (omega arith) (omega (arith, x.size.four, x.four_n))) (omega (arith, x.inside, x.size.four, x.four_n))
       ∙ ap (λ (y : List ℕ). overwrite z at y) (append_assoc new v (replicate (r - free_header) 0) ∙ ap (λ (y : List ℕ). new ++ y) (sym g))
 
+  done : (z₃ : List ℕ) → z₃ ≡ with_rest z₂ at n need → z₃ ≡ overwrite z at (bytes_of (held e ∷ gap (n - need) []))
+  done z₃ e₃ = go (ltb need n) refl e₃
+    where
+      go : (t : Bool) → ltb need n ≡ t → z₃ ≡ cond t (overwrite z₂ (at + need) (to_be 4 ((n - need) / 2))) z₂ → z₃ ≡ overwrite z at (bytes_of (held e ∷ gap (n - need) []))
+      go true q w = part z₃ (ltb-true need n q) w
+      go false q w = w ∙ all (ltb-false need n q)
+
 -- ---- a relocatable block
 
 pub blank-size : (need h : ℕ) → reloc_header ≤ need → item_size (blank need h) ≡ need
@@ -69,11 +79,8 @@ blank-size need h l = omega (arith, length-replicate {A = ℕ} (need - reloc_hea
 
 module _ (z z₁ z₂ : List ℕ) (at n need h : ℕ) (x : Fit z at n need h)
     (e₁ : z₁ ≡ overwrite z at (to_be 2 (reloc_code * type_unit + need / 2))) (e₂ : z₂ ≡ overwrite z₁ (at + tag_at) (to_be 2 h)) where
-  pub cut_all : n ≤ need → z₂ ≡ overwrite z at (bytes_of (held (blank need h) ∷ gap (n - need) []))
-  cut_all k = all z z₁ z₂ at n need h x (blank need h) (blank-size need h x.size.low) refl e₁ e₂ k
-
-  pub cut-part : (z₃ : List ℕ) → need < n → z₃ ≡ overwrite z₂ (at + need) (to_be 4 ((n - need) / 2)) → z₃ ≡ overwrite z at (bytes_of (held (blank need h) ∷ gap (n - need) []))
-  cut-part z₃ k e₃ = part z z₁ z₂ at n need h x (blank need h) (blank-size need h x.size.low) refl e₁ e₂ z₃ k e₃
+  pub cut-done : (z₃ : List ℕ) → z₃ ≡ with_rest z₂ at n need → z₃ ≡ overwrite z at (bytes_of (held (blank need h) ∷ gap (n - need) []))
+  cut-done z₃ e₃ = done z z₁ z₂ at n need h x (blank need h) (blank-size need h x.size.low) refl e₁ e₂ z₃ e₃
 
 -- ---- a page: its name and its status are written one after the other
 
@@ -96,8 +103,5 @@ module _ (z z₁ z₂ z₃ : List ℕ) (at n need name stamp : ℕ) (x : Fit z a
       e₃ ∙ (rw e₂ (write-more z₁ (to_be 4 name) (to_be 2 stamp) (at + tag_at) (at + status_at) (omega arith) (omega (arith, x.inside, x.fits, same-long))))
       ∙ ap (λ (w : ℕ). overwrite z₁ (at + tag_at) (to_be 4 name ++ to_be 2 w)) w
 
-  pub page-all : n ≤ need → z₃ ≡ overwrite z at (bytes_of (held (blank_page need name stamp) ∷ gap (n - need) []))
-  page-all k = all z z₁ z₃ at n need 0 x page (page-size need name stamp l) refl e₁ tagged k
-
-  pub page-part : (z₄ : List ℕ) → need < n → z₄ ≡ overwrite z₃ (at + need) (to_be 4 ((n - need) / 2)) → z₄ ≡ overwrite z at (bytes_of (held (blank_page need name stamp) ∷ gap (n - need) []))
-  page-part z₄ k e₄ = part z z₁ z₃ at n need 0 x page (page-size need name stamp l) refl e₁ tagged z₄ k e₄
+  pub page-done : (z₄ : List ℕ) → z₄ ≡ with_rest z₃ at n need → z₄ ≡ overwrite z at (bytes_of (held (blank_page need name stamp) ∷ gap (n - need) []))
+  page-done z₄ e₄ = done z z₁ z₃ at n need 0 x page (page-size need name stamp l) refl e₁ tagged z₄ e₄

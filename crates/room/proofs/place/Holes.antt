@@ -1,7 +1,7 @@
 -- The free block that is chosen in a bay, by its offset: what one block more at the bay's end changes.
 use mathlib.Core.Path.{◌≡◌, refl, sym, ap, ◌∙◌}
 use mathlib.Core.List.{List, [], ◌∷◌, ◌++◌}
-use mathlib.Core.Bool.{Bool, true, false, cond, not, ◌||◌}
+use mathlib.Core.Bool.{Bool, true, false, cond}
 use mathlib.Core.Option.{Option, none, some}
 use Prim.Native.Nat.{ℕ, ◌+◌, ◌<◌, ◌≤◌}
 use native.Mathlib.Nat.{add-zero}
@@ -104,12 +104,15 @@ chosen_more need p cs n at c l en ea w w' ew e =
 
 -- ---- the tests in the code
 
-module _ (need : ℕ) (w : HoleN) (n at : ℕ) where
-  pub tighter-yes : need ≤ n → (not w.found || ltb n w.size) ≡ true → hole_n true at n ≡ tighter_n w (hole_if need n at)
-  tighter-yes l t = rw (le-leb need n l, t)
+pub too_small : (need : ℕ) (w : HoleN) (n at : ℕ) → n < need → w ≡ tighter_n w (hole_if need n at)
+too_small need w n at l = rw (lt-leb need n l)
 
-  pub tighter-no : need ≤ n → (not w.found || ltb n w.size) ≡ false → w ≡ tighter_n w (hole_if need n at)
-  tighter-no l t = rw (le-leb need n l, t)
+module _ (need n at : ℕ) (l : need ≤ n) where
+  pub first-hole : hole_n true at n ≡ tighter_n no_hole (hole_if need n at)
+  first-hole = rw (le-leb need n l)
 
-  pub too_small : n < need → w ≡ tighter_n w (hole_if need n at)
-  too_small l = rw (lt-leb need n l)
+  pub tighter-yes : (i m : ℕ) → n < m → hole_n true at n ≡ tighter_n (hole_n true i m) (hole_if need n at)
+  tighter-yes i m k = rw (le-leb need n l, lt-ltb n m k)
+
+  pub tighter-no : (i m : ℕ) → m ≤ n → hole_n true i m ≡ tighter_n (hole_n true i m) (hole_if need n at)
+  tighter-no i m k = rw (le-leb need n l, le-ltb n m k)

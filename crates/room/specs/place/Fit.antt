@@ -1,6 +1,6 @@
 -- A block that is cut out of a free one.
-use Rattle.std.specs.Prelude.{◌≡◌, false, List, ℕ, ◌+◌, ◌-◌, ◌%◌, ◌≤◌, length, replicate}
-use Rattle.bigendian.specs.BigEndian.{slice}
+use Rattle.std.specs.Prelude.{◌≡◌, false, cond, List, ℕ, ◌+◌, ◌-◌, ◌/◌, ◌%◌, ◌≤◌, ltb, length, replicate}
+use Rattle.bigendian.specs.BigEndian.{slice, to_be, overwrite}
 use Rattle.block_type.specs.Limits.{reloc_header, page_header, master_size, largest_block, longest_zone}
 use Rattle.kinds.specs.Kinds.{Item, item, page}
 use Rattle.bay.specs.Bay.{free}
@@ -29,3 +29,7 @@ pub record Fit (z : List ℕ) (at n need h : ℕ) : Type 0 where
   pub fits : need ≤ n
   pub four_n : n % 4 ≡ 0
   pub bytes : slice z at n ≡ encode_cell (free n)
+
+-- behind need bytes of the n free ones at `at`, the header of a free block over what is left, where something is
+abbrev pub with_rest : List ℕ → ℕ → ℕ → ℕ → List ℕ
+with_rest z at n need = cond (ltb need n) (overwrite z (at + need) (to_be 4 ((n - need) / 2))) z

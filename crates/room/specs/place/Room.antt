@@ -8,7 +8,7 @@ use Rattle.bay.specs.Bay.{Cell, free, held, bay_size, bay_sum, compact_bay, Hole
 use Rattle.bays.specs.Places.{bays_of}
 use Rattle.bays.specs.Read.{BayBetween}
 use Rattle.bays.specs.Slot.{Slot, plug, blocks_before, Under}
-use Rattle.room.specs.place.Hole.{HoleN, hole_n, hole_for}
+use Rattle.room.specs.place.Hole.{HoleN, hole_for}
 
 -- the bay begins at a, and e goes to the low end of the free block of n bytes at `at`, which is there after compacting where tidy says so
 pub record Room (e : Item) (bay : List Cell) (a at n : ℕ) (tidy : Bool) : Type 0 where
@@ -50,11 +50,11 @@ low_site need p (last b) = cond (leb need (bay_sum b)) (site_at need p b) no_sit
 low_site need p (more b x s) = cond (leb need (bay_sum b)) (site_at need p b) (low_site need (x.place + fsize x) s)
 
 -- what the walk over one bay tells: its end, its sum, and the free block that is chosen in it for need bytes
-pub record ReadFor (z : List ℕ) (p need end sum next : ℕ) (f : Bool) (at n : ℕ) : Type 0 where
+pub record ReadFor (z : List ℕ) (p need end sum next : ℕ) (w : HoleN) : Type 0 where
   pub bay : List Cell
   pub between : BayBetween z p end next bay
   pub sum_is : sum ≡ bay_sum bay
-  pub is_hole : hole_n f at n ≡ hole_for need p bay
+  pub is_hole : w ≡ hole_for need p bay
 
 -- ---- in a zone
 

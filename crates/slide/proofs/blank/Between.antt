@@ -2,7 +2,7 @@
 use mathlib.Core.Path.{◌≡◌, sym, ap, ap₂, ◌∙◌}
 use mathlib.Core.List.{List, ◌++◌, append_assoc}
 use mathlib.Core.Bool.{cond}
-use Prim.Native.Nat.{ℕ, ◌+◌, ◌-◌, ◌/◌, ◌<◌, ◌≤◌}
+use Prim.Native.Nat.{ℕ, ◌+◌, ◌-◌, ◌/◌, ◌≤◌}
 use native.Mathlib.Omega.{arith}
 use lib.Dec.{ltb}
 use borrow.Author.Tests.{lt-ltb, le-ltb}
@@ -11,18 +11,10 @@ use lib.Seq.{drop-drop, length-take-le}
 use Rattle.block_type.specs.Limits.{free_header}
 use Rattle.bigendian.specs.BigEndian.{to_be, slice, overwrite}
 use Rattle.bigendian.proofs.Laws.{length-to_be}
-use Rattle.bigendian.proofs.Overwrite.{write-right, write-more}
+use Rattle.bigendian.proofs.Overwrite.{write-right}
 use Rattle.structure.specs.Structure.{encode_block, cell}
 use Rattle.bay.specs.Bay.{free}
 use Rattle.slide.specs.blank.Between.{Hole, nothing, zeros, Between}
-
-pub blank-law : (z y₁ y₂ : List ℕ) (from to : ℕ) → from + free_header ≤ to → to ≤ length z → y₁ ≡ overwrite z from (to_be 4 ((to - from) / 2)) → y₂ ≡ overwrite y₁ (from + free_header) (replicate (to - (from + free_header)) 0)
-    → y₂ ≡ overwrite z from (encode_block (cell (free (to - from))))
-unfolding encode_block
-blank-law z y₁ y₂ from to l u e₁ e₂ =
-    let q : to - (from + free_header) ≡ to - from - free_header = omega arith in
-    let n = length-to_be 4 ((to - from) / 2) in
-    e₂ ∙ (rw (e₁, q) (write-more z (to_be 4 ((to - from) / 2)) (replicate (to - from - free_header) 0) from (from + free_header) (omega arith) (simp length-replicate (omega arith))))
 
 -- b zeros over d, of which the a elements before and the c behind are 0
 fill : (d : List ℕ) (a b c : ℕ) → take a d ≡ replicate a 0 → take c (drop (a + b) d) ≡ replicate c 0
@@ -58,18 +50,6 @@ within z y₁ y₂ from low high to l₁ l₂ l₃ l₄ za zb e₁ e₂ =
     ∙ ap (λ (y : List ℕ). p ++ y) (w ∙ ap (λ (y : List ℕ). replicate (to - from - free_header) 0 ++ y) (drop-drop (to - from - free_header) (from + free_header) z ∙ ap (λ (o : ℕ). drop o z) k))
     ∙ (simp append_assoc)
 
-pub from_at : (from at : ℕ) → from < at → at ≡ cond (ltb from at) at (from + free_header)
-from_at from at l = rw (lt-ltb from at l)
-
-pub from-header : (from at : ℕ) → at ≤ from → from + free_header ≡ cond (ltb from at) at (from + free_header)
-from-header from at l = rw (le-ltb from at l)
-
-pub to-header : (end to : ℕ) → end < to → end + free_header ≡ cond (ltb end to) (end + free_header) end
-to-header end to l = rw (lt-ltb end to l)
-
-pub to_end : (end to : ℕ) → to ≤ end → end ≡ cond (ltb end to) (end + free_header) end
-to_end end to l = rw (le-ltb end to l)
-
 -- what is known of the upper end
 module _ (z : List ℕ) (end to high : ℕ) (h : Hole z end to) (eh : high ≡ cond (ltb end to) (end + free_header) end) where
   pub record High : Type 0 where
@@ -93,7 +73,6 @@ module _ (z : List ℕ) (from at end to low high : ℕ) (b : Between z from at e
   -- what is known of the lower end
   record Low : Type 0 where
     above : from + free_header ≤ low
-    within_block : low ≤ at + free_header
     zero-before : slice z (from + free_header) (low - (from + free_header)) ≡ replicate (low - (from + free_header)) 0
 
   low-is : Low
@@ -103,16 +82,28 @@ module _ (z : List ℕ) (from at end to low high : ℕ) (b : Between z from at e
       go (nothing e) =
           let q : low ≡ from + free_header = el ∙ (rw (le-ltb from at (omega arith))) in
           let n : low - (from + free_header) ≡ 0 = omega arith in
-          record { above = omega arith; within_block = omega arith; zero-before = rw n }
+          record { above = omega arith; zero-before = rw n }
       go (zeros l s) =
           let q : low ≡ at = el ∙ (rw (lt-ltb from at (omega arith))) in
-          record { above = omega arith; within_block = omega arith; zero-before = rw q s }
+          record { above = omega arith; zero-before = rw q s }
 
   top : High z end to high b.behind eh
   top = high_is z end to high b.behind eh
 
   pub between-order : low ≤ high
-  between-order = omega (arith, low-is.within_block, top.above, b.some)
+  between-order = go b.ahead b.behind
+    where
+      go : Hole z from at → Hole z end to → low ≤ high
+      go (nothing e) (nothing k) =
+          let q : low ≡ from + free_header = el ∙ (rw (le-ltb from at (omega arith))) in
+          omega (arith, top.above, b.some)
+      go (nothing e) (zeros l s) =
+          let q : low ≡ from + free_header = el ∙ (rw (le-ltb from at (omega arith))) in
+          let p : high ≡ end + free_header = eh ∙ (rw (lt-ltb end to (omega arith))) in
+          omega (arith, b.order)
+      go (zeros l s) k =
+          let q : low ≡ at = el ∙ (rw (lt-ltb from at (omega arith))) in
+          omega (arith, top.above, b.order)
 
   pub between-fits : (y : List ℕ) → length y ≡ length z → high ≤ length y
   between-fits y e = omega (arith, top.fits_in, b.fits)

@@ -9,8 +9,8 @@ loop-at-init c = search walk_start
 pub cell_size-n-requires : goal.cell_size-n-requires
 cell_size-n-requires c = search walk-ahead
 
-pub pass-w-requires : goal.pass-w-requires
-pass-w-requires c = (omega arith, omega arith, omega arith, omega arith, search rules, search walk-master)
+pub pass-run-requires : goal.pass-run-requires
+pass-run-requires c = (omega arith, omega arith, omega arith, omega arith, search rules, search walk-master)
 
 pub loop-at-preserved : goal.loop-at-preserved
 loop-at-preserved c = search walk_more

@@ -1,8 +1,12 @@
-use Rattle.slide.proofs.Master.{own-none, own-some}
+use Rattle.block_type.proofs.Types.{reloc-yes, reloc-no}
+use Rattle.slide.proofs.Master.{own-none, own-zero, own-some}
 use Rattle.slide.proofs.owner_at.Goals as goal
 
-pub returns-then-type_at-eq-RELOCATABLE_CODE : goal.returns-then-type_at-eq-RELOCATABLE_CODE
-returns-then-type_at-eq-RELOCATABLE_CODE c = search own-some
+pub returns-else-eq : goal.returns-else-eq
+returns-else-eq c = search (own-none, reloc-no)
 
-pub returns : goal.returns
-returns c = search own-none
+pub returns-in-0 : goal.returns-in-0
+returns-in-0 c = search (own-zero, reloc-yes)
+
+pub returns-in_default : goal.returns-in_default
+returns-in_default c = search (own-some, reloc-yes)

@@ -4,7 +4,7 @@ use mathlib.Core.List.{List, [], ◌++◌}
 use mathlib.Core.Bool.{Bool, true, false, cond}
 use Prim.Native.Nat.{ℕ, ◌+◌, ◌-◌, ◌%◌, ◌<◌, ◌≤◌}
 use native.Mathlib.Omega.{arith}
-use borrow.Author.Tests.{lt-ltb, le-ltb, ltb-false}
+use borrow.Author.Tests.{ltb-false}
 use lib.Dec.{ltb}
 use lib.ListN.{length, take, drop, take-append-drop}
 use lib.Seq.{drop-drop, length-take-le}
@@ -80,12 +80,6 @@ module _ (z z' : List ℕ) (to from hole at n k : ℕ) (ek : k ≡ type_of (drop
   pass-held e q = at_held (λ x. e (ek ∙ x)) q refl refl refl
 
 -- ---- the bay's end
-
-pub used-run : (from hole e : ℕ) → from < e → e ≡ cond (ltb from e) e hole
-used-run from hole e l = rw (lt-ltb from e l)
-
-pub used-hole : (from hole e : ℕ) → e ≤ from → hole ≡ cond (ltb from e) e hole
-used-hole from hole e l = rw (le-ltb from e l)
 
 -- the free block of a part
 hole-part : (z : List ℕ) (p a b : ℕ) → p ≤ a → b ≤ length z → Hole z a b → Hole (slice z p (b - p)) (a - p) (b - p)

@@ -1,7 +1,7 @@
 -- The held blocks of a bay gathered, block by block.
 use mathlib.Core.Path.{◌≡◌, refl, sym, ◌∙◌}
 use mathlib.Core.List.{List, ◌∷◌, ◌++◌, append_assoc, append-nil}
-use Prim.Native.Nat.{ℕ, ◌+◌, ◌%◌, ◌<◌, ◌≤◌}
+use Prim.Native.Nat.{ℕ, ◌+◌, ◌%◌, ◌<◌, ◌≤◌, ◌-◌}
 use native.Mathlib.Omega.{arith}
 use lib.ListN.{length, take, drop, length-take, length-drop}
 use Rattle.bigendian.specs.BigEndian.{slice, overwrite}
@@ -11,9 +11,10 @@ use Rattle.format.specs.WellFormed.{type_of}
 use Rattle.kinds.proofs.KindLaws.{facts}
 use Rattle.bay.specs.Bay.{Cell, free, held, bay_sum, cell_code}
 use Rattle.bay.specs.Bytes.{encode_cell}
-use Rattle.bay.specs.Sound.{bytes_of, cells_of, cell_at, Stepped}
+use Rattle.bay.specs.Sound.{bytes_of, cells_of, cell_at, Stepped, IsBay}
 use Rattle.bay.proofs.BayBytes.{bay-end}
-use Rattle.slide.specs.way.Gathered.{held_bytes, Passed, Gathered}
+use Rattle.slide.specs.declared.way.Front.{Front}
+use Rattle.slide.specs.way.Gathered.{held_bytes, Passed, PassedOne, Gathered}
 use Rattle.slide.proofs.Cases.{free-sum, held-sum}
 
 free-head : (c : Cell) (cs : List Cell) → cell_code c ≡ free_code → held_bytes (c ∷ cs) ≡ held_bytes cs
@@ -64,15 +65,48 @@ module _ (s : List ℕ) (to at n k : ℕ) (h : at < length s) (le : to ≤ at) (
       let e : to ≡ at = omega arith in
       keep-used z s (rw e (write-still s at n st.fits))
 
-pub gather-done : (s₀ s : List ℕ) (from first to at : ℕ) → first ≤ length s₀ → length s ≤ at → at ≤ length s → at % 4 ≡ 0 → to % 4 ≡ 0 → length s ≡ length s₀ → to ≤ at
-    → take to s ++ held_bytes (cells_of (drop at s)) ≡ take from s₀ ++ held_bytes (cells_of (drop first s₀))
-    → to + first + bay_sum (cells_of (drop first s₀)) ≡ from + at + bay_sum (cells_of (drop at s)) → Gathered s₀ from first s to
-unfolding bytes_of
-gather-done s₀ s from first to at f h k qa qt l le inv sum =
-    record {
-      bound = omega arith;
-      four = omega arith;
-      long = l;
-      front = sym (append-nil (take to s)) ∙ (rw (bay-end s at h) at inv);
-      sum = omega (arith, rw (bay-end s at h) at sum);
-    }
+-- ---- the walk
+
+-- of the blocks of s₀ from `first` on those that have been passed stand in s from `from` up to `to`, and the others from `at` on
+pub record UnderWay (s₀ : List ℕ) (from first : ℕ) (s : List ℕ) (to at : ℕ) : Type 0 where
+  pub order : to ≤ at
+  pub within : at ≤ length s
+  pub four_to : to % 4 ≡ 0
+  pub four_at : at % 4 ≡ 0
+  pub long : length s ≡ length s₀
+  pub rest : IsBay (drop at s)
+  pub front : take to s ++ held_bytes (cells_of (drop at s)) ≡ take from s₀ ++ held_bytes (cells_of (drop first s₀))
+  pub sum : to + first + bay_sum (cells_of (drop first s₀)) ≡ from + at + bay_sum (cells_of (drop at s))
+
+pub way-start : (s : List ℕ) (from first : ℕ) → from ≤ first → first ≤ length s → from % 4 ≡ 0 → first % 4 ≡ 0 → IsBay (drop first s) → UnderWay s from first s from first
+way-start s from first l u f g b = record { order = l; within = u; four_to = f; four_at = g; long = refl; rest = b; front = refl; sum = refl }
+
+pub front-start : (s : List ℕ) → IsBay s → UnderWay s 0 0 s 0 0
+front-start s b = way-start s 0 0 (omega arith) (omega arith) refl refl b
+
+module _ (s₀ s : List ℕ) (from first : ℕ) (f : Front) (u : UnderWay s₀ from first s f.to f.at) where
+  pub way_next : (s' : List ℕ) (g : Front) → PassedOne s f s' g → UnderWay s₀ from first s' g.to g.at
+  way_next s' g p = rw p.next (record {
+    order = p.passed.bound;
+    within = omega (arith, p.step.fits, p.passed.long);
+    four_to = p.passed.four;
+    four_at = omega (arith, u.four_at, p.step.four);
+    long = p.passed.long ∙ u.long;
+    rest = p.passed.next;
+    front = p.passed.front ∙ u.front;
+    sum = omega (arith, u.sum, p.passed.sum);
+  })
+
+  pub way-nearer : (s' : List ℕ) (g : Front) → PassedOne s f s' g → length s' - g.at < length s - f.at
+  way-nearer s' g p = omega (arith, p.next, p.step.low, p.step.fits, p.passed.long)
+
+  pub gather-done : length s ≤ f.at → first ≤ length s₀ → Gathered s₀ from first s f.to
+  unfolding bytes_of
+  gather-done h l =
+      record {
+        bound = omega (arith, u.order, u.within);
+        four = omega (arith, u.four_to, u.four_at, u.within);
+        long = u.long;
+        front = sym (append-nil (take f.to s)) ∙ (rw (bay-end s f.at h) at u.front);
+        sum = omega (arith, rw (bay-end s f.at h) at u.sum, u.long, u.within);
+      }

@@ -15,13 +15,28 @@ use Rattle.bay.proofs.BayBytes.{bay-bytes, bay-sound, bytes-long, packed-bytes}
 use Rattle.slide.specs.way.Gathered.{held_bytes, Gathered}
 use Rattle.slide.specs.blank.Between.{Hole, nothing}
 use Rattle.slide.specs.way.Way.{FrontGathered, GaveUp}
+use Rattle.slide.specs.declared.way.Front.{Front}
+use Rattle.slide.proofs.way.Gathered.{UnderWay}
 
--- where there is not room yet, free bytes are still to come
-pub front-goes-on : (s : List ℕ) (n to at sum : ℕ) → IsBay (drop at s) → at - to < n → n ≤ sum → to + sum ≡ at + bay_sum (cells_of (drop at s)) → at < length s
-front-goes-on s n to at sum b l u e =
-    let r = drop at s in
-    let cs = cells_of r in
-    omega (arith, bsize-split cs, bytes-long cs (bay-sound r b), ap length (bay-bytes r b), length-drop at s)
+module _ (s₀ s : List ℕ) (n : ℕ) (f : Front) (u : UnderWay s₀ 0 0 s f.to f.at) where
+  -- where there is not room yet, free bytes are still to come
+  pub front-goes-on : f.at - f.to < n → n ≤ bay_sum (cells_of s₀) → f.at < length s
+  front-goes-on l m =
+      let r = drop f.at s in
+      let cs = cells_of r in
+      omega (arith, bsize-split cs, bytes-long cs (bay-sound r u.rest), ap length (bay-bytes r u.rest), length-drop f.at s, u.sum, u.order)
+
+  pub front-done : n ≤ f.at - f.to → FrontGathered s₀ n s f.to f.at
+  front-done l = record {
+    room = omega (arith, u.order);
+    bound = u.within;
+    four_to = u.four_to;
+    four_at = u.four_at;
+    long = u.long;
+    rest = u.rest;
+    front = u.front;
+    sum = omega (arith, u.sum);
+  }
 
 -- what lies behind the last block, where nothing is free yet
 module _ (s₂ s₃ : List ℕ) (from at end : ℕ) (g : Gathered s₂ from at s₃ end) where

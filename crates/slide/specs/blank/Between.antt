@@ -11,8 +11,9 @@ pub data Hole (z : List ℕ) (a b : ℕ) : Type 0 where
 -- what lies from `from` up to `to` can become one free block, and is free but for what lies from `at` up to `end`
 pub record Between (z : List ℕ) (from at end to : ℕ) : Type 0 where
   pub low : from ≤ at
-  pub some : at + free_header ≤ end
+  pub order : at ≤ end
   pub high : end ≤ to
+  pub some : from + free_header ≤ to
   pub fits : to ≤ length z
   pub short : length z ≤ longest_zone
   pub ahead : Hole z from at

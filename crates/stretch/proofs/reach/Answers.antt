@@ -1,14 +1,9 @@
-use Rattle.stretch.proofs.Laws.{part-refused, part-8, part-10, part-0}
+use Rattle.std.proofs.Common.{refl, arith}
+use Rattle.stretch.specs.Part.{past_end, short}
 use Rattle.stretch.proofs.reach.Goals as goal
 
-pub returns-then-number-ne0 : goal.returns-then-number-ne0
-returns-then-number-ne0 c = search part-refused
+pub returns-then-span-s-clause-err : goal.returns-then-span-s-clause-err
+returns-then-span-s-clause-err c = past_end (omega arith) refl
 
-pub returns-then-size-needed : goal.returns-then-size-needed
-returns-then-size-needed c = search part-8
-
-pub returns-then-have-count : goal.returns-then-have-count
-returns-then-have-count c = search part-10
-
-pub returns : goal.returns
-returns c = search part-0
+pub returns-then-have-count-clause-err : goal.returns-then-have-count-clause-err
+returns-then-have-count-clause-err c = short (omega arith) (omega arith) refl

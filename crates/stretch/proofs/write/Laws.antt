@@ -26,8 +26,14 @@ use Rattle.access.specs.locate.Locate.{target_place, target_data}
 use Rattle.access.specs.Named.{place_among}
 use Rattle.access.proofs.Named.{among-fits}
 use Rattle.access.proofs.locate.Data.{target_fits, target_room}
-use Rattle.stretch.specs.Stretch.{stretch_number, Planned, refused, granted}
-use Rattle.stretch.proofs.Answers.{accepted, copy-number}
+use Rattle.std.specs.Prelude.{Result, Ok, Err}
+use Rattle.std.specs.Result.{IsErrAnd}
+use Rattle.calls.specs.Refusals.{code_of, shown_of}
+use Rattle.calls.specs.declared.Refusal.{Refusal}
+use Rattle.stretch.specs.Stretch.{stretch_number}
+use Rattle.stretch.specs.Part.{IsGranted, IsRefused}
+use Rattle.std.specs.declared.ops.Range.{Range}
+use Rattle.stretch.proofs.Answers.{Accepted, accepted, copy-number}
 use Rattle.stretch.proofs.write.Edited.{flat-rewrite}
 use Rattle.stretch.proofs.write.Refill.{after, len-same, refilled}
 
@@ -72,21 +78,20 @@ module _ (t : Target) (i n : ℕ) (buf s : List ℕ) (y : Bytes s) where
 
 -- ---- the functions
 
-module _ (s : List ℕ) (t : Target) (i n number start end : ℕ) (src : List ℕ) where
-  pub write-long : Planned s t i n (length src) number start end → number ≡ 0 → n ≤ length src
-  write-long (refused q l a b) z = absurd (l z)
-  write-long (granted y k q a b) z = (accepted s t i n (length src) k).long
+module _ (s : List ℕ) (t : Target) (i n : ℕ) (src : List ℕ) where
+  module _ (p : Range ℕ) (g : IsGranted s t i n (length src) p) where
+    abbrev fit : Accepted s t i n (length src)
+    fit = accepted s t i n (length src) g.passed
 
-  pub write-room : Planned s t i n (length src) number start end → number ≡ 0 → start + length (take n src) ≤ length s
-  write-room (refused q l a b) z = absurd (l z)
-  write-room (granted y k q a b) z =
-      let c = accepted s t i n (length src) k in
-      omega (arith, c.room, length-take n src, target_fits s y c.well t c.live, target_room s y c.well t c.live)
+    pub write-long : n ≤ length src
+    write-long = fit.long
 
-  pub write_done : (x : List ℕ) → x ≡ overwrite s start (take n src) → Planned s t i n (length src) number start end → number ≡ 0 → result_of (shows 0 src) x ≡ call (write t i n src) s
-  write_done x e (refused q l a b) z = absurd (l z)
-  write_done x e (granted y k q a b) z = rw (e, a) (sym (write-is t i n src s y ∙ (rw k)))
+    pub write-room : p.start + length (take n src) ≤ length s
+    write-room = omega (arith, g.start_is, fit.room, length-take n src, target_fits s g.bytes fit.well t fit.live, target_room s g.bytes fit.well t fit.live)
 
-  pub write-no : Bytes s → Planned s t i n (length src) number start end → (number ≡ 0 → ⊥) → result_of (shows number src) s ≡ call (write t i n src) s
-  write-no y (refused q l a b) z = sym (write-is t i n src s y ∙ (rw (← q, ne_eqb number 0 z)))
-  write-no y (granted w k q a b) z = absurd (z q)
+    pub write_done : (x : List ℕ) → x ≡ overwrite s p.start (take n src) → result_of (shows 0 src) x ≡ call (write t i n src) s
+    write_done x e = rw (e, g.start_is) (sym (write-is t i n src s g.bytes ∙ (rw g.passed)))
+
+  pub write-no : {T : Type 0} (r : Result T Refusal) (d : Refusal) → IsErrAnd r (λ e. e ≡ d) → IsRefused s t i n (length src) d → result_of (shown_of r src) s ≡ call (write t i n src) s
+  write-no (Ok v) d k x = absurd k
+  write-no (Err e) d k x = let q : e ≡ d = k in rw q (sym (write-is t i n src s x.bytes ∙ (rw (x.number_is, ne_eqb (code_of d) 0 x.some))))

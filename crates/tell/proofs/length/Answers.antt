@@ -1,12 +1,11 @@
-use Rattle.tell.proofs.Laws.{length-1, length-0}
-use Rattle.access.proofs.Checked.{has-length}
+use Rattle.tell.proofs.Laws.{length-ill, length-word, length-done}
 use Rattle.tell.proofs.length.Goals as goal
 
-pub returns-then-not-ok : goal.returns-then-not-ok
-returns-then-not-ok c = search length-1
+pub returns-in_err-z : goal.returns-in_err-z
+returns-in_err-z c = search (length-ill, c.in_err-z.ensures)
 
-pub get4-requires : goal.get4-requires
-get4-requires c = search has-length
+pub overflow_cast-result : goal.overflow_cast-result
+overflow_cast-result c = search (length-word, c.in_ok-z.ensures)
 
 pub returns : goal.returns
-returns c = search length-0
+returns c = search (length-done, c.in_ok-z.ensures)

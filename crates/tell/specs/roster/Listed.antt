@@ -1,15 +1,13 @@
 -- A roster: the records in the order in which the masters stand, and what the parts of its code promise.
-use Rattle.std.specs.Prelude.{◌≡◌, true, cond, List, ◌∷◌, ℕ, ◌+◌, ◌*◌, ◌≤◌, length, eqb}
+use Rattle.std.specs.Prelude.{◌≡◌, cond, List, ◌∷◌, ℕ, ◌+◌, ◌*◌, ◌≤◌, length, eqb}
 use Rattle.std.proofs.Math.Option.{Option, none, some}
-use Rattle.bigendian.specs.BigEndian.{overwrite, Bytes}
+use Rattle.bigendian.specs.BigEndian.{overwrite}
 use Rattle.block_type.specs.Limits.{record_size, zone_header}
-use Rattle.format.specs.WellFormed.{well_formed, count_of, length_field, masters_field, offsets}
+use Rattle.format.specs.WellFormed.{masters_field, offsets}
 use Rattle.kinds.specs.Kinds.{Item, item}
 use Rattle.access.specs.Edit.{place_in, data_in}
-use Rattle.calls.specs.Calls.{roster, told_with}
 use Rattle.calls.specs.Roster.{Card, card_bytes}
 use Rattle.zone.specs.Work as Work
-use Rattle.zone.specs.Call.{call}
 
 -- the block of handle h in the zone z
 abbrev pub block_in : List ℕ → ℕ → Option Item
@@ -27,8 +25,3 @@ pub record Entered (z s : List ℕ) (at h : ℕ) (y : List ℕ) (r : ℕ) : Type
   pub long : length y ≡ length s
   pub left : (hs : List ℕ) → r + record_size * length (live_cards z hs) ≡ at + record_size * length (live_cards z (h ∷ hs))
   pub same : (hs : List ℕ) → at + record_size * length (live_cards z (h ∷ hs)) ≤ length s → overwrite y r (card_bytes (live_cards z hs)) ≡ overwrite s at (card_bytes (live_cards z (h ∷ hs)))
-
--- the refusal n for a second buffer of some length; or k records are to be written, and l is the zone's length
-pub data Planned (s : List ℕ) (have n k l : ℕ) : Type 0 where
-  refused : (n ≡ 0 → ⊥) → ((entry : List ℕ) → length entry ≡ have → told_with n 0 entry ≡ (call (roster entry) s).answer) → Planned s have n k l
-  ready : n ≡ 0 → well_formed s ≡ true → Bytes s → l ≡ length_field s → k ≡ count_of s → record_size * k ≤ have → Planned s have n k l

@@ -1,8 +1,8 @@
 -- What the search answers, in the words of the table.
-use Rattle.std.proofs.Common.{◌≡◌, ℕ, ◌%◌, ◌<◌, ◌≤◌, Bool, true, false, cond, not, ltb, leb, List, length, sym, refl, ap, ◌∙◌, ap₂, arith, le-ltb, lt-ltb, le-leb}
+use Rattle.std.proofs.Common.{◌≡◌, ℕ, ◌%◌, ◌<◌, ◌≤◌, Bool, true, false, cond, not, ltb, leb, List, sym, refl, ap, ◌∙◌, ap₂, arith, le-ltb, lt-ltb, le-leb}
 use mathlib.Core.Option.{Option, none, some, get_or}
 use borrow.Author.Tests.{lt-leb}
-use Rattle.block_type.specs.Limits.{argument_range, clock_at}
+use Rattle.block_type.specs.Limits.{argument_range}
 use Rattle.format.specs.WellFormed.{first_field, clock_field}
 use Rattle.kinds.specs.Kinds.{Item, has_name}
 use Rattle.calls.specs.Bays.{Bays, concat_s, max_s}
@@ -45,40 +45,41 @@ zone-named z i =
     let w = whole-bays (len s) s (valid-zone z (whole_of z i)) (omega arith) in
     record { fits = λ e o. (items_of (every_items w.clean.clean) o).written.1; once = λ n. omega (arith, w.apart.apart n, many-flat (has_name n) items (bays_of s)) }
 
--- the clock lies in the header
-pub clock-inside : (z : List ℕ) → IsZone z → clock_at < length z
-clock-inside z i = omega (arith, (whole_of z i).long)
+-- ---- a walk over a zone's blocks is one over its bays
 
--- ---- the blocks begin at `first`
+pub weighed-all : (z : List ℕ) (i : IsZone z) (ck t sum under over : ℕ) → Weighed ck t (bays_at z (first_field z)) sum under over → Weighed ck t (bays_of (decode_zone z)) sum under over
+weighed-all z i ck t sum under over w = rw (← (zone-bays z i (first_field z) refl).bays) w
 
-module _ (z : List ℕ) (need first ck : ℕ) (i : IsZone z) (ef : first ≡ first_field z) (ec : ck ≡ clock_field z) where
+pub dirty-all : (z : List ℕ) (i : IsZone z) (ck r : ℕ) → r ≡ least_dirty ck (concat_s items (bays_at z (first_field z))) → r ≡ least_dirty ck (concat_s items (bays_of (decode_zone z)))
+dirty-all z i ck r e = rw (← (zone-bays z i (first_field z) refl).bays) e
+
+-- ---- the search
+
+module _ (z : List ℕ) (need ck : ℕ) (i : IsZone z) (ec : ck ≡ clock_field z) where
   abbrev bays : Bays (List Cell) Fixed
   bays = bays_of (decode_zone z)
 
   abbrev clock : ℕ
   clock = (decode_zone z).clock
 
-  bays-are : bays_at z first ≡ bays
-  bays-are = (zone-bays z i first ef).bays
-
   clock-is : ck ≡ clock
   unfolding decode_zone
   clock-is = ec
 
-  sum_is : (t : ℕ) → sum_below ck t (bays_at z first) ≡ sum_below clock t bays
-  sum_is t = ap₂ (λ (c : ℕ) (s : Bays (List Cell) Fixed). sum_below c t s) clock-is bays-are
+  sum_is : (t : ℕ) → sum_below ck t bays ≡ sum_below clock t bays
+  sum_is t = ap (λ (c : ℕ). sum_below c t bays) clock-is
 
   -- with the limit 0 no page goes
-  none-gone : sum_below ck 0 (bays_at z first) ≡ max_s bay_sum bays
+  none-gone : sum_below ck 0 bays ≡ max_s bay_sum bays
   none-gone = sum_is 0 ∙ sum-none (goes clock 0) (none-goes clock) bays
 
   emptied : sum_below clock rank_range bays ≡ sum_without items bay_sum unlocked bays
   emptied = without_all items bay_sum clock bays (zone-named z i)
 
-  pub turn-starts : (r under over : ℕ) → max_s bay_sum (bays_of (decode_zone z)) < need → Weighed ck rank_range (bays_at z first) r under over → need ≤ r → Between ck need 1 under (bays_at z first)
-  turn-starts r under over l w m = halve-start ck need (bays_at z first) r under over (omega (arith, none-gone)) w m
+  pub turn-starts : (r under over : ℕ) → max_s bay_sum (bays_of (decode_zone z)) < need → Weighed ck rank_range (bays_of (decode_zone z)) r under over → need ≤ r → Between ck need 1 under (bays_of (decode_zone z))
+  turn-starts r under over l w m = halve-start ck need bays r under over (omega (arith, none-gone)) w m
 
-  pub turn-five : (r under over : ℕ) → Weighed ck rank_range (bays_at z first) r under over → r < need → InTurn z need 5 0 0
+  pub turn-five : (r under over : ℕ) → Weighed ck rank_range (bays_of (decode_zone z)) r under over → r < need → InTurn z need 5 0 0
   turn-five r under over w l = record {
     number_is = sym (ap (λ (b : Bool). number_by (not b) (first_dirty (dropping items bay_sum need (bayed z))))
         (lt-leb need (sum_without items bay_sum unlocked bays) (omega (arith, w.sum_is, sum_is rank_range, emptied))));
@@ -87,7 +88,7 @@ module _ (z : List ℕ) (need first ck : ℕ) (i : IsZone z) (ef : first ≡ fir
     gone = λ q. absurd (omega arith);
   }
 
-  module _ (t d : ℕ) (l : Least ck need t (bays_at z first)) (ed : d ≡ least_dirty ck (concat_s items (bays_at z first))) where
+  module _ (t d : ℕ) (l : Least ck need t (bays_of (decode_zone z))) (ed : d ≡ least_dirty ck (concat_s items (bays_of (decode_zone z)))) where
     least : Least clock need t bays
     least = record { enough = omega (arith, l.enough, sum_is t); less = λ u v. omega (arith, l.less u v, sum_is u); top = l.top }
 
@@ -95,7 +96,7 @@ module _ (z : List ℕ) (need first ck : ℕ) (i : IsZone z) (ef : first ≡ fir
     does = le-leb need (sum_without items bay_sum unlocked bays) (omega (arith, least.enough, without_more items bay_sum clock t rank_range l.top bays, emptied))
 
     dirty-is : d ≡ least_dirty clock (concat_s items bays)
-    dirty-is = ed ∙ ap₂ (λ (c : ℕ) (s : Bays (List Cell) Fixed). least_dirty c (concat_s items s)) clock-is bays-are
+    dirty-is = ed ∙ ap (λ (c : ℕ). least_dirty c (concat_s items bays)) clock-is
 
     stop_is : first_dirty (dropping items bay_sum need (bayed z)) ≡ cond (ltb d t) (some (d % argument_range)) none
     stop_is = rw dirty-is (dropping-dirty need t (bayed z) (zone-named z i) least)
@@ -117,7 +118,6 @@ module _ (z : List ℕ) (need first ck : ℕ) (i : IsZone z) (ef : first ≡ fir
 
 pub turn-free : (z : List ℕ) (need : ℕ) → IsZone z → need ≤ max_s bay_sum (bays_of (decode_zone z)) → InTurn z need 0 0 0
 turn-free z need i l =
-    let first = first_field z in
     let ck = clock_field z in
-    turn-found z need first ck i refl refl 0 (least_dirty ck (concat_s items (bays_at z first)))
-    (record { enough = omega (arith, none-gone z need first ck i refl refl); less = λ u v. absurd (omega arith); top = omega arith }) refl (omega arith)
+    turn-found z need ck i refl 0 (least_dirty ck (concat_s items (bays_of (decode_zone z))))
+    (record { enough = omega (arith, none-gone z need ck i refl); less = λ u v. absurd (omega arith); top = omega arith }) refl (omega arith)

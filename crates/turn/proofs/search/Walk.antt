@@ -1,5 +1,5 @@
 -- One walk over all blocks: what it has seen and what is left are the bays' sums, the limits next to the walk's, and the least rank of a dirty page.
-use Rattle.std.proofs.Common.{◌≡◌, ℕ, ◌+◌, ◌<◌, ◌≤◌, min, max, Bool, true, false, cond, not, ◌&&◌, ltb, List, [], ◌∷◌, length, drop, sym, refl, ap, ◌∙◌, ap₂, arith, ltb-false, ltb-true, le-ltb, lt-ltb}
+use Rattle.std.proofs.Common.{◌≡◌, ℕ, ◌+◌, ◌<◌, ◌≤◌, min, max, Bool, true, false, cond, not, ◌&&◌, ltb, List, [], ◌∷◌, length, drop, Option, Some, None, sym, refl, ap, ◌∙◌, ap₂, arith, ltb-false, ltb-true, le-ltb, lt-ltb}
 use borrow.Author.Tests.{eqb-false}
 use Rattle.block_type.specs.Limits.{free_code, fixed_code}
 use Rattle.format.specs.WellFormed.{type_of}
@@ -15,7 +15,9 @@ use Rattle.zone.proofs.GroupLaws.{flatten-group}
 use Rattle.access.specs.row.Row.{blocks_of, block_at, Stepped}
 use Rattle.access.proofs.row.Laws.{row-end}
 use Rattle.bays.specs.Places.{bays_at}
-use Rattle.turn.specs.Rank.{rank_range, limit_range, rank, key_below, goes, key_loose_rank, loose_rank, loose_rank_b, dirty_rank_b, least_dirty}
+use Rattle.turn.specs.Rank.{rank_range, limit_range, rank, key_below, goes, key_loose_rank, loose_rank, dirty_rank_b, ranked_b, rank_found, least_dirty}
+use Rattle.turn.specs.declared.rank.Ranked.{Ranked}
+use Rattle.turn.proofs.rank.Page.{loose_in, loose-is, dirty_in, dirty-is}
 use Rattle.turn.specs.Walk.{part, best_past, sum_past, under_past, over_past, unders, overs, Past}
 use Rattle.turn.specs.Limit.{sum_below, Weighed}
 use Rattle.turn.proofs.Dirty.{least-most}
@@ -88,14 +90,14 @@ module _ (ck t : ℕ) where
       step (cell (held e)) = omega arith
       step (fixed d) = omega arith
 
+  pub over-most : (over : ℕ) (b : Block) → over_past ck t b over ≤ over
+  over-most over (cell (free n)) = omega arith
+  over-most over (cell (held e)) = omega arith
+  over-most over (fixed d) = omega arith
+
   over-to : (over : ℕ) (bs : List Block) → overs ck t over bs ≤ over
   over-to over [] = omega arith
-  over-to over (b ∷ bs) = omega (arith, step b, over-to (over_past ck t b over) bs)
-    where
-      step : (b : Block) → over_past ck t b over ≤ over
-      step (cell (free n)) = omega arith
-      step (cell (held e)) = omega arith
-      step (fixed d) = omega arith
+  over-to over (b ∷ bs) = omega (arith, over-most over b, over-to (over_past ck t b over) bs)
 
   under-most : (under : ℕ) (bs : List Block) → under ≤ t → unders ck t under bs ≤ t
   under-most under [] l = l
@@ -224,21 +226,42 @@ module _ (ck t : ℕ) where
         go (cell (held i)) q l = absurd (eqb-false _ free_code (not_free i) q)
         go (fixed d) q l = absurd (omega arith)
 
-    module _ (nx : k ≡ fixed_code → ⊥) (nf : k ≡ free_code → ⊥) (m : t ≤ rank_range) where
-      pub past-held : (r a u u' v v' : ℕ) → r ≡ loose_rank_b ck (block_at z at) → a ≡ cond (ltb r t) n 0 → a ≤ n → u ≡ cond (ltb r t) (r + 1) 0 → u' ≡ max under u
-          → v ≡ cond (ltb r t) limit_range (r + 1) → v' ≡ min over v → Past ck t (block_at z at) n best sum under over best (sum + a) u' v'
-      past-held r a u u' v v' er ea la eu eu' ev ev' = go (block_at z at) (ek ∙ sym st.kind) st.bytes er
+    module _ (nx : k ≡ fixed_code → ⊥) (nf : k ≡ free_code → ⊥) (m : t ≤ rank_range) (o : Option Ranked) (eo : o ≡ ranked_b ck (block_at z at)) where
+      past-held : (sum' under' over' : ℕ) → sum' ≡ sum + cond (ltb (loose_in o) t) n 0 → sum' ≤ sum + n → under' ≡ max under (cond (ltb (loose_in o) t) (loose_in o + 1) 0)
+          → over' ≡ min over (cond (ltb (loose_in o) t) limit_range (loose_in o + 1)) → Past ck t (block_at z at) n best sum under over best sum' under' over'
+      past-held sum' under' over' es ls eu ev = go (block_at z at) (ek ∙ sym st.kind) st.bytes eo
         where
-          go : (b : Block) → k ≡ code b → size b ≡ n → r ≡ loose_rank_b ck b → Past ck t b n best sum under over best (sum + a) u' v'
+          go : (b : Block) → k ≡ code b → size b ≡ n → o ≡ ranked_b ck b → Past ck t b n best sum under over best sum' under' over'
           go (cell (free m)) q y l = absurd (nf q)
           go (fixed d) q y l = absurd (nx q)
-          go (cell (held i)) q y l = record {
-            best_is = refl;
-            sum_is = ap (sum +◌) (ea ∙ ap₂ (λ (h : ℕ) (e : ℕ). cond (ltb h t) e 0) l (sym y) ∙ ap (λ (f : Bool). cond f (item_size i) 0) (sym (goes-loose ck t m i)));
-            small = omega arith;
-            under_is = eu' ∙ ap (max under) (eu ∙ ap (λ (h : ℕ). cond (ltb h t) (h + 1) 0) l);
-            over_is = ev' ∙ ap (min over) (ev ∙ ap (λ (h : ℕ). cond (ltb h t) limit_range (h + 1)) l);
-          }
+          go (cell (held i)) q y l =
+              let r : loose_in o ≡ loose_rank ck i = ap loose_in l ∙ loose-is ck i in
+              record {
+                best_is = refl;
+                sum_is = es ∙ ap (sum +◌) (ap₂ (λ (h : ℕ) (e : ℕ). cond (ltb h t) e 0) r (sym y) ∙ ap (λ (f : Bool). cond f (item_size i) 0) (sym (goes-loose ck t m i)));
+                small = ls;
+                under_is = eu ∙ ap (max under) (ap (λ (h : ℕ). cond (ltb h t) (h + 1) 0) r);
+                over_is = ev ∙ ap (min over) (ap (λ (h : ℕ). cond (ltb h t) limit_range (h + 1)) r);
+              }
+
+      -- where it does not go, whether it has a rank or not
+      past-kept : (over' : ℕ) → t ≤ loose_in o → over' ≡ min over (loose_in o + 1) → Past ck t (block_at z at) n best sum under over best sum under over'
+      past-kept over' l ev =
+          let f = le-ltb (loose_in o) t l in
+          past-held sum under over' (rw f (omega arith)) (omega arith) (rw f (omega arith)) (rw f ev)
+
+      pub past-none : o ≡ None → over ≤ limit_range → Past ck t (block_at z at) n best sum under over best sum under over
+      past-none q l = let e : loose_in o ≡ rank_range = ap loose_in q in past-kept over (omega arith) (omega (arith, e))
+
+      module _ (r : Ranked) (q : o ≡ Some r) where
+        pub past-stays : (over' : ℕ) → t ≤ r.rank → over' ≡ min over (r.rank + 1) → Past ck t (block_at z at) n best sum under over best sum under over'
+        past-stays over' l ev = let e : loose_in o ≡ r.rank = ap loose_in q in past-kept over' (omega (arith, e)) (omega (arith, e))
+
+        pub past-goes : (under' : ℕ) → r.rank < t → over ≤ limit_range → under' ≡ max under (r.rank + 1) → Past ck t (block_at z at) n best sum under over best (sum + n) under' over
+        past-goes under' l h eu =
+            let e : loose_in o ≡ r.rank = ap loose_in q in
+            let f = lt-ltb (loose_in o) t (omega (arith, e)) in
+            past-held (sum + n) under' over (rw f refl) (omega arith) (rw f (omega (arith, e))) (rw f (omega arith))
 
 -- ---- the least rank of a dirty page
 
@@ -265,9 +288,32 @@ module _ (ck : ℕ) where
   pub dirty-start : (z : List ℕ) (first : ℕ) → min rank_range (least_in ck (blocks_of (drop first z))) ≡ least_dirty ck (concat_s items (bays_at z first))
   dirty-start z first = omega (arith, least-is first (blocks_of (drop first z)), least-most ck (concat_s items (bays_at z first)))
 
-  pub dirty-next : (z : List ℕ) (at n least r least' w : ℕ) → Stepped z at n → r ≡ dirty_rank_b ck (block_at z at) → least' ≡ min least r
-      → min least (least_in ck (blocks_of (drop at z))) ≡ w → min least' (least_in ck (blocks_of (drop (at + n) z))) ≡ w
-  dirty-next z at n least r least' w st er el inv = omega (arith, ap (least_in ck) st.blocks, er, el, inv)
+  -- one block more, of which rank_at says o; l is the least rank before it
+  module _ (z : List ℕ) (at n : ℕ) (st : Stepped z at n) (o : Option Ranked) (eo : o ≡ ranked_b ck (block_at z at)) (w : ℕ) (l : Option ℕ)
+      (inv : min (rank_found l) (least_in ck (blocks_of (drop at z))) ≡ w) where
+    dirty-next : (m : ℕ) → m ≡ min (rank_found l) (dirty_in o) → min m (least_in ck (blocks_of (drop (at + n) z))) ≡ w
+    dirty-next m e = omega (arith, ap (least_in ck) st.blocks, ap dirty_in eo, dirty-is ck (block_at z at), inv)
+
+    pub dirty-none : o ≡ None → rank_found l ≤ rank_range → min (rank_found l) (least_in ck (blocks_of (drop (at + n) z))) ≡ w
+    dirty-none q m = dirty-next (rank_found l) (omega (arith, ap dirty_in q))
+
+    module _ (p : Ranked) (q : o ≡ Some p) where
+      pub dirty-clean : p.dirty ≡ false → rank_found l ≤ rank_range → min (rank_found l) (least_in ck (blocks_of (drop (at + n) z))) ≡ w
+      dirty-clean d m = let e : dirty_in o ≡ rank_range = ap dirty_in q ∙ ap (λ (f : Bool). cond f p.rank rank_range) d in dirty-next (rank_found l) (omega (arith, e))
+
+      module _ (d : p.dirty ≡ true) where
+        rank-of : dirty_in o ≡ p.rank
+        rank-of = ap dirty_in q ∙ ap (λ (f : Bool). cond f p.rank rank_range) d
+
+        pub dirty-first : l ≡ None → p.rank < rank_range → min p.rank (least_in ck (blocks_of (drop (at + n) z))) ≡ w
+        dirty-first y m = dirty-next p.rank (omega (arith, rank-of, ap rank_found y))
+
+        module _ (r : ℕ) (y : l ≡ Some r) where
+          pub dirty-keeps : r ≤ p.rank → min r (least_in ck (blocks_of (drop (at + n) z))) ≡ w
+          dirty-keeps m = dirty-next r (omega (arith, rank-of, ap rank_found y))
+
+          pub dirty-less : p.rank < r → min p.rank (least_in ck (blocks_of (drop (at + n) z))) ≡ w
+          dirty-less m = dirty-next p.rank (omega (arith, rank-of, ap rank_found y))
 
   pub dirty-done : (z : List ℕ) (at least w : ℕ) → length z ≤ at → least ≤ rank_range → min least (least_in ck (blocks_of (drop at z))) ≡ w → least ≡ w
   dirty-done z at least w l m inv = omega (arith, ap (least_in ck) (row-end z at l), inv)

@@ -1,16 +1,16 @@
-use mathlib.Core.Path.{refl}
-use borrow.Author.Rules.{rules}
-use Rattle.zone_check.proofs.Turns.{walked_start, zeros-empty, found_none, first-page, first-names, first_found, one-walk, two-walks}
+use Rattle.zone_check.proofs.Turns.{walked_start, unseen_start, found_none, first-unseen, one-walk, second-walk}
 use Rattle.zone_check.proofs.blocks_ok.Goals as goal
 
-pub walk-w-requires : goal.walk-w-requires
-walk-w-requires c = (search walked_start, refl, zeros-empty 1, search found_none)
-
 pub walk-requires : goal.walk-requires
-walk-requires c = (search first-page, search first-names, search zeros-empty, search first_found)
+walk-requires c = (search walked_start, search unseen_start, search found_none)
 
-pub returns-then-w-at : goal.returns-then-w-at
-returns-then-w-at c = search (two-walks, rules)
+pub walk-requires-then-t-z : goal.walk-requires-then-t-z
+walk-requires-then-t-z c =
+    let e = c.in_ok-t.ensures.0 in
+    (c.in_ok-t.ensures.1.good, search (first-unseen, c.in_ok-t.ensures.1), rw e c.in_ok-t.ensures.1.finds)
+
+pub returns-then-t-z : goal.returns-then-t-z
+returns-then-t-z c = second-walk _ _ _ _ _ _ _ c.walk-then-t-z.ensures c.in_ok-t.ensures.0
 
 pub returns : goal.returns
-returns c = search one-walk
+returns c = search (one-walk, c.in_ok-t.ensures.1)

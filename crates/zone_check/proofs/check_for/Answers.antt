@@ -1,20 +1,11 @@
-use lib.ListN.{length-take}
-use native.Mathlib.Omega.{arith}
-use Rattle.format.proofs.Bool.{passed}
-use Rattle.zone_check.proofs.Zone.{form-no, count_no, page-no, form-body, count-body, page-body}
+use Rattle.zone_check.proofs.Zone.{form-no, header-body, body-checked}
 use Rattle.zone_check.proofs.check_for.Goals as goal
 
-pub returns-then-not-header_ok : goal.returns-then-not-header_ok
-returns-then-not-header_ok c = (search form-no, search count_no, search page-no)
-
-pub fields-h-requires : goal.fields-h-requires
-fields-h-requires c = search passed
-
-pub slice_bounds-z-end : goal.slice_bounds-z-end
-slice_bounds-z-end c = simp length-take (omega arith)
+pub returns-in_err-h : goal.returns-in_err-h
+returns-in_err-h c = rw c.from_residual.ensures (search (form-no, c.in_err-h.ensures))
 
 pub body-requires : goal.body-requires
-body-requires c = simp length-take (omega arith)
+body-requires c = search (header-body, c.in_ok-h.ensures)
 
 pub returns : goal.returns
-returns c = (search form-body, search count-body, search page-body)
+returns c = search (body-checked, c.in_ok-h.ensures)

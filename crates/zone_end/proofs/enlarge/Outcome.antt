@@ -2,26 +2,28 @@
 use mathlib.Core.Path.{◌≡◌, refl, sym, ap, ◌∙◌}
 use mathlib.Core.Bool.{Bool, true, false}
 use mathlib.Core.List.{List, []}
-use Prim.Native.Nat.{ℕ, zero, suc, ◌+◌}
+use Prim.Native.Nat.{ℕ, ◌+◌}
 use native.Mathlib.Omega.{arith}
 use lib.ListN.{length, get_or}
 use mir.Val.{Fits}
 use mir.Syntax.{w8}
 use Rattle.bigendian.specs.BigEndian.{Bytes}
-use Rattle.format.specs.WellFormed.{well_formed, zone_of, length_field}
-use Rattle.structure.specs.Structure.{decode_zone}
+use Rattle.format.specs.WellFormed.{well_formed, length_field}
 use Rattle.calls.specs.Calls.{Answer, told, enlarge, length_of, sums}
 use Rattle.calls.specs.Bays.{Bays, last, more, on_last, sum_s}
 use Rattle.bay.specs.Bay.{Cell, bay_sum, gap, join_bays}
 use Rattle.bay.proofs.Laws.{bsum-gap, bsum-weld}
 use Rattle.calls.specs.State.{Fixed}
-use Rattle.zone.specs.Call.{zone_in, Result, call}
-use Rattle.call_laws.specs.Frame.{Planned}
+use Rattle.calls.specs.declared.Refusal.TheVariants.{NotWellFormed}
+use Rattle.std.specs.Prelude.{Err}
+use Rattle.zone.specs.Call.{zone_in, Result, result_of, call}
+use Rattle.structure.specs.IsZone.{is_zone}
+use Rattle.access.specs.Checked.{HasZone}
+use Rattle.access.proofs.Checked.{fields-of}
 use Rattle.call_laws.proofs.Accepted.{Accepted, accepted, before, after}
-use Rattle.call_laws.proofs.Frame.{plan-ill, frame-no}
-use Rattle.zone_end.specs.enlarge.Enlarge.{accepts, last_free}
-use Rattle.zone_end.specs.enlarge.Ready.{ReadyIn}
-use Rattle.zone_end.proofs.enlarge.Call.{plan-9, plan-0, call-idle}
+use Rattle.call_laws.proofs.Refused.{done-ill}
+use Rattle.zone_end.specs.enlarge.Enlarge.{accepts}
+use Rattle.zone_end.proofs.enlarge.Call.{call-no, call-idle}
 
 -- ---- the sum of the bays
 
@@ -53,16 +55,13 @@ enlarge-none s y = go (well_formed s) refl
     bytes : (i : ℕ) → Fits w8 (get_or s i 0)
     bytes i = record { fits = y i }
 
-    still : (number l from : ℕ) → Planned (enlarge 0) s number l (ReadyIn s 0 l from) → left 0 s ≡ s
-    still zero l from p = ap (λ (r : Result). r.bytes) (sym (call-idle s 0 zero l from p refl bytes refl))
-    still (suc n) l from p = ap (λ (r : Result). r.bytes) (sym (frame-no (enlarge 0) s (suc n) l _ p (λ f. refl) (λ e. omega arith)))
+    same : {b : Answer} → result_of b s ≡ call (enlarge 0) s → left 0 s ≡ s
+    same q = ap (λ (r : Result). r.bytes) (sym q)
 
-    within : (w : well_formed s ≡ true) (t : Bool) → t ≡ accepts (length s) (length_field s + 0) 0 → left 0 s ≡ s
-    within w false a = still 9 0 0 (plan-9 s 0 (length_field s) true false (sym w) refl refl a bytes 0 0 refl)
-    within w true a =
-        let from = last_free (decode_zone (zone_of s)) in
-        still 0 (length_field s) from (plan-0 s 0 (length_field s) true true (sym w) refl refl a bytes from refl refl)
+    within : HasZone s (length_field s) → (t : Bool) → t ≡ accepts (length s) (length_field s + 0) 0 → left 0 s ≡ s
+    within h false a = same (call-no s 0 (length_field s) h false a refl)
+    within h true a = same (call-idle s 0 (length_field s) h true a refl bytes refl)
 
     go : (t : Bool) → well_formed s ≡ t → left 0 s ≡ s
-    go true w = within w (accepts (length s) (length_field s + 0) 0) refl
-    go false w = still 1 0 0 (plan-ill (enlarge 0) s 1 0 _ false (sym w) refl refl refl)
+    go true w = within (record { well = w; is_len = refl; within = omega (arith, (fields-of s w).room); zone = is_zone s y w refl }) (accepts (length s) (length_field s + 0) 0) refl
+    go false w = same (done-ill (enlarge 0) s (λ n v. refl) {T = ℕ} NotWellFormed (λ n f. refl) refl (Err NotWellFormed) refl (record { ill = w; refusal_is = refl }))

@@ -178,7 +178,8 @@ module _ (z : List ℕ) (i : IsZone z) where
       pub between : Between (z ++ g) (last_free d) (length z) (length (z ++ g)) (length (z ++ g))
       between = record {
         low = omega (arith, total);
-        some = omega (arith, long, by4 buf (length z + k) k a);
+        order = omega (arith, long);
+        some = omega (arith, total, long, by4 buf (length z + k) k a);
         high = omega arith;
         fits = omega arith;
         short = omega (arith, long, limit buf (length z + k) k a);

@@ -1,13 +1,13 @@
 -- The plan and the call.
 use mathlib.Core.Path.{◌≡◌, refl, sym, ap, ◌∙◌, subst}
-use mathlib.Core.Bool.{Bool, false, cond}
+use mathlib.Core.Bool.{Bool, true, false, cond}
 use mathlib.Core.List.{List, [], ◌∷◌, ◌++◌}
 use Prim.Native.Nat.{ℕ, ◌+◌, ◌*◌, ◌-◌, ◌/◌, ◌%◌, ◌≤◌, min}
 use native.Mathlib.Omega.{arith}
 use borrow.Author.Tests.{eq-eqb, ne_eqb}
 use lib.ListN.{length, get_or, take, drop, replicate}
 use mir.Val.{Fits}
-use mir.Syntax.{w8, w32}
+use mir.Syntax.{w8}
 use Rattle.format.specs.WellFormed.{first_field}
 use Rattle.structure.specs.Structure.{Structure, fixed, sizes, start, len, decode_zone, encode}
 use Rattle.structure.proofs.Table.{encode-zone}
@@ -22,17 +22,20 @@ use Rattle.zone.specs.Group.{flatten}
 use Rattle.zone.specs.Work.{Zone, work}
 use Rattle.zone.specs.Call.{in_line, result_of, call}
 use Rattle.zone.proofs.GroupLaws.{flatten-group}
-use Rattle.bays.specs.Places.{bays_of, bay_n, bays_at, high_bay}
+use Rattle.bays.specs.Places.{bays_of, bay_of, bays_at, high_bay}
 use Rattle.bays.specs.Found.{FoundLast}
 use Rattle.bays.proofs.At.{bay-sizes, at_old}
 use Rattle.bays.proofs.High.{last_found}
 use Rattle.settle.proofs.Bay.{cells-sound}
 use Rattle.room.proofs.bay_end.Found.{zone-tiled, zone-high}
-use Rattle.call_laws.specs.Frame.{zone_at, Does, PlannedIn, goes, Planned}
-use Rattle.call_laws.proofs.Frame.{frame-ready, frame-cut, frame_same}
-use Rattle.zone_end.specs.shrink.Stripped.{strips, stripped, Site}
-use Rattle.zone_end.specs.shrink.Ready.{ReadyIn}
-use Rattle.zone_end.proofs.shrink.Placed.{ask-sub, ask-end}
+use Rattle.access.specs.Checked.{Opened}
+use Rattle.access.specs.declared.opened.Zone as Access
+use Rattle.call_laws.specs.Frame.{zone_at, Does}
+use Rattle.call_laws.proofs.Refused.{zone-cut, zone-same}
+use Rattle.zone_end.specs.shrink.Stripped.{strips, stripped}
+use Rattle.zone_end.specs.shrink.Ready.{SiteOf, Ready}
+use Rattle.zone_end.specs.declared.shrink.Plan.{Plan}
+use Rattle.bays.specs.declared.Bay.{Bay}
 use Rattle.structure.specs.IsZone.{IsZone}
 use Rattle.structure.proofs.IsZone.{whole_of}
 
@@ -51,23 +54,22 @@ lesser-four k t e = omega arith
 
 -- ---- the plan
 
-module _ (z : List ℕ) (i : IsZone z) (first : ℕ) (ef : first ≡ first_field z) (k n a e sum tail : ℕ) (f : Bool) (en : n ≡ min (k / 4 * 4) sum)
-    (q : bay_n f a e sum tail ≡ high_bay 0 first (bays_at z first)) where
+module _ (z : List ℕ) (i : IsZone z) (first : ℕ) (ef : first ≡ first_field z) (k n : ℕ) (b : Bay) (en : n ≡ min (k / 4 * 4) b.sum)
+    (q : bay_of b ≡ high_bay 0 first (bays_at z first)) where
   abbrev d : Structure
   d = decode_zone z
 
-  found : FoundLast (start d) (len d) (take_high n) (bays_of d) a e sum tail
-  found = last_found (len d) (take_high n) f a e sum tail (bays_of d) (start d) (zone-tiled z i first ef) (zone-high z i first ef 0 _ q)
+  found : FoundLast (start d) (len d) (take_high n) (bays_of d) b.start b.end b.sum b.tail
+  found = last_found (len d) (take_high n) true b.start b.end b.sum b.tail (bays_of d) (start d) (zone-tiled z i first ef) (zone-high z i first ef 0 _ q)
 
-  pub plan-done : PlannedIn (shrink k) z 0 (ReadyIn z k n a e sum tail)
+  pub plan-done : Ready z k (record { strip = n; bay = b })
   plan-done =
-      let es : sum ≡ bay_sum (last_s (bays_of d)) = found.numbers.sum_is in
-      let t : sum % 4 ≡ 0 =
+      let es : b.sum ≡ bay_sum (last_s (bays_of d)) = found.numbers.sum_is in
+      let t : b.sum % 4 ≡ 0 =
       ap (λ (m : ℕ). m % 4) es
       ∙ sum-four (last_s (bays_of d)) (cells-sound d (valid-zone z (whole_of z i)) found.before [] (last_s (bays_of d)) (sym (flatten-group (start d) d.blocks) ∙ at_old found.at)) in
-      let n4 : n % 4 ≡ 0 = ap (λ (m : ℕ). m % 4) en ∙ lesser-four k sum t in
-      goes refl
-      (record { zone = i; is_strip = en ∙ ap (min (k / 4 * 4)) es; site = λ l. record { zone = i; found = found; low = omega (arith, n4); fits = omega (arith, en, es); four = n4 } })
+      let n4 : n % 4 ≡ 0 = ap (λ (m : ℕ). m % 4) en ∙ lesser-four k b.sum t in
+      record { zone = i; is_strip = en ∙ ap (min (k / 4 * 4)) es; site = λ l. record { zone = i; found = found; low = omega (arith, n4); fits = omega (arith, en, es); four = n4 } }
 
 -- ---- the work, in a zone's bytes z of which m are stripped
 
@@ -109,23 +111,23 @@ module _ (buf : ℕ) (z : List ℕ) (k m : ℕ) (is_m : m ≡ strips (decode_zon
 
 -- ---- the call
 
-module _ (s : List ℕ) (k number l n a e sum tail : ℕ) (p : Planned (shrink k) s number l (ReadyIn (take l s) k n a e sum tail)) (z : number ≡ 0) where
-  r : ReadyIn (take l s) k n a e sum tail
-  r = frame-ready (shrink k) s number l _ p z
+module _ (s : List ℕ) (k : ℕ) (z : Access.Zone) (o : Opened s z) (p : Plan) (r : Ready z.bytes.now k p) where
+  abbrev l : ℕ
+  l = length z.bytes.now
 
-  pub call_none : ((i : ℕ) → Fits w8 (get_or s i 0)) → n ≡ 0 → result_of (told 0 0) s ≡ call (shrink k) s
-  call_none g q =
-      frame_same (shrink k) s number l _ p g z (stays (length s) (take l s) k n r.is_strip q) tt (stays-long (length s) (take l s) k n r.is_strip q)
-      (sym (encode-zone (take l s) (whole_of (take l s) r.zone)))
+  there : Ready (take l s) k p
+  there = rw o.there r
 
-  module _ (ne : n ≡ 0 → ⊥) where
-    pub call-site : Site (take l s) n a e sum tail
-    call-site = r.site (omega (arith, ne))
+  pub call-site : (p.strip ≡ 0 → ⊥) → SiteOf (take (length z.bytes.now) s) p
+  call-site ne = there.site (omega (arith, ne))
 
-    pub call-word : Fits w32 n
-    call-word = record { fits = omega (arith, ask-sub (take l s) n a e sum tail call-site, ask-end (take l s) n a e sum tail call-site) }
+  module _ (g : (i : ℕ) → Fits w8 (get_or s i 0)) where
+    pub call-cut : (p.strip ≡ 0 → ⊥) → (y : List ℕ) → y ≡ encode (stripped p.strip (decode_zone (take (length z.bytes.now) s))) ++ replicate p.strip 0 → result_of (told 0 p.strip) (y ++ drop (length z.bytes.now) s) ≡ call (shrink k) s
+    call-cut ne y q =
+        zone-cut (shrink k) s l o.has_zone g (cuts (length s) (take l s) k p.strip there.is_strip ne) tt p.strip (cuts-long (length s) (take l s) k p.strip there.is_strip ne) y q
 
-    pub call-end : (y : List ℕ) → ((i : ℕ) → Fits w8 (get_or s i 0)) → y ≡ encode (stripped n (decode_zone (take l s))) ++ replicate n 0
-        → result_of (told 0 n) (y ++ drop l s) ≡ call (shrink k) s
-    call-end y g q =
-        frame-cut (shrink k) s number l _ p g z (cuts (length s) (take l s) k n r.is_strip ne) tt n (cuts-long (length s) (take l s) k n r.is_strip ne) y q
+    pub call-none : p.strip ≡ 0 → result_of (told 0 p.strip) s ≡ call (shrink k) s
+    call-none q =
+        ap (λ (n : ℕ). result_of (told 0 n) s) q
+        ∙ zone-same (shrink k) s l o.has_zone g (stays (length s) (take l s) k p.strip there.is_strip q) tt (stays-long (length s) (take l s) k p.strip there.is_strip q)
+        (sym (encode-zone (take l s) (whole_of (take l s) there.zone)))

@@ -34,9 +34,26 @@ use Rattle.room.proofs.bay_end.Kept.{kept_free}
 use Rattle.room.proofs.bay_end.Taken.{trimmed-is}
 use Rattle.room.proofs.bay_end.Zone.{run-valid, run_take, run_end, run-kept, run-left, run_long}
 use Rattle.room.proofs.bay_end.End.{rest, rest-behind, lens, end-changed}
-use Rattle.zone_end.specs.shrink.Stripped.{stripped, Site}
+use Rattle.zone_end.specs.shrink.Stripped.{stripped}
+use Rattle.zone_end.specs.shrink.Ready.{SiteOf}
+use Rattle.zone_end.specs.declared.shrink.Plan.{Plan}
 
-module _ (z : List ℕ) (n a e sum tail : ℕ) (x : Site z n a e sum tail) where
+module _ (z : List ℕ) (p : Plan) (x : SiteOf z p) where
+  abbrev n : ℕ
+  n = p.strip
+
+  abbrev a : ℕ
+  a = p.bay.start
+
+  abbrev e : ℕ
+  e = p.bay.end
+
+  abbrev sum : ℕ
+  sum = p.bay.sum
+
+  abbrev tail : ℕ
+  tail = p.bay.tail
+
   abbrev s : Structure
   s = decode_zone z
 

@@ -5,11 +5,12 @@ use Rattle.zone_end.specs.shrink.Stripped.{strips, Site}
 use Rattle.zone_end.specs.declared.shrink.Plan.{Plan}
 use Rattle.structure.specs.IsZone.{IsZone}
 
-pub record ReadyIn (z : List ℕ) (k n a e sum tail : ℕ) : Type 0 where
-  pub zone : IsZone z
-  pub is_strip : n ≡ strips (decode_zone z) k
-  pub site : 0 < n → Site z n a e sum tail
+-- the bay of the plan p is the last of the zone z, of which its bytes are stripped
+abbrev pub SiteOf : List ℕ → Plan → Type 0
+SiteOf z p = Site z p.strip p.bay.start p.bay.end p.bay.sum p.bay.tail
 
 -- the plan p in the zone z is ready
-abbrev pub Ready : List ℕ → ℕ → Plan → Type 0
-Ready z k p = ReadyIn z k p.strip p.start p.end p.sum p.tail
+pub record Ready (z : List ℕ) (k : ℕ) (p : Plan) : Type 0 where
+  pub zone : IsZone z
+  pub is_strip : p.strip ≡ strips (decode_zone z) k
+  pub site : 0 < p.strip → SiteOf z p

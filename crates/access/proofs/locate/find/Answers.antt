@@ -1,21 +1,15 @@
-use Rattle.access.proofs.locate.Laws.{sought-page, located-1, located-no, located-yes}
-use Rattle.access.proofs.Checked.{has-length, has-zone, has-whole, take_len, bytes_of}
+use Rattle.access.proofs.Checked.{bytes_of}
+use Rattle.access.proofs.locate.Laws.{span-ill, span-lost, span-found}
 use Rattle.access.proofs.locate.find.Goals as goal
 
-pub returns-then-not-ok : goal.returns-then-not-ok
-returns-then-not-ok c = search (located-1, bytes_of)
+pub returns-in_err-sought-clause-err : goal.returns-in_err-sought-clause-err
+returns-in_err-sought-clause-err c = search (span-ill, bytes_of, c.in_err-sought.ensures)
 
-pub get4-l-requires : goal.get4-l-requires
-get4-l-requires c = search has-length
+pub span_of-requires : goal.span_of-requires
+span_of-requires c = rw c.name.ensures at c.in_ok-sought.ensures.ok.page_is
 
-pub slice_bounds-span_of-end : goal.slice_bounds-span_of-end
-slice_bounds-span_of-end c = search (take_len, has-zone)
+pub returns-clause-ok : goal.returns-clause-ok
+returns-clause-ok c = search (span-found, bytes_of, c.in_ok-sought.ensures, c.ok_or.ensures.value)
 
-pub span_of-s-requires : goal.span_of-s-requires
-span_of-s-requires c = (search (has-whole, bytes_of), search sought-page)
-
-pub returns-then-at-eq0 : goal.returns-then-at-eq0
-returns-then-at-eq0 c = search (located-no, bytes_of)
-
-pub returns : goal.returns
-returns c = search (located-yes, bytes_of)
+pub returns-clause-err : goal.returns-clause-err
+returns-clause-err c = search (span-lost, bytes_of, c.in_ok-sought.ensures, c.ok_or.ensures.value)

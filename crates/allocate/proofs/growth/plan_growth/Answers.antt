@@ -1,29 +1,20 @@
-use Rattle.access.proofs.Checked.{zone-8, zone-12}
-use Rattle.access.proofs.row.Zone.{zone-row, zone-start, zone-short}
+use Rattle.std.proofs.Common.{arith}
+use Rattle.structure.proofs.IsZone.{whole_of}
+use Rattle.access.proofs.Checked.{by_type}
 use Rattle.allocate.proofs.growth.Laws.{grows-many, grows_none, grows-no, grows-yes}
-use borrow.Author.Rules.{rules}
 use Rattle.allocate.proofs.growth.plan_growth.Goals as goal
 
-pub get4-m-requires : goal.get4-m-requires
-get4-m-requires c = search zone-12
+pub overflow_add-masters : goal.overflow_add-masters
+overflow_add-masters c = record { fits = omega (arith, (whole_of _ (by_type c.args.z)).few, c.masters.ensures) }
 
-pub returns-then-m-gt-MOST_MASTERS : goal.returns-then-m-gt-MOST_MASTERS
-returns-then-m-gt-MOST_MASTERS c = search grows-many
+pub returns-then-masters-gt-MOST_MASTERS-clause-err : goal.returns-then-masters-gt-MOST_MASTERS-clause-err
+returns-then-masters-gt-MOST_MASTERS-clause-err c = search (grows-many, by_type)
 
-pub get4-first-requires : goal.get4-first-requires
-get4-first-requires c = search zone-8
+pub returns-then-read-lt-ADDED_BYTES-clause-err : goal.returns-then-read-lt-ADDED_BYTES-clause-err
+returns-then-read-lt-ADDED_BYTES-clause-err c = search (grows_none, by_type)
 
-pub read_bay-b-requires : goal.read_bay-b-requires
-read_bay-b-requires c = (search zone-row, search zone-start, search zone-short)
+pub returns-then-has_room-clause-ok : goal.returns-then-has_room-clause-ok
+returns-then-has_room-clause-ok c = search (grows-yes, by_type)
 
-pub returns-then-sum-lt-ADDED_BYTES : goal.returns-then-sum-lt-ADDED_BYTES
-returns-then-sum-lt-ADDED_BYTES c = search grows_none
-
-pub has_room-requires : goal.has_room-requires
-has_room-requires c = (search rules, search zone-short, search rules)
-
-pub returns-then-has_room : goal.returns-then-has_room
-returns-then-has_room c = search grows-yes
-
-pub returns : goal.returns
-returns c = search grows-no
+pub returns-clause-err : goal.returns-clause-err
+returns-clause-err c = search (grows-no, by_type)

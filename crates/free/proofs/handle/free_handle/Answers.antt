@@ -1,19 +1,15 @@
-use Rattle.access.proofs.Checked.{take_len}
-use Rattle.call_laws.proofs.Frame.{frame-fits, frame-no}
+use Rattle.call_laws.proofs.Refused.{done-ill, done-opened}
 use Rattle.free.proofs.handle.Laws.{call-ready, call-out}
 use Rattle.free.proofs.handle.free_handle.Goals as goal
 
-pub slice_bounds-release-end : goal.slice_bounds-release-end
-slice_bounds-release-end c = search frame-fits
+pub returns-in_err-z : goal.returns-in_err-z
+returns-in_err-z c = search (done-ill, c.in_err-z.ensures)
 
-pub slice_bounds-release-end-then-number-eq0 : goal.slice_bounds-release-end-then-number-eq0
-slice_bounds-release-end-then-number-eq0 c = search (take_len, frame-fits)
+pub returns-in_err-p : goal.returns-in_err-p
+returns-in_err-p c = search (done-opened, c.in_ok-z.ensures, c.in_err-p.ensures)
 
 pub release-requires : goal.release-requires
-release-requires c = search call-ready
-
-pub returns-then-number-eq0 : goal.returns-then-number-eq0
-returns-then-number-eq0 c = search call-out
+release-requires c = search (call-ready, c.in_ok-z.ensures, c.in_ok-p.ensures)
 
 pub returns : goal.returns
-returns c = search frame-no
+returns c = search (call-out, c.in_ok-z.ensures, c.in_ok-p.ensures)

@@ -1,8 +1,8 @@
 use Rattle.free.proofs.handle.Laws.{write-between, write_word, write-head, write-master, written}
 use Rattle.free.proofs.handle.release.Goals as goal
 
-pub blank_between-requires : goal.blank_between-requires
-blank_between-requires c = search write-between
+pub write_free-requires : goal.write_free-requires
+write_free-requires c = search write-between
 
 pub overflow_cast-h : goal.overflow_cast-h
 overflow_cast-h c = search write_word

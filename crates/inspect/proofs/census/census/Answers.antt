@@ -1,18 +1,11 @@
-use Rattle.inspect.proofs.census.Laws.{accepted-zone, accepted-limits, census-refused, census-done}
-use Rattle.access.proofs.Checked.{has-length, has-zone, has-whole, take_len, bytes_of}
+use Rattle.inspect.proofs.census.Laws.{census-ill, census-bad, census-done}
 use Rattle.inspect.proofs.census.census.Goals as goal
 
-pub returns-then-number-ne0 : goal.returns-then-number-ne0
-returns-then-number-ne0 c = search census-refused
+pub returns-in_err-z : goal.returns-in_err-z
+returns-in_err-z c = search (census-ill, c.in_err-z.ensures)
 
-pub get4-l-requires : goal.get4-l-requires
-get4-l-requires c = search (has-length, accepted-zone)
+pub returns-in-Some : goal.returns-in-Some
+returns-in-Some c = search (census-done, c.in_ok-z.ensures, c.in-Some.ensures)
 
-pub slice_bounds-count_in-end : goal.slice_bounds-count_in-end
-slice_bounds-count_in-end c = search (take_len, has-zone, accepted-zone)
-
-pub count_in-counts-requires : goal.count_in-counts-requires
-count_in-counts-requires c = (search (has-whole, bytes_of, accepted-zone), search accepted-limits)
-
-pub returns : goal.returns
-returns c = search census-done
+pub returns-in-None : goal.returns-in-None
+returns-in-None c = search (census-bad, c.in_ok-z.ensures, c.in-None.ensures)

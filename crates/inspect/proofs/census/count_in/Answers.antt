@@ -1,15 +1,20 @@
-use Rattle.block_type.specs.Limits.{strata}
-use Rattle.inspect.proofs.census.Laws.{in-law, zeros-low}
-use Rattle.access.proofs.Checked.{zone-8}
-use Rattle.access.proofs.row.Zone.{zone-row, zone-first, zone-start, zone-short}
+use native.Mathlib.Omega.{arith}
 use borrow.Author.Rules.{rules}
+use Rattle.inspect.proofs.census.Laws.{free_size_is, tally-start, tally-free, tally-used, counts-done}
 use Rattle.inspect.proofs.census.count_in.Goals as goal
+use Rattle.inspect.proofs.census.count_in.Goals.{then-is_free, else-is_free}
 
-pub get4-first-requires : goal.get4-first-requires
-get4-first-requires c = search zone-8
+pub loop-p-init : goal.loop-p-init
+loop-p-init c = let b = c.first_block-p.ensures in (b.header, b.within, b.row, tally-start _ _ _ b.first_is)
 
-pub count_all-requires : goal.count_all-requires
-count_all-requires c = (search zone-row, search zone-first, search zone-start, search zone-short, search rules, λ k. zeros-low strata k _)
+pub stratum-i-requires : goal.stratum-i-requires
+stratum-i-requires c = search free_size_is
+
+pub overflow_add-counts : goal.overflow_add-counts
+overflow_add-counts c = omega (arith, c.loop-p.invariant.3.few c.stratum-i.result)
+
+pub loop-p-preserved : goal.loop-p-preserved
+loop-p-preserved c = (omega arith, omega arith, search rules, elim c.if-is_free.branch [ then-is_free w ↦ search tally-free | else-is_free w ↦ search tally-used ])
 
 pub returns : goal.returns
-returns c = search in-law
+returns c = search counts-done

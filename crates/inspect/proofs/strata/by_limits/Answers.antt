@@ -1,6 +1,4 @@
 use native.Mathlib.Omega.{arith}
-use native.Mathlib.Nat.{le_of_lt}
-use borrow.Author.Rules.{rules}
 use Rattle.inspect.proofs.strata.Laws.{halve-start, halve-up, halve-down, halve-end}
 use Rattle.inspect.proofs.strata.by_limits.Goals as goal
 
@@ -14,13 +12,13 @@ pub overflow_add-mid : goal.overflow_add-mid
 overflow_add-mid c = omega (arith, c.loop-low.invariant.apart, c.loop-low.invariant.most)
 
 pub limit-requires : goal.limit-requires
-limit-requires c = (search rules, omega (arith, c.loop-low.invariant.most))
+limit-requires c = omega (arith, c.loop-low.invariant.most)
 
 pub loop-low-smaller-then-limit-words : goal.loop-low-smaller-then-limit-words
 loop-low-smaller-then-limit-words c = omega arith
 
 pub loop-low-preserved-then-limit-words : goal.loop-low-preserved-then-limit-words
-loop-low-preserved-then-limit-words c = search (halve-up, le_of_lt)
+loop-low-preserved-then-limit-words c = search halve-up
 
 pub loop-low-smaller : goal.loop-low-smaller
 loop-low-smaller c = omega arith

@@ -8,5 +8,5 @@ name_at-requires c = search page-fits
 pub returns-then-is_page : goal.returns-then-is_page
 returns-then-is_page c = search met-page
 
-pub returns : goal.returns
-returns c = search met-other
+pub returns-else-is_page : goal.returns-else-is_page
+returns-else-is_page c = search met-other

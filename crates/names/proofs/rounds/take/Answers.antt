@@ -5,8 +5,8 @@ use Rattle.names.proofs.rounds.take.Goals as goal
 pub name_at-requires : goal.name_at-requires
 name_at-requires c = search page-room
 
-pub returns-then-is_page : goal.returns-then-is_page
-returns-then-is_page c = search take-page
+pub returns-then-not-is_page : goal.returns-then-not-is_page
+returns-then-not-is_page c = search take-other
 
-pub returns : goal.returns
-returns c = search take-other
+pub returns-else-not-is_page : goal.returns-else-not-is_page
+returns-else-not-is_page c = search take-page

@@ -1,19 +1,15 @@
-use Rattle.access.proofs.Checked.{take_len}
-use Rattle.call_laws.proofs.Frame.{frame-fits, frame-no}
+use Rattle.call_laws.proofs.Refused.{done-ill, done-opened}
 use Rattle.pages.proofs.drop.Laws.{call-between, call-out}
 use Rattle.pages.proofs.drop.drop_page.Goals as goal
 
-pub slice_bounds-blank_between-end : goal.slice_bounds-blank_between-end
-slice_bounds-blank_between-end c = search frame-fits
+pub returns-in_err-k : goal.returns-in_err-k
+returns-in_err-k c = search (done-ill, c.in_err-k.ensures)
 
-pub slice_bounds-blank_between-end-then-number-eq0 : goal.slice_bounds-blank_between-end-then-number-eq0
-slice_bounds-blank_between-end-then-number-eq0 c = search (take_len, frame-fits)
+pub returns-in_err-extent : goal.returns-in_err-extent
+returns-in_err-extent c = search (done-opened, c.in_ok-k.ensures.ok.opened, c.in_err-extent.ensures)
 
-pub blank_between-requires : goal.blank_between-requires
-blank_between-requires c = search call-between
-
-pub returns-then-number-eq0 : goal.returns-then-number-eq0
-returns-then-number-eq0 c = search call-out
+pub write_free-requires : goal.write_free-requires
+write_free-requires c = search (call-between, c.in_ok-k.ensures.ok.opened, c.in_ok-extent.ensures)
 
 pub returns : goal.returns
-returns c = search frame-no
+returns c = search (call-out, c.in_ok-k.ensures.ok.opened, c.in_ok-extent.ensures)

@@ -1,26 +1,19 @@
-use Rattle.access.proofs.Checked.{zone-8}
-use Rattle.free_block.proofs.Walk.{walk-row, walk-low}
-use Rattle.pages.proofs.drop.Live.{data-low, at-fits, end-word, prev-in, row_in, end-in}
+use Rattle.access.proofs.Checked.{by_type}
+use Rattle.pages.proofs.drop.Live.{data-low, end-word, block-in}
 use Rattle.pages.proofs.drop.Laws.{in-13, in-0}
 use Rattle.pages.proofs.drop.plan_in.Goals as goal
 
-pub returns-then-place-eq0 : goal.returns-then-place-eq0
-returns-then-place-eq0 c = search in-13
-
-pub get4-first-requires : goal.get4-first-requires
-get4-first-requires c = search zone-8
-
 pub overflow_sub-at : goal.overflow_sub-at
-overflow_sub-at c = search data-low
+overflow_sub-at c = search (data-low, by_type, c.in-Some.ensures)
 
-pub overflow_add-end : goal.overflow_add-end
-overflow_add-end c = search end-word
+pub overflow_add-span : goal.overflow_add-span
+overflow_add-span c = search (end-word, by_type, c.in-Some.ensures)
 
-pub walk_to-s-requires : goal.walk_to-s-requires
-walk_to-s-requires c = (search walk-row, search walk-low, search at-fits)
+pub extent_of-requires : goal.extent_of-requires
+extent_of-requires c = search (block-in, by_type, c.in-Some.ensures)
 
-pub find_extent-e-requires : goal.find_extent-e-requires
-find_extent-e-requires c = (search prev-in, search row_in, search end-in)
+pub returns-in-Some-clause-ok : goal.returns-in-Some-clause-ok
+returns-in-Some-clause-ok c = search (in-0, by_type, c.in-Some.ensures)
 
-pub returns : goal.returns
-returns c = search in-0
+pub returns-in-None-clause-err : goal.returns-in-None-clause-err
+returns-in-None-clause-err c = search (in-13, c.in-None.ensures)

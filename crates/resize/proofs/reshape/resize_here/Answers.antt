@@ -1,8 +1,8 @@
 use Rattle.resize.proofs.reshape.Stays.{here-all, here-part}
 use Rattle.resize.proofs.reshape.resize_here.Goals as goal
 
-pub returns-then-a-b : goal.returns-then-a-b
-returns-then-a-b c = search here-part
+pub returns-then-block-free : goal.returns-then-block-free
+returns-then-block-free c = search here-part
 
-pub returns-else-a-b : goal.returns-else-a-b
-returns-else-a-b c = search here-all
+pub returns-else-block-free : goal.returns-else-block-free
+returns-else-block-free c = search here-all

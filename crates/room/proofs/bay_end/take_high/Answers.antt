@@ -7,11 +7,11 @@ trim-requires c = search free-here
 pub compact_bay-requires : goal.compact_bay-requires
 compact_bay-requires c = search ask-bay
 
-pub trim-requires-else-n-tail : goal.trim-requires-else-n-tail
-trim-requires-else-n-tail c = search free-after
+pub trim-requires-else-n-bay : goal.trim-requires-else-n-bay
+trim-requires-else-n-bay c = search free-after
 
-pub returns-then-n-tail : goal.returns-then-n-tail
-returns-then-n-tail c = search taken_here
+pub returns-then-n-bay : goal.returns-then-n-bay
+returns-then-n-bay c = search taken_here
 
-pub returns-else-n-tail : goal.returns-else-n-tail
-returns-else-n-tail c = search taken-after
+pub returns-else-n-bay : goal.returns-else-n-bay
+returns-else-n-bay c = search taken-after

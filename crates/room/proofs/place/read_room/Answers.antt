@@ -1,5 +1,6 @@
-use borrow.Author.Rules.{rules}
-use native.Mathlib.Omega.{arith}
+use Rattle.std.proofs.Common.{arith, rules}
+use Rattle.block_type.proofs.Types.{movable-yes, movable-no, fixed-yes, fixed-no}
+use Rattle.bays.proofs.Words.{movable-used, fixed-used, else-free}
 use Rattle.room.proofs.place.Walk.{for-none, for-held, for-free, for-fixed, for-end}
 use Rattle.room.proofs.place.read_room.Goals as goal
 
@@ -7,22 +8,22 @@ pub loop-at-init : goal.loop-at-init
 loop-at-init c = (omega arith, omega arith, omega arith, omega arith, search rules, search for-none)
 
 pub step_used-at-requires : goal.step_used-at-requires
-step_used-at-requires c = (search rules, search rules, search rules, omega arith)
+step_used-at-requires c = (search rules, search rules, search rules, search movable-used)
 
-pub loop-at-preserved-then-k-gt-FIXED_CODE : goal.loop-at-preserved-then-k-gt-FIXED_CODE
-loop-at-preserved-then-k-gt-FIXED_CODE c = (omega arith, omega arith, omega arith, omega arith, search rules, search for-held)
+pub loop-at-preserved-then-is_movable : goal.loop-at-preserved-then-is_movable
+loop-at-preserved-then-is_movable c = (omega arith, omega arith, omega arith, omega arith, search rules, search (for-held, movable-yes))
 
 pub step_used-n-requires : goal.step_used-n-requires
-step_used-n-requires c = (search rules, search rules, search rules, omega arith)
+step_used-n-requires c = (search rules, search rules, search rules, search fixed-used)
 
-pub returns-then-k-eq-FIXED_CODE : goal.returns-then-k-eq-FIXED_CODE
-returns-then-k-eq-FIXED_CODE c = search for-fixed
+pub returns-then-eq : goal.returns-then-eq
+returns-then-eq c = record { read = search (for-fixed, fixed-yes); begins = (search rules, omega arith) }
 
-pub step_free-n-requires : goal.step_free-n-requires
-step_free-n-requires c = (search rules, search rules, search rules, omega arith)
+pub step_free-size-requires : goal.step_free-size-requires
+step_free-size-requires c = (search rules, search rules, search rules, search else-free)
 
 pub loop-at-preserved : goal.loop-at-preserved
-loop-at-preserved c = (omega arith, omega arith, omega arith, omega arith, search rules, search for-free)
+loop-at-preserved c = (omega arith, omega arith, omega arith, omega arith, search rules, search (for-free, movable-no, fixed-no))
 
 pub returns : goal.returns
-returns c = search for-end
+returns c = record { read = search for-end; begins = tt }

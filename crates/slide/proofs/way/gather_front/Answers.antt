@@ -1,17 +1,19 @@
-use mathlib.Core.Path.{refl, ◌∙◌}
-use borrow.Author.Rules.{rules}
-use native.Mathlib.Omega.{arith}
-use Rattle.slide.proofs.way.Way.{front-goes-on}
+use Rattle.std.proofs.Common.{rules}
+use Rattle.slide.proofs.way.Gathered.{front-start, way_next, way-nearer}
+use Rattle.slide.proofs.way.Way.{front-goes-on, front-done}
 use Rattle.slide.proofs.way.gather_front.Goals as goal
 
-pub loop-at-init : goal.loop-at-init
-loop-at-init c = (omega arith, omega arith, refl, refl, refl, search rules, refl, refl)
+pub loop-f-init : goal.loop-f-init
+loop-f-init c = search front-start
 
-pub step-k-requires : goal.step-k-requires
-step-k-requires c = (search rules, search front-goes-on)
+pub pass-f-requires : goal.pass-f-requires
+pass-f-requires c = (search front-goes-on, search rules, search rules, search rules)
 
-pub keep-to-requires : goal.keep-to-requires
-keep-to-requires c = (search front-goes-on, omega arith, omega arith, search rules, search rules)
+pub loop-f-preserved : goal.loop-f-preserved
+loop-f-preserved c = search way_next
 
-pub loop-at-preserved : goal.loop-at-preserved
-loop-at-preserved c = (omega arith, omega arith, omega arith, omega arith, omega arith, search rules, c.before.before.keep-to.ensures.front ∙ c.before.before.before.before.before.before.before.loop-at.invariant.6, omega arith)
+pub loop-f-smaller : goal.loop-f-smaller
+loop-f-smaller c = search way-nearer
+
+pub returns : goal.returns
+returns c = search front-done

@@ -6,8 +6,8 @@ use Rattle.slide.proofs.way.make_way.Goals as goal
 pub gather-end-requires : goal.gather-end-requires
 gather-end-requires c = (omega arith, omega arith, omega arith, omega arith, search way-rest)
 
-pub blank_part-requires : goal.blank_part-requires
-blank_part-requires c = (simp (length-take, length-drop) (omega arith), search behind-four, simp (length-take, length-drop) (omega arith), search behind-free)
+pub write_free_all-requires : goal.write_free_all-requires
+write_free_all-requires c = (simp (length-take, length-drop) (omega arith), search behind-four, simp (length-take, length-drop) (omega arith), search behind-free)
 
 pub returns : goal.returns
 returns c = search way-done

@@ -4,5 +4,5 @@ use Rattle.turn.proofs.search.halve.Goals as goal
 pub returns-then-need-w : goal.returns-then-need-w
 returns-then-need-w c = search halve-low
 
-pub returns : goal.returns
-returns c = search halve-high
+pub returns-else-need-w : goal.returns-else-need-w
+returns-else-need-w c = search halve-high

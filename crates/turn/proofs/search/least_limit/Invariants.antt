@@ -1,11 +1,11 @@
-use Rattle.std.proofs.Common.{◌-◌, ◌≤◌, length, drop}
-use Rattle.access.specs.row.Row.{Row}
-use Rattle.bays.specs.Places.{bays_at}
+use Rattle.std.proofs.Common.{◌-◌}
+use Rattle.structure.specs.Structure.{decode_zone}
+use Rattle.bays.specs.Places.{bays_of}
 use Rattle.turn.specs.Limit.{Between}
 use Rattle.turn.proofs.search.least_limit.Given as goal
 
-abbrev pub invariant-loop-low : goal.invariant-loop-low
-invariant-loop-low l = (l.first ≤ length l.z) × Row (drop l.first l.z) × Between l.clock l.need l.low l.high (bays_at l.z l.first)
+abbrev pub invariant-loop-between : goal.invariant-loop-between
+invariant-loop-between l = Between l.clock l.need l.between.low l.between.high (bays_of (decode_zone l.zone.bytes.now))
 
-abbrev pub decreases-loop-low : goal.decreases-loop-low
-decreases-loop-low l = l.high - l.low
+abbrev pub decreases-loop-between : goal.decreases-loop-between
+decreases-loop-between l = l.between.high - l.between.low

@@ -1,25 +1,14 @@
-use Rattle.access.proofs.Checked.{take_len}
-use Rattle.call_laws.proofs.Frame.{frame-no}
-use Rattle.zone_end.proofs.enlarge.Call.{call_fits, call-word, call-idle, call-between, call-end}
+use Rattle.zone_end.proofs.enlarge.Call.{opened-no, opened-idle, opened-between, opened-end}
 use Rattle.zone_end.proofs.enlarge.enlarge.Goals as goal
 
-pub returns-then-k-eq0 : goal.returns-then-k-eq0
-returns-then-k-eq0 c = search call-idle
-
-pub overflow_add-n : goal.overflow_add-n
-overflow_add-n c = search call-word
-
-pub slice_bounds-extend-end : goal.slice_bounds-extend-end
-slice_bounds-extend-end c = search call_fits
-
-pub slice_bounds-extend-end-then-number-eq0 : goal.slice_bounds-extend-end-then-number-eq0
-slice_bounds-extend-end-then-number-eq0 c = search (take_len, call_fits)
+pub returns-then-not-is_accepted : goal.returns-then-not-is_accepted
+returns-then-not-is_accepted c = search (opened-no, c.in_ok-z.ensures)
 
 pub extend-requires : goal.extend-requires
-extend-requires c = search call-between
+extend-requires c = search (opened-between, c.in_ok-z.ensures)
 
-pub returns-then-number-eq0 : goal.returns-then-number-eq0
-returns-then-number-eq0 c = search call-end
+pub returns-then-k-ne0 : goal.returns-then-k-ne0
+returns-then-k-ne0 c = search (opened-end, c.in_ok-z.ensures)
 
-pub returns : goal.returns
-returns c = search frame-no
+pub returns-else-k-ne0 : goal.returns-else-k-ne0
+returns-else-k-ne0 c = search (opened-idle, c.in_ok-z.ensures)

@@ -1,8 +1,0 @@
-use native.Mathlib.Omega.{arith}
-use Rattle.compact.proofs.larger_of.Goals as goal
-
-pub returns-then-a-b : goal.returns-then-a-b
-returns-then-a-b c = omega arith
-
-pub returns : goal.returns
-returns c = omega arith

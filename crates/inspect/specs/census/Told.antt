@@ -1,0 +1,11 @@
+-- What the census answers, read from what the code returns.
+use Rattle.std.specs.Prelude.{List, ℕ, replicate, Result, Ok, Err}
+use Rattle.block_type.specs.Limits.{strata}
+use Rattle.calls.specs.Refusals.{code_of}
+use Rattle.calls.specs.declared.Refusal.{Refusal}
+use Rattle.zone.specs.Census.{Counted, counted}
+
+-- all counts, 0 for each when refused
+abbrev pub counted_of : Result (List ℕ) Refusal → Counted
+counted_of (Ok cs) = counted 0 cs
+counted_of (Err e) = counted (code_of e) (replicate strata 0)
