@@ -63,11 +63,21 @@ class Refused(unittest.TestCase):
     def test_pointers_of_four_bytes(self):
         module_text.check_pointers(DEFINED + BODY)
         for line in ('%r2 = load i64, ptr %r0, align 8', 'store i64 %a1, ptr %r0, align 8', '%r2 = getelementptr i8, ptr %r0, i64 4',
-                     'call void @llvm.memmove.p0.p0.i64(ptr %r0, ptr %a0, i64 8, i1 false)', '%r2 = ptrtoint ptr %a0 to i64', '%r2 = inttoptr i64 %a1 to ptr'):
+                     'call void @llvm.memmove.p0.p0.i64(ptr %r0, ptr %a0, i64 8, i1 false)', '%r2 = ptrtoint ptr %a0 to i64', '%r2 = ptrtoaddr ptr %a0 to i64', '%r2 = inttoptr i64 %a1 to ptr', '%r2 = load { i32, ptr }, ptr %a0, align 8',
+                     'store { i8, ptr } %x, ptr %a0, align 8'):
             with self.assertRaises(module_text.Refused, msg=line):
                 module_text.check_pointers(DEFINED + BODY.replace('  ret', f'  {line}\n  ret'))
         with self.assertRaises(module_text.Refused):
             module_text.check_pointers('@table = constant [1 x ptr] [ptr null]\n' + DEFINED + BODY)
+        module_text.check_pointers('@static.0 = private unnamed_addr constant [1 x i8] c"\\02", align 1\n' + DEFINED + BODY)
+
+    def test_fields_that_are_loaded_at_once(self):
+        text = 'target datalayout = "e-p:64:64"\ntarget triple = "x"\nattributes #0 = { "target-cpu"="x" }\n' + DEFINED + BODY.replace('  ret', '  %r2 = load { i8, ptr }, ptr %a0, align 8\n  ret')
+        module_text.check_pointers(text)
+        wide, narrow = (module_text.for_target(text, f'target datalayout = "e-m:e-p:{bits}:{bits}-i64:64"\ntarget triple = "y"\n') for bits in (64, 32))
+        self.assertIn('%r2 = load { i8, ptr }, ptr %a0', wide)
+        self.assertNotIn('load { i8, ptr }', narrow)
+        self.assertIn('%r2.place = getelementptr i8, ptr %a0, i64 8', narrow)
 
     def test_extended_as_c_wants(self):
         told = module_text.with_convention(DEFINED + BODY, DECLARED, ['call'])
