@@ -15,8 +15,8 @@ clang's own C makes of nafelode.h for that target: C's convention there, as LLVM
   of 8. The back end does that for each i64, whoever wrote it: the header's lengths have 64 bits everywhere, so that C passes i64, too.
 - 32-bit processors: the module's places in memory are those of x86-64, a pointer at its start of 8 bytes. Bytes are counted out in the
   module, so that is as good as any, as long as no pointer is made of a number or the other way round, no memory cell that is
-  declared as one pointer, which has 4 bytes there, is used for anything else, and there is no constant data with pointers in it. Fields that
-  are loaded at once lie where a type says, and not where bytes are counted: a byte and a pointer are loaded apart.
+  declared as one pointer, which has 4 bytes there, is used for anything else, no pointer is loaded or stored behind other fields at once, and
+  there is no constant data with pointers in it.
 """
 import re
 
@@ -25,11 +25,9 @@ EXTENDED = {'signext', 'zeroext'}
 NAME = r'@(?P<name>"[^"]*"|[\w.$]+)'
 
 
-# Fields that are loaded at once lie where x86-64 has them: a pointer behind a byte from byte 8 on, where a pointer of 4 bytes would lie from byte 4 on
-PAIR = r'  (%\w+) = load \{ i8, ptr \}, ptr (%\w+), align 8'
-# A constant of single bytes, as the code compares a block's type with: it holds no pointer and no number that a processor would order otherwise. What is built
-# has none of them left (test_target.py).
-BYTES = r'@static\.\d+ = private unnamed_addr constant \[\d+ x i8\] (?:c"[^"]*"|zeroinitializer), align 1'
+# A constant of a single byte, as the code compares a block's type with: it holds no pointer and no number that a processor would order otherwise. What is built
+# has none left (target.py).
+BYTES = r'@static\.\d+ = private unnamed_addr constant \[1 x i8\] (?:c"[^"]*"|zeroinitializer), align 1'
 
 
 class Refused(Exception):
@@ -110,7 +108,7 @@ def check_pointers(text):
     if found := re.search(r'.*\b(ptrtoint|ptrtoaddr|inttoptr|addrspacecast)\b.*', text):
         raise Refused(f'a pointer is no number here: {found[0].strip()}')
     for line in re.findall(r'^.*\b(?:load|store) \{[^}]*\bptr\b[^}]*\}.*$', text, re.M):
-        if not re.match(r'  %\w+ = load \{ ptr, i64 \}', line) and not re.fullmatch(PAIR, line):
+        if not re.match(r'  %\w+ = load \{ ptr, i64 \}', line):
             raise Refused(f'a pointer beside other fields, whose place depends on its size: {line.strip()}')
     for line in re.findall(r'^@.*', text, re.M):
         if not re.fullmatch(BYTES, line):
@@ -124,13 +122,6 @@ def check_pointers(text):
                     raise Refused(f'{name}: a cell of one pointer is used otherwise: {line.strip()}')
 
 
-def apart(found):
-    """The two fields of a PAIR, each loaded from its place."""
-    to, place = found[1], found[2]
-    return '\n'.join((f'  {to}.byte = load i8, ptr {place}, align 8', f'  {to}.place = getelementptr i8, ptr {place}, i64 8', f'  {to}.pointer = load ptr, ptr {to}.place, align 8',
-                      f'  {to}.half = insertvalue {{ i8, ptr }} poison, i8 {to}.byte, 0', f'  {to} = insertvalue {{ i8, ptr }} {to}.half, ptr {to}.pointer, 1'))
-
-
 def for_target(text, declared):
     """The module with a target's layout and triple, as clang's C has them; the processor is what clang is told."""
     for word in ('datalayout', 'triple'):
@@ -139,8 +130,6 @@ def for_target(text, declared):
         text, times = line.subn(lambda _, new=new: new[0], text)
         if times != 1:
             raise Refused(f'the module has {times} lines `target {word}`')
-    if re.search(r'^target datalayout = "[^"]*-p:32:32', declared, re.M):
-        text = re.sub(f'^{PAIR}$', apart, text, flags=re.M)
     processor = r' "target-cpu"="[^"]*"' # once for each set of attributes: a function that is inlined always, or never, has one of its own
     names = set(re.findall(processor, text))
     if len(names) != 1:

@@ -10,6 +10,7 @@ MODULE is what c/module keeps, with the words beside it (.words for .bc).
 """
 import hashlib
 import pathlib
+import re
 import shutil
 import subprocess
 import sys
@@ -139,6 +140,13 @@ def compiled(kit, target, header):
     return out
 
 
+def data_left(said):
+    """The constant data that an object has, by what llvm-readobj says of its sections (WebAssembly: segments), but for what LLVM makes of code: tables of a choice,
+    constants of vectors."""
+    names = re.findall(r'^ +Segment \{\n +Name: (.*)$', said, re.M) + re.findall(r'^ +Name: (\.rodata\S*) \(\d+\)$', said, re.M)
+    return [name for name in names if not re.match(r'\.rodata(\.\.Lswitch\.table\.|\.cst\d+$)', name)]
+
+
 def linked(kit, archive, out):
     """nafelode.wasm: every function and the memory exported, with the place from which on memory is the caller's. The stack lies below all
     else, so that one that is too short traps. Copying and filling are instructions of WebAssembly: no function is wanted."""
@@ -155,7 +163,10 @@ def build(name, module, folder):
         made = pathlib.Path(work) / 'made'
         made.mkdir()
         (made / 'nafelode.h').write_text(from_source())
-        kit.run('llvm-ar', 'rcsD', made / 'libnafelode.a', compiled(kit, target, made / 'nafelode.h'))
+        library = compiled(kit, target, made / 'nafelode.h')
+        if left := data_left(kit.run('llvm-readobj', '--sections', library)):
+            fail(f'{name}: data of its own: {", ".join(left)}')
+        kit.run('llvm-ar', 'rcsD', made / 'libnafelode.a', library)
         if name == 'wasm32':
             linked(kit, made / 'libnafelode.a', made / 'nafelode.wasm')
         (made / 'BACKEND').write_text(kit.backend(target.triple, target.cpu))

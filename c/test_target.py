@@ -20,7 +20,8 @@ ROOT = HERE.parent
 MODULE = ROOT / 'crates' / 'nafelode_c' / 'out' / 'nafelode_c.bc'
 NAMES = target.from_source('--names').split()
 WANTED = {'memcpy', 'memmove', 'memset', 'memcmp'}
-WANTED_BY = {'thumbv7em': {f'__aeabi_{name}{width}' for name in ('memcpy', 'memmove', 'memset', 'memclr') for width in ('', '4', '8')}, 'wasm32': {'__stack_pointer'}}
+# docs/C.md names them
+WANTED_BY = {'thumbv7em': {f'__aeabi_{name}' for name in ('memcpy', 'memmove', 'memclr', 'memclr4', 'memclr8')}, 'wasm32': {'__stack_pointer'}}
 
 DECLARED = 'declare signext i32 @call(ptr noundef, i64 noundef, i32 noundef signext) #1\n'
 DEFINED = 'define noundef i32 @call(ptr noundef %a0, i64 noundef %a1, i32 noundef %a2) #0 {\n'
@@ -63,21 +64,23 @@ class Refused(unittest.TestCase):
     def test_pointers_of_four_bytes(self):
         module_text.check_pointers(DEFINED + BODY)
         for line in ('%r2 = load i64, ptr %r0, align 8', 'store i64 %a1, ptr %r0, align 8', '%r2 = getelementptr i8, ptr %r0, i64 4',
-                     'call void @llvm.memmove.p0.p0.i64(ptr %r0, ptr %a0, i64 8, i1 false)', '%r2 = ptrtoint ptr %a0 to i64', '%r2 = ptrtoaddr ptr %a0 to i64', '%r2 = inttoptr i64 %a1 to ptr', '%r2 = load { i32, ptr }, ptr %a0, align 8',
+                     'call void @llvm.memmove.p0.p0.i64(ptr %r0, ptr %a0, i64 8, i1 false)', '%r2 = ptrtoint ptr %a0 to i64', '%r2 = ptrtoaddr ptr %a0 to i64', '%r2 = inttoptr i64 %a1 to ptr', '%r2 = load { i32, ptr }, ptr %a0, align 8', '%r2 = load { i8, ptr }, ptr %a0, align 8',
                      'store { i8, ptr } %x, ptr %a0, align 8'):
             with self.assertRaises(module_text.Refused, msg=line):
                 module_text.check_pointers(DEFINED + BODY.replace('  ret', f'  {line}\n  ret'))
         with self.assertRaises(module_text.Refused):
             module_text.check_pointers('@table = constant [1 x ptr] [ptr null]\n' + DEFINED + BODY)
         module_text.check_pointers('@static.0 = private unnamed_addr constant [1 x i8] c"\\02", align 1\n' + DEFINED + BODY)
+        with self.assertRaises(module_text.Refused):
+            module_text.check_pointers('@static.0 = private unnamed_addr constant [16 x i8] zeroinitializer, align 1\n' + DEFINED + BODY)
 
-    def test_fields_that_are_loaded_at_once(self):
-        text = 'target datalayout = "e-p:64:64"\ntarget triple = "x"\nattributes #0 = { "target-cpu"="x" }\n' + DEFINED + BODY.replace('  ret', '  %r2 = load { i8, ptr }, ptr %a0, align 8\n  ret')
-        module_text.check_pointers(text)
-        wide, narrow = (module_text.for_target(text, f'target datalayout = "e-m:e-p:{bits}:{bits}-i64:64"\ntarget triple = "y"\n') for bits in (64, 32))
-        self.assertIn('%r2 = load { i8, ptr }, ptr %a0', wide)
-        self.assertNotIn('load { i8, ptr }', narrow)
-        self.assertIn('%r2.place = getelementptr i8, ptr %a0, i64 8', narrow)
+    def test_data_that_is_left(self):
+        elf = '  Section {\n    Index: 7\n    Name: {} (12)\n    Type: SHT_PROGBITS (0x1)\n'
+        for name in ('.rodata', '.rodata..L__unnamed_1', '.rodata.static.0'):
+            self.assertEqual(target.data_left(elf.replace('{}', name)), [name])
+        for name in ('.text.call', '.rodata.cst16', '.rodata..Lswitch.table.call'):
+            self.assertEqual(target.data_left(elf.replace('{}', name)), [])
+        self.assertEqual(target.data_left('  Segment {\n      Name: .rodata.static.0\n'), ['.rodata.static.0'])
 
     def test_extended_as_c_wants(self):
         told = module_text.with_convention(DEFINED + BODY, DECLARED, ['call'])
@@ -113,11 +116,6 @@ def exports_and_imports(wasm):
             number()
         place = end
     return found[7], found[2]
-
-
-def segments(said):
-    """The names of the data that an object of WebAssembly has, by what llvm-readobj says of it."""
-    return re.findall(r'^ +Segment \{\n +Name: (.*)$', said, re.M)
 
 
 class Said:
@@ -175,9 +173,10 @@ class Built(unittest.TestCase):
             self.assertLessEqual({line[-1] for line in lines if 'U' in line[:-1]}, WANTED_BY.get(name, WANTED), name)
             code, data, zeros = self.kit.run('llvm-size', archive).splitlines()[1].split()[:3]
             self.assertTrue(int(code) > 0 and zeros == '0' and (data == '0' or name == 'wasm32'), f'{name} has data of its own')
-            # the module has none (module_text.py); LLVM makes tables of constants of a choice, which stand beside the code, but in WebAssembly in memory
-            parts = segments(self.kit.run('llvm-readobj', '--sections', archive))
-            self.assertEqual(([part for part in parts if not part.startswith('.rodata..Lswitch.table.')], bool(parts)), ([], data != '0'), name)
+            # LLVM's tables of a choice stand beside the code, but in WebAssembly in memory
+            said = self.kit.run('llvm-readobj', '--sections', archive)
+            self.assertEqual(target.data_left(said), [], name)
+            self.assertTrue(name != 'wasm32' or ('Segment {' in said) == (data != '0'), name)
 
     def test_header_and_backend(self):
         for name, one in target.TARGETS.items():

@@ -75,8 +75,6 @@ ALLOWED = [
     # widths, and bytes within a number
     ("crates/bigendian/", r"\bat \+ [24](?: ≤|;)", "the width of the number that is read or written"),
     ("crates/bigendian/", r"\bat \+ 2\b(?= ?[)\]])", "the third byte of a number"),
-    ("crates/bigendian/src/lib.rt", r"\bbytes\[2\]", "the same"),
-    ("crates/bigendian/proofs/Laws.antt", r"\bget_or b 2 0\b", "the same"),
     ("crates/bigendian/", r"[*/] 65536\b", "what the second of four bytes counts"),
     ("crates/memory/proofs/", r"\b(?:length bs ≡|first_chunks|rest|take|chunk-at|length-take-le) (8)\b", "the bytes of the number that is tested at a time"),
     ("crates/memory/proofs/", r"\b8 \*|[*/] 8\b", "the same"),

@@ -5,8 +5,9 @@ use Prim.Native.Nat.{ℕ, zero, suc, ◌+◌, ◌*◌, ◌/◌, ◌%◌, ◌^◌
 use native.Mathlib.Nat.{pow-succ', one-le-pow, mod-eq_of_lt, mul_assoc, mod-one, div-one, mul-add-div_right}
 use native.Mathlib.Numerals.{add-one, add-two, towards_suc}
 use native.Mathlib.Omega.{arith}
+use mir.Val.{Fits}
 use mir.Syntax.{w16, w32}
-use Rattle.std.specs.Int.{from_be_bytes, to_be_bytes}
+use Rattle.std.specs.Int.{from_be_bytes, from_le_bytes, to_be_bytes}
 use lib.Arith.{digits_lt, digits_div, mod-mul}
 use lib.ListN.{length, get_or, take, set}
 use lib.Seq.{take_at, drop-cons, sets-eq}
@@ -83,6 +84,11 @@ pub be4-std : (s : List ℕ) (at : ℕ) → at + 4 ≤ length s
     → from_be_bytes w32 (get_or s at 0 ∷ get_or s (at + 1) 0 ∷ get_or s (at + 2) 0 ∷ get_or s (at + 3) 0 ∷ []) ≡ from_be (slice s at 4)
 be4-std s at h = rw (be4-at s at h) (omega arith)
 
+-- the same, the last byte first
+pub le4-std : (s : List ℕ) (at : ℕ) → at + 4 ≤ length s
+    → from_le_bytes w32 (get_or s (at + 3) 0 ∷ get_or s (at + 2) 0 ∷ get_or s (at + 1) 0 ∷ get_or s at 0 ∷ []) ≡ from_be (slice s at 4)
+le4-std s at h = rw (be4-at s at h) (omega arith)
+
 pub to_be-std : (v : ℕ) → to_be_bytes w32 v ≡ to_be 4 v
 unfolding to_be
 to_be-std v = simp (div-one)
@@ -94,9 +100,40 @@ put2-law s at v h =
     let e = sets-eq (v / 256 % 256 ∷ v / 1 % 256 ∷ []) s at h in
     simp (add-one, add-two, div-one) (simp (add-one, add-two, div-one) at e)
 
-pub put4-law : (s b : List ℕ) (at v : ℕ) → at + 4 ≤ length s → b ≡ to_be_bytes w32 v
-    → set (set (set (set s at (get_or b 0 0)) (at + 1) (get_or b 1 0)) (at + 2) (get_or b 2 0)) (at + 3) (get_or b 3 0) ≡ overwrite s at (to_be 4 v)
+put4-bytes : (s : List ℕ) (at v : ℕ) → at + 4 ≤ length s
+    → set (set (set (set s at (v / 16777216 % 256)) (at + 1) (v / 65536 % 256)) (at + 2) (v / 256 % 256)) (at + 3) (v % 256)
+    ≡ overwrite s at (to_be 4 v)
 unfolding to_be
-put4-law s b at v h e =
-    let w = sets-eq (to_be 4 v) s at h in
-    rw (e ∙ to_be-std v) (simp (towards_suc, div-one) (simp (towards_suc, div-one) at w))
+put4-bytes s at v h =
+    let e = sets-eq (to_be 4 v) s at h in
+    simp (towards_suc, div-one) (simp (towards_suc, div-one) at e)
+
+-- from a number w that has the same bytes, the last one first
+pub put4-law : (s : List ℕ) (at v w : ℕ) → at + 4 ≤ length s → w % 256 ≡ v / 16777216 % 256 → w / 256 % 256 ≡ v / 65536 % 256 → w / 65536 % 256 ≡ v / 256 % 256 → w / 16777216 % 256 ≡ v % 256
+    → set (set (set (set s at (w % 256)) (at + 1) (w / 256 % 256)) (at + 2) (w / 65536 % 256)) (at + 3) (w / 16777216 % 256)
+    ≡ overwrite s at (to_be 4 v)
+put4-law s at v w h a b c d = rw (a, b, c, d) (put4-bytes s at v h)
+
+-- ---- four bytes, the last one first
+
+module _ (a b c d : ℕ) (la : a < 256) (lb : b < 256) (lc : c < 256) (ld : d < 256) where
+  abbrev r : ℕ
+  r = a * 16777216 + b * 65536 + c * 256 + d
+
+  third : r / 256 ≡ a * 65536 + b * 256 + c
+  third = omega arith
+
+  second : r / 65536 ≡ a * 256 + b
+  second = omega arith
+
+  first : r / 16777216 ≡ a
+  first = omega arith
+
+  digits : (r % 256 ≡ d) × (r / 256 % 256 ≡ c) × (r / 65536 % 256 ≡ b) × (r / 16777216 % 256 ≡ a)
+  digits = (omega arith, omega (arith, third), omega (arith, second), omega (arith, first))
+
+pub swapped-law : (v : ℕ) → Fits w32 v → let w = v % 256 * 16777216 + v / 256 % 256 * 65536 + v / 65536 % 256 * 256 + v / 16777216 in
+    (w % 256 ≡ v / 16777216 % 256) × (w / 256 % 256 ≡ v / 65536 % 256) × (w / 65536 % 256 ≡ v / 256 % 256) × (w / 16777216 % 256 ≡ v % 256)
+swapped-law v f =
+    let q = digits (v % 256) (v / 256 % 256) (v / 65536 % 256) (v / 16777216) (omega arith) (omega arith) (omega arith) (omega (arith, f.fits)) in
+    (omega (arith, q.0, f.fits), q.1, q.2, q.3)

@@ -93,15 +93,17 @@ impl<'a> Limits<'a> {
         if bytes.is_empty() {
             return Some(Limits::Formula);
         }
-        match <&[u8; LIMITS_LENGTH]>::try_from(bytes) {
-            Ok(limits) => {
-                if within(limits) {
-                    Some(Limits::Lent(LentLimits { bytes: limits }))
-                } else {
-                    None
-                }
-            }
-            Err(_) => None,
+        if bytes.len() != LIMITS_LENGTH {
+            return None;
+        }
+        // As the one chunk that there is: an array that std lends where there may be none (`as_array`, `try_from`) comes as a pointer behind a byte, which the
+        // library for processors of 32 bits may not have.
+        let (chunks, _) = bytes.as_chunks::<LIMITS_LENGTH>();
+        let limits = &chunks[0];
+        if within(limits) {
+            Some(Limits::Lent(LentLimits { bytes: limits }))
+        } else {
+            None
         }
     }
 

@@ -9,7 +9,7 @@ use lib.Seq.{drop-cons, drop-set-lt, take-suc-set, append_snoc}
 use Rattle.bigendian.specs.BigEndian.{overwrite}
 use Rattle.bigendian.proofs.Overwrite.{write-none}
 
-write_step : (s : List ℕ) (i x : ℕ) (l : List ℕ) → i < length s → overwrite (set s i x) (i + 1) l ≡ overwrite s i (x ∷ l)
+pub write_step : (s : List ℕ) (i x : ℕ) (l : List ℕ) → i < length s → overwrite (set s i x) (i + 1) l ≡ overwrite s i (x ∷ l)
 write_step s i x l h =
     let e : i + 1 + length l ≡ i + suc (length l) = omega arith in
     let k : i < i + suc (length l) = omega arith in

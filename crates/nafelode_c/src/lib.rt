@@ -1,6 +1,7 @@
 // The library for C: every call of document 01, and of document 02 those on pages, under a C name, thin over crate nafelode (a view over crate stretch, since C gets its
-// offset and not a slice). In C a slice is a pointer and a length. Numbers and pointers alone go in and out, so that one declaration is right for every target: a call
-// answers the refusal number (but check: yes or no; view: an offset; walker_start: a walker), and its values go through pointers, which are always written.
+// offset and not a slice; a census over crate inspect, since the counts lie where C has them). In C a slice is a pointer and a length. Numbers and pointers alone go in
+// and out, so that one declaration is right for every target: a call answers the refusal number (but check: yes or no; view: an offset; walker_start: a walker), and its
+// values go through pointers, which are always written.
 // nafelode.h is made from this file: its declarations, and the comments of the exported functions.
 #![tactic(auto)]
 
@@ -392,11 +393,8 @@ pub extern "C" fn nafelode_census(
 ) -> u32
     ensures { counted result counts.new ≡ census zone.now limits.now }
 {
-    match nafelode::census(zone, limits) {
-        Ok(all) => {
-            *counts = all;
-            0
-        }
+    match inspect::census::census_to(zone, limits, counts) {
+        Ok(()) => 0,
         Err(refusal) => {
             *counts = [0; block_type::STRATA];
             refusal.number()

@@ -28,6 +28,9 @@ pub record Put (before after : Trees) (x : ℕ) (done : Bool) : Type 0 where
 
 -- the same of the name of the block at `at`; nothing is put where it is no page
 pub record Taken (z : List ℕ) (before after : Trees) (at : ℕ) (done : Bool) : Type 0 where
+  pub is_free : done ≡ true → after.free ≡ before.free + cond (is_page (drop at z)) 1 0
+  pub is_links : done ≡ true → after.links ≡ cond (is_page (drop at z)) (set before.links (place_of before (name_of (drop at z))) before.free) before.links
+  pub is_keys : done ≡ true → after.keys ≡ cond (is_page (drop at z)) (set before.keys before.free (name_of (drop at z))) before.keys
   pub more : done ≡ true → (y : ℕ) → held after y ≡ held before y + cond (is_page (drop at z)) (one y (name_of (drop at z))) 0
   pub same : done ≡ false → after ≡ before
   pub page : done ≡ false → is_page (drop at z) ≡ true

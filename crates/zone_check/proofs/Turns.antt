@@ -210,7 +210,7 @@ module _ (x : ℕ) (z : List ℕ) (first at count : ℕ) (page : Option ℕ) (ta
       }
 
   -- or there was a table for names
-  two-walks : tabled ≡ true → Blocks x z first count certain page
+  pub two-walks : tabled ≡ true → Blocks x z first count certain page
   two-walks h = one-walk (le (ltb at (length z)) refl)
     where
       le : (t : Bool) → ltb at (length z) ≡ t → length z ≤ at

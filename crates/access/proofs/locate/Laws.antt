@@ -43,7 +43,7 @@ pub place-by-handle : (z : List ℕ) (h a : ℕ) → a ≡ Edit.place_in z h →
 unfolding Edit.place_in target_place
 place-by-handle z h a e = e ∙ handle-place h (start (decode_zone z)) (decode_zone z).blocks
 
-data-by-handle : (z : List ℕ) (h n : ℕ) → n ≡ length (Edit.data_in z h) → n ≡ length (target_data (by_handle h) z)
+pub data-by-handle : (z : List ℕ) (h n : ℕ) → n ≡ length (Edit.data_in z h) → n ≡ length (target_data (by_handle h) z)
 unfolding Edit.data_in target_data
 data-by-handle z h n e = e ∙ ap length (handle-data h (start (decode_zone z)) (decode_zone z).blocks)
 

@@ -8,7 +8,7 @@ use native.Mathlib.Nat.{zero-add, add-zero}
 use native.Mathlib.Decide.{ℕ_discrete}
 use lib.Dec.{eqb}
 use Rattle.std.specs.Prelude.{Result, Ok, Err}
-use Rattle.std.specs.Result.{IsErrAnd}
+use Rattle.std.specs.Result.{IsErrAnd, OnErr}
 use Rattle.calls.specs.declared.Refusal.{Refusal}
 use Rattle.access.specs.Checked.{HasZone, Opened, IsIll}
 use Rattle.access.specs.declared.opened.Zone.{Zone}
@@ -31,9 +31,9 @@ use Rattle.zone.proofs.Counts.{length-counts, zero-counts, one_more}
 use Rattle.inspect.specs.strata.Stratum.{InStratum}
 use Rattle.inspect.specs.strata.Limits.{limits_by, Lends}
 use Rattle.inspect.specs.declared.strata.Limits.{Limits}
-use Rattle.inspect.proofs.strata.Laws.{by-long, by-rises}
+use Rattle.inspect.proofs.strata.Laws.{by-long}
 use Rattle.inspect.specs.census.Tally.{adding, CountsIn, counts_in}
-use Rattle.inspect.specs.census.Told.{counted_of}
+use Rattle.inspect.specs.census.Told.{counted_of, with_counts}
 
 -- ---- one block more
 
@@ -90,21 +90,21 @@ pub record Tally (limits z : List ℕ) (first p : ℕ) (cs₀ cs : List ℕ) : T
   pub few : (k : ℕ) → get_or cs k 0 ≤ p
   pub same : adding cs (counts_of limits (free_words (blocks_of (drop p z)))) ≡ adding cs₀ (counts_of limits (free_words (blocks_of (drop first z))))
 
-module _ (l : Limits) (z : List ℕ) (first p n : ℕ) (s : Stepped z p n) (f : Bool) (ef : f ≡ is_free (drop p z)) (cs₀ cs ds : List ℕ) (t : Tally (limits_by l) z first p cs₀ cs) where
+module _ (limits z : List ℕ) (first p n : ℕ) (s : Stepped z p n) (f : Bool) (ef : f ≡ is_free (drop p z)) (cs₀ cs ds : List ℕ) (t : Tally limits z first p cs₀ cs) where
   free-is : free_b (block_at z p) ≡ f
   unfolding is_free
   free-is = free-code (block_at z p) ∙ ap (λ (k : ℕ). eqb k free_code) s.kind ∙ sym ef
 
-  pub tally-free : (j : ℕ) → f ≡ true → InStratum (limits_by l) (n / 2) j → ds ≡ set cs j (get_or cs j 0 + 1) → Tally (limits_by l) z first (p + n) cs₀ ds
-  tally-free j q i e =
-      let o = counts-more (limits_by l) cs (n / 2) j (t.long ∙ sym (by-long l)) (by-rises l) i in
+  pub tally-free : (j : ℕ) → f ≡ true → length limits ≡ strata → rising limits ≡ true → InStratum limits (n / 2) j → ds ≡ set cs j (get_or cs j 0 + 1) → Tally limits z first (p + n) cs₀ ds
+  tally-free j q long rises i e =
+      let o = counts-more limits cs (n / 2) j (t.long ∙ sym long) rises i in
       rw e record {
         long = length-set cs j (get_or cs j 0 + 1) ∙ t.long;
         few = λ k. omega (arith, o.few k p (t.few k), s.low);
         same = o.same (free_words (blocks_of (drop (p + n) z))) ∙ (rw (s.blocks, words-free (block_at z p) (blocks_of (drop (p + n) z)) (free-is ∙ q), s.bytes) at t.same);
       }
 
-  pub tally-used : f ≡ false → ds ≡ cs → Tally (limits_by l) z first (p + n) cs₀ ds
+  pub tally-used : f ≡ false → ds ≡ cs → Tally limits z first (p + n) cs₀ ds
   tally-used q e = rw e record {
     long = t.long;
     few = λ k. omega (arith, t.few k);
@@ -127,7 +127,7 @@ zeros-added zero (c ∷ cs) = refl
 zeros-added (suc n) [] = refl
 zeros-added (suc n) (c ∷ cs) = rw (add-zero, zeros-added n cs)
 
-zeros-low : (n k p : ℕ) → get_or (replicate n 0) k 0 ≤ p
+pub zeros-low : (n k p : ℕ) → get_or (replicate n 0) k 0 ≤ p
 zeros-low zero k p = omega arith
 zeros-low (suc n) zero p = omega arith
 zeros-low (suc n) (suc k) p = zeros-low n k p
@@ -135,7 +135,7 @@ zeros-low (suc n) (suc k) p = zeros-low n k p
 pub tally-start : (limits z : List ℕ) (first : ℕ) → first ≡ first_field z → Tally limits z (first_field z) first (replicate strata 0) (replicate strata 0)
 tally-start limits z first e = record { long = refl; few = λ k. zeros-low strata k first; same = rw e refl }
 
-tally-end : (limits z : List ℕ) (first p : ℕ) (cs₀ cs : List ℕ) → length z ≤ p → Tally limits z first p cs₀ cs → cs ≡ adding cs₀ (counts_of limits (free_words (blocks_of (drop first z))))
+pub tally-end : (limits z : List ℕ) (first p : ℕ) (cs₀ cs : List ℕ) → length z ≤ p → Tally limits z first p cs₀ cs → cs ≡ adding cs₀ (counts_of limits (free_words (blocks_of (drop first z))))
 unfolding free_words
 tally-end limits z first p cs₀ cs l t = sym (zeros-added (length limits) cs) ∙ ap (adding cs) (sym (zero-counts limits)) ∙ (rw (row-end z p l) at t.same)
 
@@ -146,11 +146,16 @@ counts-done l z p cs e t =
     let ws = free_words (blocks_of (drop (first_field z) z)) in
     counts_in (tally-end (limits_by l) z (first_field z) p (replicate strata 0) cs e t ∙ adding-zeros strata (counts_of (limits_by l) ws) (length-counts (limits_by l) ws ∙ by-long l))
 
+-- what holds anyway holds where there is an error
+pub on-err : {T E : Type 0} (P : Type 0) → P → (r : Result T E) → OnErr r P
+on-err P p (Ok v) = tt
+on-err P p (Err e) = p
+
 module _ (s lent : List ℕ) where
   -- there is no zone
-  pub census-ill : (r : Result (List ℕ) Refusal) (d : Refusal) → IsErrAnd r (λ y. y ≡ d) → IsIll s d → counted_of r ≡ census s lent
-  census-ill (Ok cs) d k i = absurd k
-  census-ill (Err e) d k i =
+  pub census-ill : {T : Type 0} (r : Result T Refusal) (d : Refusal) (cs : List ℕ) → IsErrAnd r (λ y. y ≡ d) → IsIll s d → counted_of (with_counts r cs) ≡ census s lent
+  census-ill (Ok _) d cs k i = absurd k
+  census-ill (Err e) d cs k i =
       let q : e ≡ d = k in
       let n : census_number s lent ≡ 1 = census-number (facts (well_formed s) (zone_in s)) lent ∙ (rw i.ill) in
       rw (q, i.refusal_is, n)

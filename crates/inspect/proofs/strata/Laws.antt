@@ -9,6 +9,7 @@ use native.Mathlib.Nat.{zero-add}
 use native.Mathlib.Decide.{ℕ_discrete}
 use lib.Dec.{eqb, leb}
 use lib.ListN.{length, get_or}
+use lib.Seq.{take_all}
 use borrow.Author.Tests.{eq-eqb, ne_eqb}
 use Rattle.bigendian.specs.BigEndian.{from_be, slice}
 use Rattle.block_type.specs.Limits.{strata, limit_size, limits_length, highest_limit}
@@ -17,7 +18,7 @@ use Rattle.calls.proofs.LentLimits.{length-limits, limit_is, rise-step, risen, o
 use Rattle.zone.specs.Census.{limits_from, lower_limits}
 use Rattle.zone.specs.Formula.{Stratum, FreeSize, stratum_of}
 use Rattle.zone.proofs.Formula.{free-stratum}
-use Rattle.std.specs.Array.{IsWholeChunk}
+use Rattle.std.specs.Simd.{first_chunks}
 use Rattle.std.specs.Prelude.{◌==◌}
 use Rattle.zone.proofs.Strata.{limits-ruled}
 use Rattle.inspect.specs.strata.Stratum.{InStratum}
@@ -77,6 +78,11 @@ rise-end lent i v r l = sym (risen (limits_in strata lent) (λ k b. r.rise k (om
 
 -- ---- whether they may be lent
 
+-- the only chunk of as many bytes as lent limits have is the whole
+pub whole-chunk : (s d chunk : List ℕ) (chunks : List (List ℕ)) → length s ≡ limits_length → chunks ≡ first_chunks limits_length (length s / limits_length) s → chunk ≡ get_or chunks 0 d → chunk ≡ s
+whole-chunk s d chunk chunks long f c =
+    c ∙ ap (λ (cs : List (List ℕ)). get_or cs 0 d) (f ∙ ap (λ (n : ℕ). first_chunks limits_length (n / limits_length) s) long) ∙ take_all limits_length s (omega (arith, long))
+
 module _ (lent : List ℕ) where
   pub within-rules : (first last : ℕ) (rise : Bool) → first ≡ get_or (limits_in strata lent) 0 0 → last ≡ get_or (limits_in strata lent) (strata - 1) 0 → rise ≡ rising (limits_in strata lent)
       → ((eqb first 1 || eqb first 2) && (rise && leb last highest_limit)) ≡ limits_ok (limits_in strata lent)
@@ -93,18 +99,18 @@ module _ (lent : List ℕ) where
       pub lend-other : (length lent ≡ limits_length → ⊥) → lent_ok lent ≡ false
       lend-other m = rw (some, ne_eqb (length lent) limits_length m) refl
 
-      module _ (bs : List ℕ) (w : IsWholeChunk lent bs limits_length) where
+      module _ (bs : List ℕ) (long : length lent ≡ limits_length) (same : bs ≡ lent) where
         pub lend-not : (r : Bool) → r ≡ limits_ok (limits_in strata bs) → r ≡ false → lent_ok lent ≡ false
         lend-not r q n =
-            let k : limits_ok (limits_in strata lent) ≡ false = ap (λ (x : List ℕ). limits_ok (limits_in strata x)) (sym w.same) ∙ sym q ∙ n in
-            rw (some, eq-eqb (length lent) limits_length w.long, k)
+            let k : limits_ok (limits_in strata lent) ≡ false = ap (λ (x : List ℕ). limits_ok (limits_in strata x)) (sym same) ∙ sym q ∙ n in
+            rw (some, eq-eqb (length lent) limits_length long, k)
 
-      pub lend-limits : (l : LentLimits) → IsWholeChunk lent l.bytes.now limits_length → Lends lent (Lent l)
-      lend-limits l w =
-          let k : limits_ok (limits_in strata lent) ≡ true = ap (λ (x : List ℕ). limits_ok (limits_in strata x)) (sym w.same) ∙ l.within in
+      pub lend-limits : (l : LentLimits) → length lent ≡ limits_length → l.bytes.now ≡ lent → Lends lent (Lent l)
+      lend-limits l long same =
+          let k : limits_ok (limits_in strata lent) ≡ true = ap (λ (x : List ℕ). limits_ok (limits_in strata x)) (sym same) ∙ l.within in
           record {
-            ok = rw (some, eq-eqb (length lent) limits_length w.long, k);
-            same = rw some (ap (limits_in strata) w.same);
+            ok = rw (some, eq-eqb (length lent) limits_length long, k);
+            same = rw some (ap (limits_in strata) same);
           }
 
 -- ---- a size by halving

@@ -28,6 +28,9 @@ module _ (z : List ℕ) (at : ℕ) (t : Bool) (is : t ≡ is_page (drop at z)) w
   pub take-page : (before after : Trees) (x : ℕ) (done : Bool) → t ≡ true → x ≡ name_of (drop at z) → Put before after x done → Taken z before after at done
   take-page before after x done y e p =
       record {
+        is_free = λ l. rw (← is, y) (p.is_free l);
+        is_links = λ l. rw (← is, y, ← e) (p.is_links l);
+        is_keys = λ l. rw (← is, y, ← e) (p.is_keys l);
         more = λ l k. rw (← is, y, ← e) (p.more l k);
         same = p.same;
         page = λ n. sym is ∙ y;
@@ -37,6 +40,9 @@ module _ (z : List ℕ) (at : ℕ) (t : Bool) (is : t ≡ is_page (drop at z)) w
   pub take-other : (g : Trees) → not t ≡ true → Taken z g g at (not t)
   take-other g y =
       record {
+        is_free = λ l. rw (← is, not-true t y) (omega arith);
+        is_links = λ l. rw (← is, not-true t y);
+        is_keys = λ l. rw (← is, not-true t y);
         more = λ l k. rw (← is, not-true t y) (omega arith);
         same = λ e. refl;
         page = λ e. absurd (not-both y e);

@@ -19,7 +19,7 @@ use Rattle.resize.specs.relocate.Relocate.{LiveIn, live_in}
 use Rattle.structure.specs.IsZone.{IsZone}
 
 module _ (z : List ℕ) (h b : ℕ) (x : LiveIn z h b) where
-  old-zone : IsZone z
+  pub old-zone : IsZone z
   old-zone = go x
     where
       go : LiveIn z h b → IsZone z

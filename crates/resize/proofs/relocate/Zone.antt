@@ -149,10 +149,10 @@ module _ (z : List ℕ) (h b a from to at n : ℕ) (t : Bool) (y : RelocateIn z 
       size_is = room.size;
     }
 
-    carry-there : CarryIn z h b a at n
+    pub carry-there : CarryIn z h b a at n
     carry-there = carry_in there
 
-    done-there : (u : List ℕ) → Carried z h b a at n u → u ≡ encode (relocated h a (decode_zone z))
+    pub done-there : (u : List ℕ) → Carried z h b a at n u → u ≡ encode (relocated h a (decode_zone z))
     unfolding there
     done-there u c = c.left there ∙ left
 
@@ -227,10 +227,10 @@ module _ (z : List ℕ) (h b a from to at n : ℕ) (t : Bool) (y : RelocateIn z 
         size_is = room.size;
       }
 
-      carry-made : CarryIn z₁ h b a at n
+      pub carry-made : CarryIn z₁ h b a at n
       carry-made = carry_in made
 
-      done-made : (u : List ℕ) → Carried z₁ h b a at n u → u ≡ encode (relocated h a (decode_zone z))
+      pub done-made : (u : List ℕ) → Carried z₁ h b a at n u → u ≡ encode (relocated h a (decode_zone z))
       unfolding made
       done-made u c =
           c.left made
